@@ -16,6 +16,20 @@ use arena::{Arena, Trace};
 use bpf_maps::{MapKey, Maps, laws};
 use tagged_model::MapFault;
 
+/// The addresses of the key and the value that an update stores, as the words of its arguments give them.
+#[derive(Clone, Copy)]
+pub(crate) struct Addresses {
+    pub key: u64,
+    pub value: u64,
+}
+
+/// The offsets of a key and a value in the tenant's part, in bytes.
+#[derive(Clone, Copy)]
+struct Offsets {
+    key: usize,
+    value: usize,
+}
+
 /// The number of an error of bpf(2).
 fn errno_of(fault: MapFault) -> u64
     ensures value { result ≡ errno fault }
@@ -38,11 +52,10 @@ pub(crate) fn refusal(fault: MapFault) -> u64
     u64::MAX - errno_of(fault) + 1
 }
 
-/// Stores a value under a key of a live map. The key and the value are at offsets `key` and `value` of the tenant's part.
-pub(crate) fn put(
+/// Stores a value under a key of a live map. The key and the value are at these offsets of the tenant's part.
+fn put(
     map: MapKey,
-    key: usize,
-    value: usize,
+    at: Offsets,
     flags: u64,
     caller: Caller<'_>,
     arena: &mut Arena,
@@ -51,10 +64,10 @@ pub(crate) fn put(
 ) -> u64
     requires part { IsPartOf caller.tenant arena.old }
     requires live { IsSome (live_at maps.old map) }
-    requires key { key + (shape_at maps.old map).key_size ≤ PART }
-    requires value { value + (shape_at maps.old map).value_size ≤ PART }
+    requires key { at.key + (shape_at maps.old map).key_size ≤ PART }
+    requires value { at.value + (shape_at maps.old map).value_size ≤ PART }
     ensures updated { Updates (site_of caller.entry arena.old maps.old)
-        (pair_there (site_of caller.entry arena.old maps.old) map key value) flags
+        (pair_there (site_of caller.entry arena.old maps.old) map at.key at.value) flags
         (answers result arena.new maps.new) }
     ensures asks { AsksInside arena.old caller.entry.tenant trace.old trace.new }
 {
@@ -62,23 +75,23 @@ pub(crate) fn put(
     laws::areas_keep_elements();
     let shape = maps.shape(map);
     let part = arena.part(caller.tenant);
-    match maps.claim(map, &part[key..key + shape.key_size as usize], flags) {
+    match maps.claim(map, &part[at.key..at.key + shape.key_size as usize], flags) {
         Ok(element) => {
             let start = arena.address(caller.tenant);
             let to = start + maps.value_at(map, element) as u64;
-            arena.copy_inside(to, start + value as u64, shape.value_size as usize, trace);
+            let from = start + at.value as u64;
+            arena.copy_inside(to, from, shape.value_size as usize, trace);
             0
         }
         Err(fault) => refusal(fault),
     }
 }
 
-/// bpf_map_update_elem (2): stores a value under a key. `map` names the map, and `key` and `value` are the addresses of the key and
-/// the value. If one of them names nothing, it returns EINVAL, negated, and nothing changes.
+/// bpf_map_update_elem (2): stores a value under a key. `map` names the map, and the key and the value are at these addresses. If one
+/// of the three names nothing, it returns EINVAL, negated, and nothing changes.
 pub(crate) fn update(
     map: u64,
-    key: u64,
-    value: u64,
+    at: Addresses,
     flags: u64,
     caller: Caller<'_>,
     arena: &mut Arena,
@@ -88,7 +101,7 @@ pub(crate) fn update(
     requires part { IsPartOf caller.tenant arena.old }
     requires live { AreLive maps.old caller.bind.now }
     ensures updated { UpdatesNamed (site_of caller.entry arena.old maps.old)
-        (pair_named (site_of caller.entry arena.old maps.old) map key value) flags
+        (pair_named (site_of caller.entry arena.old maps.old) map at.key at.value) flags
         (answers result arena.new maps.new) }
     ensures asks { AsksInside arena.old caller.entry.tenant trace.old trace.new }
 {
@@ -98,12 +111,13 @@ pub(crate) fn update(
     };
     let shape = maps.shape(map);
     let size = shape.key_size as usize;
-    let Some(key) = traced_offset(arena, caller.tenant, size, key, trace) else {
+    let Some(key) = traced_offset(arena, caller.tenant, size, at.key, trace) else {
         return refusal(MapFault::Invalid);
     };
     let size = shape.value_size as usize;
-    let Some(value) = traced_offset(arena, caller.tenant, size, value, trace) else {
+    let Some(value) = traced_offset(arena, caller.tenant, size, at.value, trace) else {
         return refusal(MapFault::Invalid);
     };
-    put(map, key, value, flags, caller, arena, maps, trace)
+    let at = Offsets { key, value };
+    put(map, at, flags, caller, arena, maps, trace)
 }

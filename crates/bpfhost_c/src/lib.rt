@@ -146,7 +146,7 @@ pub use inspection::{bpfhost_c_describe, bpfhost_c_status};
 pub use preparing::{
     Descriptor, PreparedRefusal, bpfhost_c_install, bpfhost_c_prepare, bpfhost_c_prepared_free,
 };
-use session::Session;
+use session::{Session, SizedBatch};
 use std::alloc::Global;
 pub use verifying::{Logged, bpfhost_c_verify};
 use version::{ABI, VERSION};
@@ -311,7 +311,13 @@ pub extern "C" fn bpfhost_c_run_packets(
         return ERR_NO_HOST;
     };
     let tenant = usize::from(tenant);
-    let code = match session.run_sized(tenant, fd, bound, contexts, size, bytes, ends, results) {
+    let given = SizedBatch {
+        words: contexts,
+        size,
+        bytes,
+        ends,
+    };
+    let code = match session.run_sized(tenant, fd, bound, given, results) {
         Ok(batch) => {
             *status = batch.status;
             *ran = batch.packets;

@@ -17,6 +17,7 @@ use crate::contexts::given_contexts;
 use host_core::{GIVEN_WORDS, HashSeed, Host, LONGEST_REPLY, MOST_TENANTS, ReplyBuf};
 use std::alloc::{AllocError, Global};
 use std::mem::replace;
+use tenant::Batch;
 use verifier::Verified;
 
 /// A host and its last reply, in a vector with the capacity for the longest one.
@@ -28,6 +29,17 @@ pub struct Session {
     pub(crate) saved: Vec<u8>,
     alloc: Global,
     ghost room: { longest_reply ≤ vec_capacity reply },
+}
+
+/// The packets of a batch, and contexts of any size. The bytes of the packets and their ends are as in `Batch`.
+#[derive(Clone, Copy)]
+pub(crate) struct SizedBatch<'a> {
+    /// The words of the contexts, one context after another.
+    pub words: &'a [u32],
+    /// The number of words of each context.
+    pub size: usize,
+    pub bytes: &'a [u8],
+    pub ends: &'a [usize],
 }
 
 /// What a batch gave: its status, and how many packets were run.
@@ -128,20 +140,24 @@ impl Session {
         self.host.install(tenant, program)
     }
 
-    /// Runs a program of a tenant on many packets, and returns the status: 0, or that of the refusal.
+    /// Runs a program of a tenant on the packets of a batch, and returns the status: 0, or that of the refusal.
     pub(crate) fn run_packets(
         &mut self,
         tenant: usize,
         fd: u32,
-        contexts: &[[u32; GIVEN_WORDS]],
-        bytes: &[u8],
-        ends: &[usize],
+        batch: Batch<'_>,
         results: &mut [u32],
     ) -> i32
-        ensures runs { RunsPackets tenant fd contexts.now bytes.now ends.now results.old
-            results.new result self.old.host.states self.new.host.states }
+        ensures runs { RunsPackets tenant fd batch.entry.contexts.now batch.entry.bytes.now
+            batch.entry.ends.now results.old results.new result self.old.host.states
+            self.new.host.states }
         ensures births { self.new.host.births ≡ self.old.host.births }
     {
+        let Batch {
+            contexts,
+            bytes,
+            ends,
+        } = batch;
         match self
             .host
             .run_packets(tenant, fd, contexts, bytes, ends, results)
@@ -178,25 +194,29 @@ impl Session {
         tenant: usize,
         fd: u32,
         bound: u64,
-        contexts: &[[u32; GIVEN_WORDS]],
-        bytes: &[u8],
-        ends: &[usize],
+        batch: Batch<'_>,
         results: &mut [u32],
     ) -> Ran
-        ensures runs { RunsBounded tenant fd bound contexts.now bytes.now ends.now results.old
-            results.new result.status result.packets self.old.host.states self.new.host.states }
+        ensures runs { RunsBounded tenant fd bound batch.entry.contexts.now batch.entry.bytes.now
+            batch.entry.ends.now results.old results.new result.status result.packets
+            self.old.host.states self.new.host.states }
         ensures births { self.new.host.births ≡ self.old.host.births }
     {
+        let (contexts, ends) = (batch.contexts, batch.ends);
         let packets = self.allowed_packets(tenant, fd, bound, contexts.len(), ends.len());
-        let front = front_contexts(contexts, ends.len(), packets);
-        let status = self.run_packets(tenant, fd, front, bytes, &ends[..packets], results);
+        let front = Batch {
+            contexts: front_contexts(contexts, ends.len(), packets),
+            bytes: batch.bytes,
+            ends: &ends[..packets],
+        };
+        let status = self.run_packets(tenant, fd, front, results);
         if status != 0 {
             return Ran { status, packets: 0 };
         }
         Ran { status, packets }
     }
 
-    /// The same with contexts of `size` words, one after another in `words`.
+    /// The same with contexts of any size.
     ///
     /// `Err`: the code of the call, `ERR_SIZE`, `ERR_TOO_BIG` or `ERR_NO_MEMORY`, and nothing is changed.
     pub(crate) fn run_sized(
@@ -204,24 +224,30 @@ impl Session {
         tenant: usize,
         fd: u32,
         bound: u64,
-        words: &[u32],
-        size: usize,
-        bytes: &[u8],
-        ends: &[usize],
+        batch: SizedBatch<'_>,
         results: &mut [u32],
     ) -> Result<Ran, i32>
-        ensures done { IfOk result (λ ran. RunsBounded tenant fd bound (contexts_of size words.now)
-            bytes.now ends.now results.old results.new ran.status ran.packets self.old.host.states
-            self.new.host.states) }
-        ensures known { IfOk result (λ ran. contexts_code size words.now ≡ DONE) }
+        ensures done { IfOk result (λ ran. RunsBounded tenant fd bound
+            (contexts_of batch.entry.size batch.entry.words.now) batch.entry.bytes.now
+            batch.entry.ends.now results.old results.new ran.status ran.packets
+            self.old.host.states self.new.host.states) }
+        ensures known { IfOk result (λ ran.
+            contexts_code batch.entry.size batch.entry.words.now ≡ DONE) }
         ensures code { IfErr result (λ code. (code ≢ DONE)
-            × (code ≢ ERR_NO_MEMORY → code ≡ contexts_code size words.now)
-            × (code ≡ ERR_NO_MEMORY → contexts_code size words.now ≡ DONE)) }
+            × (code ≢ ERR_NO_MEMORY
+            → code ≡ contexts_code batch.entry.size batch.entry.words.now)
+            × (code ≡ ERR_NO_MEMORY
+            → contexts_code batch.entry.size batch.entry.words.now ≡ DONE)) }
         ensures births { self.new.host.births ≡ self.old.host.births }
         ensures session { OnErr result (self.new ≡ self.old) }
         ensures results { OnErr result (results.new ≡ results.old) }
     {
-        let contexts = given_contexts(self.alloc, words, size)?;
-        Ok(self.run_bounded(tenant, fd, bound, contexts.as_slice(), bytes, ends, results))
+        let contexts = given_contexts(self.alloc, batch.words, batch.size)?;
+        let given = Batch {
+            contexts: contexts.as_slice(),
+            bytes: batch.bytes,
+            ends: batch.ends,
+        };
+        Ok(self.run_bounded(tenant, fd, bound, given, results))
     }
 }

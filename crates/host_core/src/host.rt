@@ -20,7 +20,7 @@ use saving::SavableTenant;
 use seeded_hash::HashSeed;
 use std::alloc::{AllocError, Global};
 use std::marker::Model;
-use tenant::{Errno, WorkingMemory, laws};
+use tenant::{Batch, Errno, WorkingMemory, laws};
 
 /// The head of a reply to a frame that has none.
 const NO_HEAD: Head = Head {
@@ -133,7 +133,7 @@ impl Host {
             return;
         }
         let (arena, working) = (&mut self.arena, &mut self.working);
-        self.tenants[tenant].handle(self.alloc, head, frame, tenant, arena, working, reply);
+        self.tenants[tenant].handle(head, frame, tenant, arena, working, reply);
     }
 
     /// The frames of one part of a save of `tenant`, each with its length before it; `None` after the last part, and for a tenant
@@ -200,7 +200,12 @@ impl Host {
         if tenant >= self.tenants.len() {
             return Err(Errno::NotPermitted);
         }
+        let batch = Batch {
+            contexts,
+            bytes,
+            ends,
+        };
         let arena = &mut self.arena;
-        self.tenants[tenant].run_packets(fd, contexts, bytes, ends, results, tenant, arena)
+        self.tenants[tenant].run_packets(fd, batch, results, tenant, arena)
     }
 }

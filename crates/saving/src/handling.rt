@@ -18,7 +18,6 @@ use crate::laws::{births_are_kept, maps_are_held};
 use crate::savable::SavableTenant;
 use arena::{Arena, laws};
 use command_frames::{BadFrame, Command, Head, ReplyBuf, parse};
-use std::alloc::Global;
 use tenant::{Errno, Tenant, WorkingMemory, write_answer};
 
 /// The error for a frame that carries no command.
@@ -33,22 +32,26 @@ fn frame_error(fault: BadFrame) -> Errno
     }
 }
 
+/// The command of a frame, with the head of the frame.
+struct HeadedCommand<'a> {
+    head: Head,
+    command: Command<'a>,
+}
+
 /// Executes the command of a frame of a tenant, writes the reply, and keeps the order of births.
 fn reply_to_command(
     tenant: &mut Tenant,
     births: &mut Births,
-    alloc: Global,
-    head: Head,
-    command: Command<'_>,
+    headed: HeadedCommand<'_>,
     number: usize,
     arena: &mut Arena,
     working: &mut WorkingMemory,
     reply: &mut ReplyBuf,
 )
-    requires short { tail_length (shown_command command) ≤ longest_frame }
+    requires short { tail_length (shown_command headed.command) ≤ longest_frame }
     requires part { IsPartOf number arena.old }
     requires recorded { IsRecorded (record { kept = tenant.old; births = births.old }) }
-    ensures told { AnswersCommand (shown_command command.entry) head reply.new
+    ensures told { AnswersCommand (shown_command headed.entry.command) headed.entry.head reply.new
         (state_in (part_bytes arena.old number) tenant.old)
         (state_in (part_bytes arena.new number) tenant.new) births.old births.new }
     ensures changes { ChangesPart number arena.old arena.new }
@@ -57,6 +60,7 @@ fn reply_to_command(
     laws::parts_are_apart();
     maps_are_held();
     births_are_kept();
+    let HeadedCommand { head, command } = headed;
     match command {
         Command::MapCreate {
             kind,
@@ -91,7 +95,7 @@ fn reply_to_command(
             write_answer(head, answer, reply);
         }
         Command::ProgLoad { kind, slots } => {
-            let loaded = tenant.load(alloc, kind, slots, working);
+            let loaded = tenant.load(kind, slots, working);
             births.note(tenant, &loaded);
             write_answer(head, loaded, reply);
         }
@@ -112,7 +116,6 @@ impl SavableTenant {
     /// `reply`. A load works in `working`, the memory for the loads of all tenants; its contents mean nothing.
     pub fn handle(
         &mut self,
-        alloc: Global,
         head: Head,
         frame: &[u8],
         tenant: usize,
@@ -140,9 +143,8 @@ impl SavableTenant {
         match parse(frame) {
             Ok(command) => {
                 let (kept, births) = (&mut self.tenant, &mut self.births);
-                reply_to_command(
-                    kept, births, alloc, head, command, tenant, arena, working, reply,
-                );
+                let headed = HeadedCommand { head, command };
+                reply_to_command(kept, births, headed, tenant, arena, working, reply);
             }
             Err(fault) => write_answer(head, Err(frame_error(fault)), reply),
         }

@@ -17,11 +17,10 @@ use crate::laws::{births_are_kept, maps_are_held};
 use crate::save_parts::part_at;
 use arena::Arena;
 use bpf_maps::PART;
-use flat_machine::GIVEN_WORDS;
 use seeded_hash::HashSeed;
 use std::alloc::{AllocError, Global};
 use std::marker::Model;
-use tenant::{Errno, Tenant};
+use tenant::{Batch, Errno, Tenant};
 
 /// A tenant, and the order in which its objects were created, from which it can be saved.
 #[derive(Drop)]
@@ -104,7 +103,7 @@ impl SavableTenant {
         self.tenant.allowed_packets(fd, bound, packets)
     }
 
-    /// Runs the program at a descriptor on many packets, as `Tenant::run_packets` does.
+    /// Runs the program at a descriptor on the packets of a batch, as `Tenant::run_packets` does.
     ///
     /// # Errors
     ///
@@ -112,9 +111,7 @@ impl SavableTenant {
     pub fn run_packets(
         &mut self,
         fd: u32,
-        contexts: &[[u32; GIVEN_WORDS]],
-        bytes: &[u8],
-        ends: &[usize],
+        batch: Batch<'_>,
         results: &mut [u32],
         tenant: usize,
         arena: &mut Arena,
@@ -122,10 +119,12 @@ impl SavableTenant {
         requires part { IsPartOf tenant arena.old }
         ensures runs { OnOk result (RunsBatch fd
             (tenant_state (part_bytes arena.old tenant) self.old)
-            (inputs_of contexts.now (packets_in bytes.now ends.now)) results.old results.new
+            (inputs_of batch.entry.contexts.now
+            (packets_in batch.entry.bytes.now batch.entry.ends.now)) results.old results.new
             (tenant_state (part_bytes arena.new tenant) self.new)) }
         ensures refusal { result_err result ≡ batch_refusal (named self.old.kept.objects fd)
-            (length contexts.now) (length bytes.now) ends.now (length results.old) }
+            (length batch.entry.contexts.now) (length batch.entry.bytes.now)
+            batch.entry.ends.now (length results.old) }
         ensures births { self.new.births ≡ self.old.births }
         ensures unchanged { OnErr result ((self.new ≡ self.old) × (arena.new ≡ arena.old)
             × (results.new ≡ results.old)) }
@@ -136,7 +135,6 @@ impl SavableTenant {
     {
         maps_are_held();
         births_are_kept();
-        let kept = &mut self.tenant;
-        kept.run_packets(fd, contexts, bytes, ends, results, tenant, arena)
+        self.tenant.run_packets(fd, batch, results, tenant, arena)
     }
 }

@@ -15,6 +15,17 @@ use arena::{Arena, Trace};
 use flat_machine::{BoundProgram, GIVEN_WORDS, Packets, run_packets};
 use verifier::{Cost, laws};
 
+/// The packets of a batch, and the words of context that their runs are given.
+#[derive(Clone, Copy)]
+pub struct Batch<'a> {
+    /// The ten words of context that all packets get, or those of each packet, in the order of the packets.
+    pub contexts: &'a [[u32; GIVEN_WORDS]],
+    /// The bytes of the packets, one packet after another.
+    pub bytes: &'a [u8],
+    /// For each packet, how many of these bytes are before its end. It begins at the end of the packet before it, and the first at 0.
+    pub ends: &'a [usize],
+}
+
 /// What a call of a helper counts for in the bound of a batch, in instructions besides its own. The dearest calls copy a value of 4,095
 /// bytes or add a key of 512, and take as long as some 128 instructions.
 pub const CALL_WEIGHT: u32 = 128;
@@ -54,9 +65,8 @@ impl Tenant {
         }
     }
 
-    /// Runs the program at a descriptor on many packets, one after another. The packets lie one after another in `bytes`, and each
-    /// ends at its number in `ends`. `contexts` has the ten words of context that all packets get, or those of each. The result of each
-    /// is written to `results`, whose rest is unchanged.
+    /// Runs the program at a descriptor on the packets of a batch, one after another. The result of each is written to `results`, whose
+    /// rest is unchanged.
     ///
     /// Results, maps and state afterwards are those of the test runs of these packets in this order.
     ///
@@ -69,9 +79,7 @@ impl Tenant {
     pub fn run_packets(
         &mut self,
         fd: u32,
-        contexts: &[[u32; GIVEN_WORDS]],
-        bytes: &[u8],
-        ends: &[usize],
+        batch: Batch<'_>,
         results: &mut [u32],
         tenant: usize,
         arena: &mut Arena,
@@ -79,10 +87,12 @@ impl Tenant {
         requires part { IsPartOf tenant arena.old }
         ensures runs { OnOk result (RunsBatch fd
             (state_in (part_bytes arena.old tenant) self.old)
-            (inputs_of contexts.now (packets_in bytes.now ends.now)) results.old results.new
+            (inputs_of batch.entry.contexts.now
+            (packets_in batch.entry.bytes.now batch.entry.ends.now)) results.old results.new
             (state_in (part_bytes arena.new tenant) self.new)) }
         ensures refusal { result_err result ≡ batch_refusal (named self.old.objects fd)
-            (length contexts.now) (length bytes.now) ends.now (length results.old) }
+            (length batch.entry.contexts.now) (length batch.entry.bytes.now)
+            batch.entry.ends.now (length results.old) }
         ensures unchanged { OnErr result ((self.new ≡ self.old) × (arena.new ≡ arena.old)
             × (results.new ≡ results.old)) }
         ensures parts { arena.new.parts ≡ arena.old.parts }
@@ -92,6 +102,11 @@ impl Tenant {
     {
         laws::maps_are_listed();
         let program = program_at(&self.objects, fd)?;
+        let Batch {
+            contexts,
+            bytes,
+            ends,
+        } = batch;
         if results.len() < ends.len() {
             return Err(Errno::Invalid);
         }

@@ -73,6 +73,7 @@ mod shape;
 mod tenant;
 mod test_run;
 
+pub use batch::Batch;
 pub use counts::Counts;
 pub use described::{Described, MAP_THERE, NOTHING_THERE, PROGRAM_THERE, type_number};
 pub use errno::Errno;

@@ -92,7 +92,6 @@ impl Tenant {
     /// The program that the slots spell, with the handles of its maps, if it is accepted; or why the slots are rejected.
     fn program_of(
         &self,
-        alloc: Global,
         slots: &[u8],
         working: &mut WorkingMemory,
     ) -> Result<Result<LoadedProgram, Refusal>, AllocError>
@@ -108,6 +107,7 @@ impl Tenant {
         ensures slot { IfOk result (λ verdict. IfErr verdict (λ refusal.
             8 * refusal.slot ≤ length slots.now)) }
     {
+        let alloc = working.alloc();
         let descriptors = self.targets(alloc)?;
         match verify_slots(alloc, slots, &descriptors, working)? {
             Ok(program) => Ok(Ok(self.with_maps(alloc, program)?)),
@@ -142,7 +142,6 @@ impl Tenant {
     /// `NoMemory` if out of memory, which sets the tenant's flag.
     pub fn load(
         &mut self,
-        alloc: Global,
         kind: u32,
         slots: &[u8],
         working: &mut WorkingMemory,
@@ -158,7 +157,7 @@ impl Tenant {
         if self.objects.is_full() {
             return Err(Errno::TooManyOpen);
         }
-        match self.program_of(alloc, slots, working) {
+        match self.program_of(slots, working) {
             Ok(Ok(program)) => Ok(Reply::Opened(self.open_program(program))),
             Ok(Err(refusal)) => Ok(Reply::Refused(refusal)),
             Err(AllocError) => {

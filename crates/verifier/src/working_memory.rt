@@ -15,6 +15,7 @@ pub struct WorkingMemory {
     pub(crate) jumping: Vec<Counts>,
     /// The facts, in the pass over its instructions.
     pub(crate) pass: Pass,
+    alloc: Global,
 }
 
 impl WorkingMemory {
@@ -23,6 +24,12 @@ impl WorkingMemory {
         WorkingMemory {
             jumping: Vec::new(alloc),
             pass: Pass::new(alloc),
+            alloc,
         }
+    }
+
+    /// The allocator of this memory.
+    pub fn alloc(&self) -> Global {
+        self.alloc
     }
 }

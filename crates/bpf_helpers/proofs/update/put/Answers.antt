@@ -12,9 +12,9 @@ use Rattle.bpf_helpers.proofs.update.put.Goals.{After-claim}
 
 -- the bytes that the code reads are the key's
 key_read : (c : After-claim)
-    → slice_range c.part-part.result.now c.args.key (c.args.key + c.shape-shape.result.key_size)
+    → slice_range c.part-part.result.now c.args.at.key (c.args.at.key + c.shape-shape.result.key_size)
     ≡ bytes_at c.args.arena.now.bytes
-    (part_start c.args.arena.now c.args.caller.tenant + c.args.key)
+    (part_start c.args.arena.now c.args.caller.tenant + c.args.at.key)
     (shape_at c.args.maps.now c.args.map).key_size
 key_read c =
     let memory = c.args.arena.now in
@@ -22,9 +22,9 @@ key_read c =
     let n = c.shape-shape.result.key_size in
     let size : n ≡ (shape_at c.args.maps.now c.args.map).key_size =
     ap (λ (s : MapShape). s.key_size) c.shape-shape.ensures in
-    let fits : c.args.key + n ≤ memory.part = omega (arith, size, c.requires.key, c.requires.part.1) in
-    part_range memory t c.args.key n c.part-part.result.now c.part-part.ensures.bytes fits
-    ∙ ap (λ (m : ℕ). bytes_at memory.bytes (part_start memory t + c.args.key) m) size
+    let fits : c.args.at.key + n ≤ memory.part = omega (arith, size, c.requires.key, c.requires.part.1) in
+    part_range memory t c.args.at.key n c.part-part.result.now c.part-part.ensures.bytes fits
+    ∙ ap (λ (m : ℕ). bytes_at memory.bytes (part_start memory t + c.args.at.key) m) size
 
 pub returns-in-Ok-clause-updated : goal.returns-in-Ok-clause-updated
 returns-in-Ok-clause-updated c =
@@ -52,8 +52,8 @@ returns-in-Ok-clause-updated c =
       rest = c.in-Ok.ensures.rest;
       word_is = refl;
       memory_is = c.copy_inside.ensures.bytes
-          ∙ copied_is memory c.shape-shape.result.value_size (c.address-start.result + c.args.value)
-          (c.address-start.result + c.value_at.result) (part_start memory t + c.args.value)
+          ∙ copied_is memory c.shape-shape.result.value_size (c.address-start.result + c.args.at.value)
+          (c.address-start.result + c.value_at.result) (part_start memory t + c.args.at.value)
           (part_start memory t + offset_at old k c.in-Ok.element)
           (omega (arith, c.address-start.ensures.value))
           (omega (arith, c.address-start.ensures.value, c.value_at.ensures.offset, stays))
@@ -71,7 +71,7 @@ returns-in-Ok-clause-updated c =
           ∙ ap (λ (m : ℕ).
           with_bytes memory
           (part_start memory t + offset_at old k c.in-Ok.element)
-          (bytes_at memory.bytes (part_start memory t + c.args.value) m))
+          (bytes_at memory.bytes (part_start memory t + c.args.at.value) m))
           value;
     }
 

@@ -8,32 +8,32 @@ use Rattle.bpf_helpers.specs.States.{answers}
 pub returns-in_default-clause-updated : goal.returns-in_default-clause-updated
 returns-in_default-clause-updated c =
     let site = site_of c.args.caller c.args.arena.now c.args.maps.now in
-    let none = no_map site c.args.map c.args.key (sym c.bound.ensures.value ∙ c.in_default.is) in
+    let none = no_map site c.args.map c.args.at.key (sym c.bound.ensures.value ∙ c.in_default.is) in
     subst (λ o. UpdatesNamed site o c.args.flags (answers c.refusal.result site.memory site.maps))
-    (sym (no_pair site c.args.map c.args.key c.args.value none))
+    (sym (no_pair site c.args.map c.args.at.key c.args.at.value none))
     (c.refusal.ensures, refl, refl)
 
 pub returns-in_default-traced_offset-clause-updated : goal.returns-in_default-traced_offset-clause-updated
 returns-in_default-traced_offset-clause-updated c =
     let site = site_of c.args.caller c.args.arena.now c.args.maps.now in
     let none =
-    no_key site c.args.map c.args.key (sym c.in-Some.ensures.value)
+    no_key site c.args.map c.args.at.key (sym c.in-Some.ensures.value)
     (ap (λ (s : MapShape). s.key_size) c.shape-shape.ensures)
     (sym c.in_default-traced_offset.is ∙ c.traced_offset.ensures.value) in
     subst (λ o.
     UpdatesNamed site o c.args.flags (answers c.refusal-in_default-traced_offset.result site.memory site.maps))
-    (sym (no_pair site c.args.map c.args.key c.args.value none))
+    (sym (no_pair site c.args.map c.args.at.key c.args.at.value none))
     (c.refusal-in_default-traced_offset.ensures, refl, refl)
 
 pub returns-in_default-traced_offset-2-clause-updated : goal.returns-in_default-traced_offset-2-clause-updated
 returns-in_default-traced_offset-2-clause-updated c =
     let site = site_of c.args.caller c.args.arena.now c.args.maps.now in
     let there =
-    key_found site c.args.map c.args.key (sym c.in-Some.ensures.value)
+    key_found site c.args.map c.args.at.key (sym c.in-Some.ensures.value)
     (ap (λ (s : MapShape). s.key_size) c.shape-shape.ensures)
     c.in-Some-traced_offset.ensures.value in
     let none =
-    no_value site c.args.map c.args.key c.args.value there
+    no_value site c.args.map c.args.at.key c.args.at.value there
     (ap (λ (s : MapShape). s.value_size) c.shape-shape.ensures)
     (sym c.in_default-traced_offset-2.is ∙ c.traced_offset-2.ensures.value) in
     subst (λ o.
@@ -45,11 +45,11 @@ pub returns-clause-updated : goal.returns-clause-updated
 returns-clause-updated c =
     let site = site_of c.args.caller c.args.arena.now c.args.maps.now in
     let there =
-    key_found site c.args.map c.args.key (sym c.in-Some.ensures.value)
+    key_found site c.args.map c.args.at.key (sym c.in-Some.ensures.value)
     (ap (λ (s : MapShape). s.key_size) c.shape-shape.ensures)
     c.in-Some-traced_offset.ensures.value in
     let both =
-    pair_found site c.args.map c.args.key c.args.value there
+    pair_found site c.args.map c.args.at.key c.args.at.value there
     (ap (λ (s : MapShape). s.value_size) c.shape-shape.ensures)
     c.in-Some-traced_offset-2.ensures.value in
     subst (λ o. UpdatesNamed site o c.args.flags (answers c.put.result c.put.new.arena c.put.new.maps))

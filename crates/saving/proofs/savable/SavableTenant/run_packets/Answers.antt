@@ -11,7 +11,7 @@ invariant_of-self c =
     recorded_runs c.maps_are_held.ensures c.births_are_kept.ensures c.run_packets.result
     c.self.inside.tenant c.run_packets.new.self c.self.inside.births
     (part_bytes c.args.arena.now c.args.tenant) (part_bytes c.run_packets.new.arena c.args.tenant) c.args.fd
-    (inputs_of c.args.contexts.now (packets_in c.args.bytes.now c.args.ends.now)) c.args.results.now
+    (inputs_of c.args.batch.contexts.now (packets_in c.args.batch.bytes.now c.args.batch.ends.now)) c.args.results.now
     c.run_packets.new.results c.self.invariant c.run_packets.ensures.runs
     (with_err c.run_packets.result (λ still. still.0) c.run_packets.ensures.unchanged)
 
@@ -19,7 +19,7 @@ pub returns-clause-runs : goal.returns-clause-runs
 returns-clause-runs c =
     subst (λ (t : RecordedTenant). OnOk c.run_packets.result
     (RunsBatch c.args.fd (tenant_state (part_bytes c.args.arena.now c.args.tenant) t)
-    (inputs_of c.args.contexts.now (packets_in c.args.bytes.now c.args.ends.now)) c.args.results.now
+    (inputs_of c.args.batch.contexts.now (packets_in c.args.batch.bytes.now c.args.batch.ends.now)) c.args.results.now
     c.run_packets.new.results
     (state_in (part_bytes c.run_packets.new.arena c.args.tenant) c.run_packets.new.self)))
     c.self.view_is c.run_packets.ensures.runs

@@ -35,8 +35,8 @@ passed_on (Err f) e is = ap Some is
 pub returns-in_err-program-clause-refusal : goal.returns-in_err-program-clause-refusal
 returns-in_err-program-clause-refusal c =
     passed_on c.from_residual.result _ c.from_residual.ensures.1
-    ∙ refused_first (packets_refusal (length c.args.contexts.now) (length c.args.bytes.now)
-    c.args.ends.now (length c.args.results.now))
+    ∙ refused_first (packets_refusal (length c.args.batch.contexts.now) (length c.args.batch.bytes.now)
+    c.args.batch.ends.now (length c.args.results.now))
     (ap (λ (x : KeptTenant). named x.objects c.args.fd) c.self.view_is)
     c.in_err-program.ensures.refusal
 
@@ -45,8 +45,8 @@ returns-then-results-ends-clause-refusal c =
     let program =
     subst (λ (x : KeptTenant). object_refusal (named x.objects c.args.fd) ≡ None) c.self.view_is
     (sym c.in_ok-program.ensures.refusal) in
-    sym (without_room (named c.args.self.now.objects c.args.fd) (length c.args.contexts.now)
-    (length c.args.bytes.now) c.args.ends.now (length c.args.results.now)
+    sym (without_room (named c.args.self.now.objects c.args.fd) (length c.args.batch.contexts.now)
+    (length c.args.batch.bytes.now) c.args.batch.ends.now (length c.args.results.now)
     program c.if-results-ends.true)
 
 pub returns-in-Err-clause-refusal : goal.returns-in-Err-clause-refusal
@@ -56,8 +56,8 @@ returns-in-Err-clause-refusal c =
     (sym c.in_ok-program.ensures.refusal) in
     ap Some c.of_packet.ensures
     ∙ ap (λ o. option_map packet_errno o) c.in-Err.ensures.fault
-    ∙ sym (with_room (named c.args.self.now.objects c.args.fd) (length c.args.contexts.now)
-    (length c.args.bytes.now) c.args.ends.now (length c.args.results.now)
+    ∙ sym (with_room (named c.args.self.now.objects c.args.fd) (length c.args.batch.contexts.now)
+    (length c.args.batch.bytes.now) c.args.batch.ends.now (length c.args.results.now)
     program c.if-results-ends.false)
 
 pub returns-in-Ok-clause-refusal : goal.returns-in-Ok-clause-refusal
@@ -66,15 +66,15 @@ returns-in-Ok-clause-refusal c =
     subst (λ (x : KeptTenant). object_refusal (named x.objects c.args.fd) ≡ None) c.self.view_is
     (sym c.in_ok-program.ensures.refusal) in
     ap (λ o. option_map packet_errno o) c.in-Ok.ensures.fault
-    ∙ sym (with_room (named c.args.self.now.objects c.args.fd) (length c.args.contexts.now)
-    (length c.args.bytes.now) c.args.ends.now (length c.args.results.now)
+    ∙ sym (with_room (named c.args.self.now.objects c.args.fd) (length c.args.batch.contexts.now)
+    (length c.args.batch.bytes.now) c.args.batch.ends.now (length c.args.results.now)
     program c.if-results-ends.false)
 
 pub returns-in-Ok-clause-runs : goal.returns-in-Ok-clause-runs
 returns-in-Ok-clause-runs c =
     let k = kept_in c.self.inside in
     let t = c.args.tenant in
-    let inputs = inputs_of c.args.contexts.now (packets_in c.args.bytes.now c.args.ends.now) in
+    let inputs = inputs_of c.args.batch.contexts.now (packets_in c.args.batch.bytes.now c.args.batch.ends.now) in
     let run = c.run_packets in
     let before = standing k.live c.args.arena.now t c.new-trace.result.steps in
     let after = standing run.new.maps run.new.arena t run.new.trace.steps in

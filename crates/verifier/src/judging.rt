@@ -49,8 +49,9 @@ pub(crate) fn judge<W: Watcher>(
     let cost = check_shape(program, named, &mut working.jumping)?;
     let maps = loaded_maps(alloc, program, named)?;
     let entries = entries_of(alloc, named, &maps)?;
-    let verdict = check_safety(program, &entries, watcher, &mut working.pass);
-    working.pass.end();
+    let pass = working.pass()?;
+    let verdict = check_safety(program, &entries, watcher, pass);
+    pass.end();
     verdict?;
     Ok(Findings {
         maps,

@@ -64,6 +64,12 @@ fn send_compared(
     }
 }
 
+/// The two operands of a comparison.
+struct Compared {
+    dst: Reg,
+    src: Operand,
+}
+
 /// Sends the facts on the jumping edge of a comparison, and leaves those on the falling edge. Returns whether that can be taken.
 #[inline(always)]
 fn leave_comparison(
@@ -71,17 +77,18 @@ fn leave_comparison(
     entries: &mut TargetFacts,
     target: Option<usize>,
     fresh: usize,
-    dst: Reg,
-    src: Operand,
+    compared: Compared,
     falls: Option<(Range, Range)>,
     jumps: Option<(Range, Range)>,
 ) -> Result<bool, AllocError>
     requires lands { IfSome target (λ to. to < MAX_SLOTS) }
     ensures falls { IfOk result (λ falling. (if falling then Some hand.new else None)
-        ≡ option_map (with_ranges hand.old dst src) falls) }
+        ≡ option_map (with_ranges hand.old compared.dst compared.src) falls) }
     ensures sent { OnOk result (IsSentIf target fresh
-        (option_map (with_ranges hand.old dst src) jumps) entries.old entries.new) }
+        (option_map (with_ranges hand.old compared.dst compared.src) jumps)
+        entries.old entries.new) }
 {
+    let Compared { dst, src } = compared;
     send_compared(hand, entries, target, fresh, dst, src, jumps)?;
     match falls {
         Some(ranges) => {
@@ -149,7 +156,10 @@ fn leave_by(
             src,
             falls,
             jumps,
-        } => leave_comparison(hand, entries, target, 8 * slot + 6, dst, src, falls, jumps),
+        } => {
+            let compared = Compared { dst, src };
+            leave_comparison(hand, entries, target, 8 * slot + 6, compared, falls, jumps)
+        }
         Flow::Settles {
             site,
             jumps_on_null,

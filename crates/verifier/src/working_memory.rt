@@ -2,7 +2,7 @@
 
 use crate::cost::Counts;
 use crate::pass::Pass;
-use std::alloc::Global;
+use std::alloc::{AllocError, Global};
 
 /// The memory that verifications work in, one after another: two counts for each slot, and the facts that wait at jump targets.
 ///
@@ -13,8 +13,8 @@ use std::alloc::Global;
 pub struct WorkingMemory {
     /// The counts on the jumps to each slot, in the pass over a program's shape.
     pub(crate) jumping: Vec<Counts>,
-    /// The facts, in the pass over its instructions.
-    pub(crate) pass: Pass,
+    /// The facts, in the pass over its instructions. The first such pass allocates them.
+    pass: Option<Box<Pass>>,
     alloc: Global,
 }
 
@@ -23,7 +23,7 @@ impl WorkingMemory {
     pub fn new(alloc: Global) -> WorkingMemory {
         WorkingMemory {
             jumping: Vec::new(alloc),
-            pass: Pass::new(alloc),
+            pass: None,
             alloc,
         }
     }
@@ -31,5 +31,16 @@ impl WorkingMemory {
     /// The allocator of this memory.
     pub fn alloc(&self) -> Global {
         self.alloc
+    }
+
+    /// The memory for the facts of a pass. `AllocError`: out of memory for it.
+    pub(crate) fn pass(&mut self) -> Result<&mut Pass, AllocError> {
+        if self.pass.is_none() {
+            self.pass = Some(Box::new(self.alloc, Pass::new(self.alloc))?);
+        }
+        match &mut self.pass {
+            Some(pass) => Ok(pass),
+            None => unreachable!(),
+        }
     }
 }

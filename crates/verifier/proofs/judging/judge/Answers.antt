@@ -25,6 +25,11 @@ returns-in_err-entries-clause-told_refused g c =
     let p = err_from_is_err_and c.from_residual-in_err-entries.result c.from_residual-in_err-entries.ensures.1 in
     rw (p.1, p.2) (none_told_at_memory c.args.program.now c.args.named.now (g.W.Watcher.told c.args.watcher.now) _ refl)
 
+pub returns-in_err-pass-clause-told_refused : goal.returns-in_err-pass-clause-told_refused
+returns-in_err-pass-clause-told_refused g c =
+    let p = err_from_is_err_and c.from_residual-in_err-pass.result c.from_residual-in_err-pass.ensures.1 in
+    rw (p.1, p.2) (none_told_at_memory c.args.program.now c.args.named.now (g.W.Watcher.told c.args.watcher.now) _ refl)
+
 pub returns-clause-told : goal.returns-clause-told
 returns-clause-told g c =
     let code = c.args.program.now in

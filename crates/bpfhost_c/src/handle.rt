@@ -78,10 +78,18 @@ impl Handle {
     }
 }
 
+/// Frees a session. It is a function of its own, so that a call that puts a session back tests only whether the handle is empty.
+#[cold]
+#[inline(never)]
+fn free(session: Box<Session>) {
+    drop(session);
+}
+
 impl Drop for Handle {
+    #[inline(always)]
     fn drop(self) {
         if let Some(raw) = self.into_raw_box() {
-            drop(raw.into_box());
+            free(raw.into_box());
         }
     }
 }

@@ -1,3 +1,4 @@
+pub mod Allowed
 pub mod Buffers
 pub mod Numbers
 pub mod Results

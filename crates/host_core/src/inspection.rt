@@ -57,10 +57,14 @@ impl Host {
     /// The number of packets that a batch of `packets` may have, of the program at a descriptor of `tenant`, so that its runs execute at
     /// most `bound` instructions by the cost of the program, as `Tenant::allowed_packets` counts: at least one, and all if the bound is 0.
     /// All if the tenant is not served or the descriptor names no program: such a batch is rejected.
+    #[tactic(auto, using(crate::proofs::Allowed::no_bound_allows_all))]
     pub fn allowed_packets(&self, tenant: usize, fd: u32, bound: u64, packets: usize) -> usize
         ensures allowed { IsAllowedFor (slice_get self.now.states tenant) fd bound packets result }
         ensures few { result ≤ packets }
     {
+        if bound == 0 {
+            return packets;
+        }
         match self.kept(tenant) {
             Some(tenant) => tenant.allowed_packets(fd, bound, packets),
             None => packets,

@@ -13,7 +13,7 @@ use Rattle.tenant.specs.declared.errno.Errno.{Errno}
 use Rattle.tenant.specs.declared.errno.Errno.TheVariants.{Invalid}
 use Rattle.tenant.specs.declared.object.OpenObject.{OpenObject}
 use Rattle.tenant.specs.declared.object.OpenObject.TheVariants as object
-use Rattle.tenant.specs.Batch.{RunsInOrder, object_refusal, else_refusal, packet_errno, packets_refusal, batch_refusal}
+use Rattle.tenant.specs.Batch.{RunsBatch, RunsInOrder, object_refusal, else_refusal, packet_errno, packets_refusal, batch_refusal}
 use Rattle.tenant.specs.Kept.{KeptTenant, IsWellFormedTenant, state_in}
 use Rattle.tenant.specs.Loaded.{LoadedProgram, map_handles}
 use Rattle.tenant.specs.Machine.{longest_packet}
@@ -48,6 +48,15 @@ pub refused_first : {o p : Option OpenObject} {errno : Errno} (later : Option Er
 refused_first later same is =
     ap (λ (first : Option Errno). else_refusal first later) is
     ∙ ap (λ (o : Option OpenObject). else_refusal (object_refusal o) later) same
+
+-- ---- no packets
+
+-- a batch without packets has no results, and leaves the state as it is
+pub none_run : (fd : ℕ) (s : TenantState) (inputs : List BatchInput) (room : List ℕ) → length inputs ≡ 0
+    → RunsBatch fd s inputs room room s
+unfolding RunsInOrder
+none_run fd s [] room none = ([], refl, refl)
+none_run fd s (input ∷ inputs) room none = absurd (omega (arith, none))
 
 -- ---- the runs of the machine of words and bytes
 

@@ -111,6 +111,7 @@ impl Tenant {
             return Err(Errno::Invalid);
         }
         match Packets::new(contexts, bytes, ends) {
+            Ok(_) if ends.is_empty() => Ok(()),
             Ok(packets) => {
                 packets.packets_are_short();
                 let mut trace = Trace::new();

@@ -49,6 +49,12 @@ fn append_framed(frames: &mut Vec<u8>, frame: &[u8]) -> Result<(), AllocError>
 /// The bytes of a frame that puts a key into a map, but for the key and its value, with the length before it.
 const PUT_HEAD: usize = 20;
 
+/// The bytes of the frames that open a program at each descriptor, with the lengths before them.
+const BYTES_OF_LOADS: usize = 28 * MOST;
+
+/// The bytes of the frames that close each descriptor, with the lengths before them.
+const BYTES_OF_CLOSES: usize = 12 * MOST;
+
 /// The bytes of the frames that put so many keys into a map of this shape.
 fn bytes_of_puts(shape: MapShape, keys: usize) -> usize {
     let each = PUT_HEAD + shape.key_size as usize + shape.value_size as usize;
@@ -130,6 +136,8 @@ impl FrameWriter {
         ensures written { OnOk result (self.new.frames.items
             ≡ self.old.frames.items ++ frames_of self.old.number (filled most)) }
     {
+        // The frames are not moved while they grow.
+        self.frames.reserve(BYTES_OF_LOADS)?;
         for _ in 0..MOST {
             self.load(&FILLER)?;
         }
@@ -155,6 +163,7 @@ impl FrameWriter {
             ≡ self.old.frames.items ++ frames_of self.old.number
             (closings tenant.now.objects first_descriptor most)) }
     {
+        self.frames.reserve(BYTES_OF_CLOSES)?;
         for fd in FIRST..FIRST + MOST as u32 {
             self.close_unless_open(tenant, fd)?;
         }

@@ -1,6 +1,7 @@
-use Rattle.std.proofs.Common.{◌≡◌, ℕ, ◌+◌, ◌-◌, ◌++◌, ◌∙◌, ap, arith}
+use Rattle.std.proofs.Common.{◌≡◌, ℕ, List, ◌+◌, ◌-◌, ◌++◌, ◌∙◌, ap, arith}
 use Rattle.fd_table.specs.Table.{first_descriptor, most, named}
 use Rattle.saving.specs.Restored.{closings}
+use Rattle.saving.specs.SaveParts.{frames_of}
 use Rattle.saving.specs.inside.Puts.{closing}
 use Rattle.saving.proofs.Saves.{closings_next, closings_none}
 use Rattle.saving.proofs.SaveSteps.{some_commands, no_commands}
@@ -28,10 +29,15 @@ pub returns : goal.returns
 returns c =
     let fd = c.loop-fd.fd in
     let objects = c.args.tenant.now.objects in
+    -- what is reserved changes no frame
     record {
       written =
           no_commands c.loop-fd.self.number
           (closings objects fd (first_descriptor + most - fd))
           (closings_none objects fd (first_descriptor + most - fd) (omega arith))
-          c.loop-fd.invariant.left;
+          c.loop-fd.invariant.left
+          ∙ ap
+          (λ (frames : List ℕ).
+          frames ++ frames_of c.args.self.now.number (closings objects first_descriptor most))
+          c.reserve.ensures.items;
     }

@@ -5,6 +5,7 @@ use Rattle.fd_table.specs.Table.{most}
 use Rattle.saving.specs.Filler.{filler}
 use Rattle.saving.specs.Frames.{frame_of}
 use Rattle.saving.specs.Restored.{load_of, filled}
+use Rattle.saving.specs.SaveParts.{frames_of}
 use Rattle.saving.proofs.Saves.{filled_next, filled_none, filler_bytes}
 use Rattle.saving.proofs.SaveSteps.{one_command, no_commands}
 use Rattle.saving.proofs.frame_writer.FrameWriter.fill.Goals as goal
@@ -28,6 +29,8 @@ pub returns : goal.returns
 returns c =
     let i = c.loop.counter in
     record {
+      -- what is reserved changes no frame
       written =
-          no_commands c.loop.self.number (filled (most - i)) (filled_none most i (omega arith)) c.loop.invariant.left;
+          no_commands c.loop.self.number (filled (most - i)) (filled_none most i (omega arith)) c.loop.invariant.left
+          ∙ ap (λ (frames : List ℕ). frames ++ frames_of c.args.self.now.number (filled most)) c.reserve.ensures.items;
     }

@@ -459,9 +459,10 @@ static inline bool bpfhost_is_frame_right(const bpfhost *host, const uint8_t *fr
                                           size_t out_length, uintptr_t more)
 {
     const uintptr_t words = bpfhost_word_of(host, 0) | bpfhost_word_of(frame, frame_length) | bpfhost_word_of(out, out_length) | more;
-    return words <= PTRDIFF_MAX && bpfhost_are_beside(frame, frame_length, host, sizeof(bpfhost_memory))
-        && bpfhost_are_beside(frame, frame_length, out, out_length) && bpfhost_are_beside(host, sizeof(bpfhost_memory), out, out_length)
-        && bpfhost_is_beside_lent(host, frame, frame_length);
+    return words <= PTRDIFF_MAX && bpfhost_are_disjoint(out, out_length, host, sizeof(bpfhost_memory))
+        && (frame_length == 0
+            || (bpfhost_are_beside(frame, frame_length, host, sizeof(bpfhost_memory))
+                && bpfhost_are_beside(frame, frame_length, out, out_length) && bpfhost_is_beside_lent(host, frame, frame_length)));
 }
 
 /* The proved function that copies a reply, with objects that were tested. */
@@ -474,18 +475,17 @@ static inline int bpfhost_copy(bpfhost *host, const uint8_t *frame, size_t frame
     return code;
 }
 
-static inline BPFHOST_SELDOM int bpfhost_handle_by_pairs(bpfhost *host, const void *frame, size_t frame_length, void *room,
+static inline BPFHOST_SELDOM int bpfhost_handle_by_pairs(bpfhost *host, const uint8_t *frame, size_t frame_length, void *room,
                                                          size_t room_length, size_t *written)
 {
-    const uint8_t *at = bpfhost_bytes_at(frame, frame_length);
-    int code = bpfhost_frame_code(host, at, frame_length, room, room_length);
+    int code = bpfhost_frame_code(host, frame, frame_length, room, room_length);
     if (code == BPFHOST_DONE)
-        code = bpfhost_frame_code(host, at, frame_length, written, sizeof *written);
+        code = bpfhost_frame_code(host, frame, frame_length, written, sizeof *written);
     if (code == BPFHOST_DONE)
         code = bpfhost_pair_code(room, room_length, written, sizeof *written);
     if (code == BPFHOST_DONE)
-        code = bpfhost_lent_code(host, at, frame_length);
-    return code == BPFHOST_DONE ? bpfhost_copy(host, at, frame_length, (uint8_t *)room, room_length, written) : code;
+        code = bpfhost_lent_code(host, frame, frame_length);
+    return code == BPFHOST_DONE ? bpfhost_copy(host, frame, frame_length, (uint8_t *)room, room_length, written) : code;
 }
 
 /* Handles a frame of any length and content, which is what follows the length field in a stream, and leaves the reply, with its
@@ -494,13 +494,13 @@ static inline BPFHOST_SELDOM int bpfhost_handle_by_pairs(bpfhost *host, const vo
 static inline int bpfhost_handle(bpfhost *host, const void *frame, size_t frame_length, void *room, size_t room_length,
                                  size_t *written)
 {
-    const uint8_t *at = (const uint8_t *)frame;
+    const uint8_t *at = bpfhost_bytes_at(frame, frame_length);
     if (bpfhost_is_frame_right(host, at, frame_length, room, room_length, bpfhost_word_of(written, 0))
         && bpfhost_are_beside(at, frame_length, written, sizeof *written)
         && bpfhost_are_beside(host, sizeof(bpfhost_memory), written, sizeof *written)
         && bpfhost_are_beside(room, room_length, written, sizeof *written))
         return bpfhost_copy(host, at, frame_length, (uint8_t *)room, room_length, written);
-    return bpfhost_handle_by_pairs(host, frame, frame_length, room, room_length, written);
+    return bpfhost_handle_by_pairs(host, at, frame_length, room, room_length, written);
 }
 
 /* The proved function that lends a reply, with a frame that was tested. */
@@ -522,16 +522,15 @@ static inline bool bpfhost_may_empty(const bpfhost_bytes *reply, const bpfhost *
         && (frame == NULL || bpfhost_are_apart(reply, sizeof *reply, frame, frame_length));
 }
 
-static inline BPFHOST_SELDOM int bpfhost_handle_lent_by_pairs(bpfhost *host, const void *frame, size_t frame_length, bpfhost_bytes *reply)
+static inline BPFHOST_SELDOM int bpfhost_handle_lent_by_pairs(bpfhost *host, const uint8_t *frame, size_t frame_length, bpfhost_bytes *reply)
 {
     const bpfhost_bytes none = {bpfhost_bytes_at(NULL, 0), 0};
-    const uint8_t *at = bpfhost_bytes_at(frame, frame_length);
-    int code = bpfhost_frame_code(host, at, frame_length, reply, sizeof *reply);
+    int code = bpfhost_frame_code(host, frame, frame_length, reply, sizeof *reply);
     if (code == BPFHOST_DONE)
-        code = bpfhost_lent_code(host, at, frame_length);
-    if (code == BPFHOST_DONE || bpfhost_may_empty(reply, host, at, frame_length))
+        code = bpfhost_lent_code(host, frame, frame_length);
+    if (code == BPFHOST_DONE || bpfhost_may_empty(reply, host, frame, frame_length))
         *reply = none;
-    return code == BPFHOST_DONE ? bpfhost_lend(host, at, frame_length, reply) : code;
+    return code == BPFHOST_DONE ? bpfhost_lend(host, frame, frame_length, reply) : code;
 }
 
 /* The same, but the reply is lent in the host's own buffer, until the next call on this host: nothing is
@@ -540,9 +539,9 @@ static inline BPFHOST_SELDOM int bpfhost_handle_lent_by_pairs(bpfhost *host, con
 static inline int bpfhost_handle_lent(bpfhost *host, const void *frame, size_t frame_length, bpfhost_bytes *reply)
 {
     const bpfhost_bytes none = {bpfhost_bytes_at(NULL, 0), 0};
-    const uint8_t *at = (const uint8_t *)frame;
+    const uint8_t *at = bpfhost_bytes_at(frame, frame_length);
     if (!bpfhost_is_frame_right(host, at, frame_length, reply, sizeof *reply, 0))
-        return bpfhost_handle_lent_by_pairs(host, frame, frame_length, reply);
+        return bpfhost_handle_lent_by_pairs(host, at, frame_length, reply);
     *reply = none;
     return bpfhost_lend(host, at, frame_length, reply);
 }
@@ -689,24 +688,14 @@ static inline BPFHOST_BY_FORCE bool bpfhost_is_run_right(const bpfhost *host, bp
         && bpfhost_are_written_beside(host, results, packets, status, ran) && bpfhost_is_beside_lent(host, bytes, byte_count);
 }
 
-static inline BPFHOST_SELDOM int bpfhost_run_by_pairs(bpfhost *host, uint16_t tenant, uint32_t fd, const void *contexts, size_t context_size,
-                                                      size_t context_count, const void *bytes, size_t byte_count, const size_t *ends,
-                                                      size_t packets, uint64_t bound, uint32_t *results, int32_t *status, size_t *ran)
+static inline BPFHOST_SELDOM int bpfhost_run_by_pairs(bpfhost *host, uint16_t tenant, uint32_t fd, bpfhost_contexts contexts, const uint8_t *bytes,
+                                                      size_t byte_count, const size_t *ends, size_t packets, uint64_t bound, uint32_t *results,
+                                                      int32_t *status, size_t *ran)
 {
-    static const size_t no_ends[1] = {0};
-    uint32_t no_results[1] = {0};
     size_t unused = 0;
-    const bpfhost_contexts none = {bpfhost_context_at(NULL), sizeof(bpfhost_context), 1};
-    const bpfhost_contexts some = {contexts, context_size, context_count};
-    const bpfhost_contexts given = context_count == 0 ? none : some;
-    const uint8_t *at = bpfhost_bytes_at(bytes, byte_count);
-    const size_t *stops = packets == 0 ? no_ends : ends;
-    uint32_t *room = packets == 0 ? no_results : results;
-    int code = BPFHOST_DONE;
-    if (!bpfhost_is_run_right(host, given, at, byte_count, stops, packets, room, status, ran))
-        code = bpfhost_run_code(host, given, at, byte_count, stops, packets, room, status, ran);
+    int code = bpfhost_run_code(host, contexts, bytes, byte_count, ends, packets, results, status, ran);
     if (code == BPFHOST_DONE)
-        code = bpfhost_run_given(host, tenant, fd, bound, given, at, byte_count, stops, packets, room, status, ran == NULL ? &unused : ran);
+        code = bpfhost_run_given(host, tenant, fd, bound, contexts, bytes, byte_count, ends, packets, results, status, ran == NULL ? &unused : ran);
     return code;
 }
 
@@ -716,13 +705,18 @@ static inline BPFHOST_BY_FORCE int bpfhost_run_up_to(bpfhost *host, uint16_t ten
                                                      size_t context_count, const void *bytes, size_t byte_count, const size_t *ends,
                                                      size_t packets, uint64_t bound, uint32_t *results, int32_t *status, size_t *ran)
 {
-    const bpfhost_contexts given = {contexts, context_size, context_count};
-    const uint8_t *at = (const uint8_t *)bytes;
+    static const size_t no_ends[1] = {0};
+    uint32_t no_results[1];
+    const bpfhost_contexts none = {bpfhost_context_at(NULL), sizeof(bpfhost_context), 1};
+    const bpfhost_contexts some = {contexts, context_size, context_count};
+    const bpfhost_contexts given = context_count == 0 ? none : some;
+    const uint8_t *at = bpfhost_bytes_at(bytes, byte_count);
+    const size_t *stops = packets == 0 ? no_ends : ends;
+    uint32_t *room = packets == 0 ? no_results : results;
     size_t unused = 0;
-    if (bpfhost_is_run_right(host, given, at, byte_count, ends, packets, results, status, ran))
-        return bpfhost_run_given(host, tenant, fd, bound, given, at, byte_count, ends, packets, results, status, ran == NULL ? &unused : ran);
-    return bpfhost_run_by_pairs(host, tenant, fd, contexts, context_size, context_count, bytes, byte_count, ends, packets, bound, results,
-                                status, ran);
+    if (bpfhost_is_run_right(host, given, at, byte_count, stops, packets, room, status, ran))
+        return bpfhost_run_given(host, tenant, fd, bound, given, at, byte_count, stops, packets, room, status, ran == NULL ? &unused : ran);
+    return bpfhost_run_by_pairs(host, tenant, fd, given, at, byte_count, stops, packets, bound, room, status, ran);
 }
 
 /* Runs a program of a tenant on many packets, one after another, as PROG_TEST_RUN does on each, without frames and replies. The
@@ -1573,15 +1567,14 @@ static inline int bpfhost_read_reply_sized(const void *bytes, size_t length, voi
     return code;
 }
 
-static inline BPFHOST_SELDOM int bpfhost_ask_by_pairs(bpfhost *host, const void *frame, size_t frame_length, bpfhost_reply *reply)
+static inline BPFHOST_SELDOM int bpfhost_ask_by_pairs(bpfhost *host, const uint8_t *frame, size_t frame_length, bpfhost_reply *reply)
 {
-    const uint8_t *at = bpfhost_bytes_at(frame, frame_length);
     bpfhost_bytes lent = {bpfhost_bytes_at(NULL, 0), 0};
-    int code = bpfhost_frame_code(host, at, frame_length, reply, sizeof *reply);
+    int code = bpfhost_frame_code(host, frame, frame_length, reply, sizeof *reply);
     if (code == BPFHOST_DONE)
-        code = bpfhost_lent_code(host, at, frame_length);
+        code = bpfhost_lent_code(host, frame, frame_length);
     if (code == BPFHOST_DONE)
-        code = bpfhost_lend(host, at, frame_length, &lent);
+        code = bpfhost_lend(host, frame, frame_length, &lent);
     if (code == BPFHOST_DONE)
         bpfhost_read_fields(lent.at, lent.length, reply);
     return code;
@@ -1591,11 +1584,11 @@ static inline BPFHOST_SELDOM int bpfhost_ask_by_pairs(bpfhost *host, const void 
  * ERR_LENGTH, ERR_OVERLAP, ERR_LENT: nothing is written, and no tenant's state has changed. */
 static inline int bpfhost_ask(bpfhost *host, const void *frame, size_t frame_length, bpfhost_reply *reply)
 {
-    const uint8_t *at = (const uint8_t *)frame;
+    const uint8_t *at = bpfhost_bytes_at(frame, frame_length);
     bpfhost_bytes lent = {bpfhost_bytes_at(NULL, 0), 0};
     int code;
     if (!bpfhost_is_frame_right(host, at, frame_length, reply, sizeof *reply, 0))
-        return bpfhost_ask_by_pairs(host, frame, frame_length, reply);
+        return bpfhost_ask_by_pairs(host, at, frame_length, reply);
     code = bpfhost_lend(host, at, frame_length, &lent);
     if (code == BPFHOST_DONE)
         bpfhost_read_fields(lent.at, lent.length, reply);

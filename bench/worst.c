@@ -15,7 +15,6 @@
  *        worst longest N FILE  writes which of the repeated frames takes longest, from 0, and its least time of N rounds */
 #define _GNU_SOURCE
 #include "worst.h"
-#include <malloc.h>
 #include <sys/resource.h>
 #include <time.h>
 
@@ -287,26 +286,14 @@ static int longest(unsigned long count, const char *file)
     return 0;
 }
 
-/* Blocks of so many bytes come from the system and go back to it, and so do free bytes at the end of the heap. */
-static void set_thresholds(int block, int end)
-{
-    must(mallopt(M_MMAP_THRESHOLD, block) && mallopt(M_TRIM_THRESHOLD, end), "malloc has no thresholds");
-}
-
 int main(int argc, char **argv)
 {
-    /* What is freed goes back to the system, so each script takes new memory from it, as the first one does. */
-    set_thresholds(1 << 17, 1 << 17);
     if (argc == 2 && strcmp(argv[1], "serve") == 0)
         return serve();
     if (argc == 4 && strcmp(argv[1], "rounds") == 0)
         return rounds(strtoul(argv[2], NULL, 10), argv[3]);
-    if (argc == 4 && strcmp(argv[1], "kept") == 0) {
-        set_thresholds(1 << 25, 1 << 30);
-        return rounds(strtoul(argv[2], NULL, 10), argv[3]);
-    }
     if (argc == 4 && strcmp(argv[1], "longest") == 0)
         return longest(strtoul(argv[2], NULL, 10), argv[3]);
-    fprintf(stderr, "usage: worst serve | worst rounds N FILE | worst kept N FILE | worst longest N FILE\n");
+    fprintf(stderr, "usage: worst serve | worst rounds N FILE | worst longest N FILE\n");
     return 2;
 }

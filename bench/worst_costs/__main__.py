@@ -11,7 +11,7 @@ from pathlib import Path
 
 from worst_costs.cases import FOLDER, KINDS, all_cases, write
 from worst_costs.climbing import Search, search
-from worst_costs.counting import Counter, can_count
+from worst_costs.counting import Counter, Malloc, can_count
 from worst_costs.table import LEFT_OUT, Bench, check, print_table
 
 
@@ -25,9 +25,11 @@ def read_arguments() -> argparse.Namespace:
     parser.add_argument("--random", type=int, default=1, metavar="N", help="the seed of the search's random edits")
     parser.add_argument("--into", type=Path, default=Path("."), help="the folder for the cases that a search finds")
     parser.add_argument("--rounds", type=int, default=300, help="rounds of the times")
-    parser.add_argument("--keep", action="store_true", help="times if malloc keeps what is freed")
+    parser.add_argument("--malloc", choices=[it.name.lower() for it in Malloc], default="new", help="what it does with large blocks")
     parser.add_argument("scratch", type=Path)
-    return parser.parse_args()
+    arguments = parser.parse_args()
+    arguments.malloc = Malloc[arguments.malloc.upper()]
+    return arguments
 
 
 def searches(arguments: argparse.Namespace, kinds: list[str]) -> None:
@@ -36,7 +38,7 @@ def searches(arguments: argparse.Namespace, kinds: list[str]) -> None:
         sys.exit(f"worst: {LEFT_OUT}; --by-time searches without them")
     for kind in kinds:
         with Counter(arguments.scratch / "worst", arguments.scratch) as counter:
-            it = Search(kind, counter, arguments.scratch / "worst", arguments.scratch, arguments.random, arguments.by_time)
+            it = Search(kind, counter, arguments.scratch / "worst", arguments.scratch, arguments.random, arguments.malloc, arguments.by_time)
             for case in search(it, arguments.knows_seed, arguments.search):
                 words = [*kind.replace(",", "").split(), *(["seed"] if case.knows_seed else []), *(["time"] if arguments.by_time else [])]
                 write(arguments.into / f"{'_'.join(words)}.json", case)
@@ -48,7 +50,7 @@ def main() -> None:
     if arguments.search:
         searches(arguments, kinds)
         return
-    bench = Bench(arguments.scratch / "worst", arguments.scratch, arguments.rounds, arguments.keep)
+    bench = Bench(arguments.scratch / "worst", arguments.scratch, arguments.rounds, arguments.malloc)
     cases = {name: case for name, case in all_cases().items() if case.kind in kinds}
     if arguments.check:
         sys.exit(not check(bench, cases))

@@ -13,7 +13,7 @@ from pathlib import Path
 
 from worst_costs.building import NoCase, packets_of, script
 from worst_costs.cases import Case, all_cases
-from worst_costs.counting import Counter, longest, times
+from worst_costs.counting import Counter, Malloc, longest, times
 from worst_costs.edits import edited
 from worst_costs.starts import starts
 
@@ -34,6 +34,7 @@ class Search:
     driver: Path
     folder: Path
     seed: int
+    malloc: Malloc
     by_time: bool = False
     tries: int = 0
 
@@ -60,7 +61,7 @@ class Search:
         """The least of some rounds, so that other processes count little; in steps of a twentieth, which they do not reach."""
         (self.folder / "script").write_bytes(made)
         try:
-            found = times(self.driver, self.folder / "script", TIMED)
+            found = times(self.driver, self.folder / "script", TIMED, self.malloc)
         except subprocess.CalledProcessError:
             return 0
         return float(round(1.05 ** round(math.log(min(it.processor for it in found.rounds), 1.05))))
@@ -71,7 +72,7 @@ class Search:
             return case
         try:
             (self.folder / "script").write_bytes(script(case))
-            at = longest(self.driver, self.folder / "script") // 2
+            at = longest(self.driver, self.folder / "script", self.malloc) // 2
         except (NoCase, ValueError, TypeError, IndexError, OSError):
             return case
         name, fd, keys, count, _ = case.before[-1]

@@ -9,12 +9,27 @@ import statistics
 import struct
 import subprocess
 from dataclasses import dataclass
+from enum import StrEnum
 from pathlib import Path
 from types import TracebackType
 
 # The C library copies and clears long blocks by vectors, and not by one string instruction of which valgrind counts each repetition.
 NO_STRINGS = "glibc.cpu.x86_rep_movsb_threshold=1000000000:glibc.cpu.x86_rep_stosb_threshold=1000000000"
 TOTAL = re.compile(r"^(?:totals|summary): (\d+)", re.M)
+
+
+class Malloc(StrEnum):
+    """What malloc of the C library does with large blocks, by the tunables that set it."""
+
+    # They come from the system and go back to it at once.
+    NEW = "glibc.malloc.mmap_threshold=131072:glibc.malloc.trim_threshold=131072"
+    # Blocks of the size of one that was freed are kept from then on.
+    DEFAULT = ""
+    # All are kept.
+    KEPT = "glibc.malloc.mmap_threshold=33554432:glibc.malloc.trim_threshold=1073741824"
+
+    def environment(self, *more: str) -> dict[str, str]:
+        return {**os.environ, "GLIBC_TUNABLES": ":".join(filter(None, [self.value, *more]))}
 
 
 def can_count() -> bool:
@@ -36,7 +51,7 @@ class Counter:
         self.folder, self.scripts = folder, 0
         words = ["valgrind", "-q", "--tool=callgrind", "--toggle-collect=measured_step", "--dump-after=measured_step"]
         words += [f"--callgrind-out-file={folder}/profile", str(driver), "serve"]
-        environment = {**os.environ, "GLIBC_TUNABLES": NO_STRINGS}
+        environment = Malloc.NEW.environment(NO_STRINGS)
         self.process = subprocess.Popen(words, stdin=subprocess.PIPE, stdout=subprocess.PIPE, stderr=subprocess.DEVNULL, env=environment)
 
     def __enter__(self) -> Counter:
@@ -105,16 +120,17 @@ class Times:
         return statistics.median(took), took[-1 - len(took) // 100], took[-1]
 
 
-def times(driver: Path, script: Path, rounds: int, keeps: bool = False) -> Times:
-    """With new memory of the system in each round, or, if malloc keeps what is freed, with that of the round before."""
-    said = subprocess.run([driver, "kept" if keeps else "rounds", str(rounds), script], stdout=subprocess.PIPE, check=True, text=True).stdout
+def times(driver: Path, script: Path, rounds: int, malloc: Malloc = Malloc.NEW) -> Times:
+    words: list[str | Path] = [driver, "rounds", str(rounds), script]
+    said = subprocess.run(words, stdout=subprocess.PIPE, check=True, text=True, env=malloc.environment()).stdout
     numbers = [line.split() for line in said.splitlines()]
     return Times.of([Round(float(step), float(beside), float(used), int(count)) for step, beside, used, count in numbers])
 
 
-def longest(driver: Path, script: Path, rounds: int = 5) -> int:
+def longest(driver: Path, script: Path, malloc: Malloc, rounds: int = 5) -> int:
     """Which of the repeated frames of a script takes longest, from 0."""
-    said = subprocess.run([driver, "longest", str(rounds), script], stdout=subprocess.PIPE, stderr=subprocess.DEVNULL, text=True)
+    words: list[str | Path] = [driver, "longest", str(rounds), script]
+    said = subprocess.run(words, stdout=subprocess.PIPE, stderr=subprocess.DEVNULL, text=True, env=malloc.environment())
     if said.returncode:
         raise OSError("a frame is refused")
     return int(said.stdout.split()[0])

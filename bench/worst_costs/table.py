@@ -8,7 +8,7 @@ from pathlib import Path
 
 from worst_costs.building import packets_of, script
 from worst_costs.cases import Case
-from worst_costs.counting import Counter, Times, can_count, times
+from worst_costs.counting import Counter, Malloc, Times, can_count, times
 
 # What a case may take, as a multiple of what it took when it was kept: builds with and without proofs differ by some hundredths.
 SLACK = 1.1
@@ -19,12 +19,12 @@ HEAD = """| Step | Machine instructions | Bound | Time | A neighbour's look-up b
 
 @dataclass(frozen=True)
 class Bench:
-    """The program of worst.c, a folder for files, the rounds of times, and whether malloc keeps what is freed."""
+    """The program of worst.c, a folder for files, the rounds of times, and what malloc does in them."""
 
     driver: Path
     folder: Path
     rounds: int
-    keeps: bool = False
+    malloc: Malloc
 
     def instructions(self, case: Case) -> float | None:
         """Of the step, or of a packet. None without valgrind."""
@@ -39,7 +39,7 @@ class Bench:
     def times(self, case: Case, rounds: int) -> Times:
         path = self.folder / "script"
         path.write_bytes(script(case))
-        return times(self.driver, path, rounds, self.keeps)
+        return times(self.driver, path, rounds, self.malloc)
 
 
 def shown(nanoseconds: float) -> str:

@@ -192,10 +192,12 @@ def connections(url: str) -> tuple[type[RedisLink], dict[str, Any]]:
 
     With TLS, the name in the server's certificate is checked.
     """
+    redis = library("redis.asyncio")
     try:
-        named = {"ssl_check_hostname": True} if url.startswith("rediss:") else {}
-        pool = library("redis.asyncio").ConnectionPool.from_url(url, **named)
-    except ValueError as error:
+        pool = redis.ConnectionPool.from_url(url, **({"ssl_check_hostname": True} if url.startswith("rediss:") else {}))
+        # The class refuses an option that it does not have.
+        pool.make_connection()
+    except (AttributeError, TypeError, ValueError, redis.RedisError) as error:
         raise RedisError(f"{url} is no URL of a Redis: {error}") from None
     return type("Direct", (RedisLink, pool.connection_class), {}), pool.connection_kwargs
 

@@ -8,6 +8,7 @@ import signal
 import subprocess
 import sys
 import time
+from pathlib import Path
 
 from bpfhost import Host, MapType, frames
 from bpfhost.shards import Client, ShardKeys
@@ -147,6 +148,24 @@ class Commands(ShardTest):
             called = self.call(words[0], *([shard] if words[1:] else []), *words[2:], given=given)
             self.assertEqual(called.returncode, status, (words, called.stderr))
             self.assertRegex(called.stderr.decode(), f"^(bpfhost.shards: )?{sentence}\n$")
+
+    def test_urls_that_are_none(self) -> None:
+        """An option that is none, or has a wrong value, is refused in one sentence."""
+        customers = Path(self.scratch) / "customers.toml"
+        customers.write_text("")
+        unknown = "redis://host:6379/0?nonsense=1", "nonsense"
+        for words, (url, why) in (
+            (["worker", "0", "--library", "none"], unknown),
+            (["gateway", "--customers", str(customers)], unknown),
+            (["client", "acme"], unknown),
+            (["client", "acme"], ("unix:///s?nonsense=1", "nonsense")),
+            (["client", "acme"], ("rediss://host/0?ssl_cert_reqs=nonsense", "nonsense")),
+            (["client", "acme"], ("redis://host/0?parser_class=nonsense", "is not callable")),
+        ):
+            called = self.call(*words, "--redis", url)
+            said = called.stderr.decode()
+            self.assertEqual(called.returncode, 3, said)
+            self.assertRegex(said, f"^bpfhost.shards: {re.escape(url)} is no URL of a Redis: .*{why}.*\n$")
 
     def test_there_is_no_room(self) -> None:
         self.start(0)

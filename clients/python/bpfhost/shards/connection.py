@@ -8,12 +8,12 @@ import math
 import os
 import urllib.parse
 from collections import deque
-from collections.abc import Mapping, Sequence
+from collections.abc import Callable, Mapping, Sequence
 from typing import Any
 
 from bpfhost.shards.cluster import Line, Nodes
 from bpfhost.shards.errors import Away, NoScript, NotAllowed, RedisError
-from bpfhost.shards.link import Word, connections, library
+from bpfhost.shards.link import Word, library
 from bpfhost.shards.names import START, before
 from bpfhost.shards.system import MACHINE, System
 
@@ -62,25 +62,25 @@ def _is_own(word: str) -> bool:
 class _Lines:
     """The connections to a server: those that are not in use, with the times since when, the oldest first; and all of them."""
 
-    def __init__(self, nodes: Nodes, system: System) -> None:
-        self._nodes, self._system = nodes, system
+    def __init__(self, nodes: Nodes, now: Callable[[], float]) -> None:
+        self._nodes, self._now = nodes, now
         self._idle: deque[tuple[float, Line]] = deque()
         self.all: set[Line] = set()
         self._timer: asyncio.TimerHandle | None = None
 
     def taken(self) -> Line:
-        line = self._idle.pop()[1] if self._idle else Line(self._nodes, self._system.link)
+        line = self._idle.pop()[1] if self._idle else Line(self._nodes)
         self.all.add(line)
         return line
 
     def give_back(self, line: Line) -> None:
-        self._idle.append((self._system.now(), line))
+        self._idle.append((self._now(), line))
         if not self._timer:
             self._timer = asyncio.get_running_loop().call_later(SECONDS_IDLE, self._shrink)
 
     def _shrink(self) -> None:
         """Ends the connections that were not used for a while."""
-        while self._idle and self._idle[0][0] <= self._system.now() - SECONDS_IDLE:
+        while self._idle and self._idle[0][0] <= self._now() - SECONDS_IDLE:
             line = self._idle.popleft()[1]
             self.all.discard(line)
             line.cut()
@@ -104,14 +104,11 @@ class Redis:
     """A server, for one event loop: calls that are under way at the same time have a connection each. Replies are bytes."""
 
     def __init__(self, url: str | None = None, system: System = MACHINE) -> None:
-        """The server of a URL (`redis_url`), to which a connection is made when it is first called."""
+        """The server of a URL (`redis_url`), to which a connection is made when it is first called; raises RedisError if it is no URL."""
         self.url, self.system = redis_url(url), system
-        self.nodes = Nodes.of(self.url)
-        # A URL that is none is refused at once.
-        connections(self.nodes.url)
-        self.lines = _Lines(self.nodes, system)
+        self.nodes = Nodes(self.url, system.link)
+        self.lines = _Lines(self.nodes, system.now)
         self._slot = -1
-        self._line: Line | None = None
         self._deadline, self._patience = math.inf, 0.0
 
     def _with(self, **changed: object) -> Redis:
@@ -132,9 +129,9 @@ class Redis:
         """The same, but if the server is away calls are repeated, each for so many seconds: only for calls that may be done twice."""
         return self._with(_deadline=deadline, _patience=seconds)
 
-    def line(self) -> Redis:
-        """The same server by a connection of its own, on which commands are sent without a wait for the reply to each (`begin`)."""
-        return self._with(_line=self.lines.taken())
+    def line(self) -> Line:
+        """A connection of its own, on which commands are sent without a wait for the reply to each (`begin`)."""
+        return self.lines.taken()
 
     async def close(self) -> None:
         """Ends the connections."""
@@ -146,9 +143,9 @@ class Redis:
         while True:
             line = self.lines.taken()
             try:
-                return await self._begun(line, words, wait)
+                return await self.begin(line, words, wait)
             except Away:
-                if self.system.now() + pause > until or self.nodes.has_changed():
+                if self.system.now() + pause > until or self.nodes.has_changed:
                     raise
             except (asyncio.CancelledError, GeneratorExit):
                 # The next command does not wait for the reply to this one.
@@ -159,27 +156,12 @@ class Redis:
             await asyncio.sleep(pause)
             pause = min(2 * pause, _LONGEST_PAUSE)
 
-    def _begun(self, line: Line, words: Sequence[Word], wait: float) -> asyncio.Future[Any]:
+    def begin(self, line: Line, words: Sequence[Word], wait: float = 0.0) -> asyncio.Future[Any]:
+        """Begins a command on a line, which may block for so many seconds. The wait for it raises Away if no reply comes."""
         seconds = wait + _SECONDS_TO_ANSWER
         if self._deadline < math.inf:
             seconds = max(_LEAST_SECONDS, min(seconds, self._deadline - self.system.now()))
         return line.begin(words, seconds, self._slot)
-
-    # Of a line.
-
-    def begin(self, *words: Word, wait: float = 0.0) -> asyncio.Future[Any]:
-        """Begins a command, which may block for so many seconds. The wait for it raises Away if no reply comes."""
-        assert self._line
-        return self._begun(self._line, words, wait)
-
-    def begin_xread(self, places: Mapping[str, bytes], many: int, wait: float) -> asyncio.Future[Any]:
-        """Begins what `xread` does; `entries_of` reads the reply."""
-        return self.begin(*_reading(places, many, wait), wait=wait)
-
-    def cut(self) -> None:
-        """Ends the connection: no more replies come to what was sent. The next command makes a new connection."""
-        assert self._line
-        self._line.cut()
 
     # Commands, by their names.
 
@@ -199,7 +181,7 @@ class Redis:
         # The server replies before the client gives the call up.
         left = self._deadline - self.system.now()
         wait = max(0.0, min(wait, LONGEST_WAIT, left - min(_SECONDS_FOR_AN_ANSWER, left / 2)))
-        return entries_of(await self.call(*_reading(places, many, wait), wait=wait))
+        return entries_of(await self.call(*xread_words(places, many, wait), wait=wait))
 
     async def stream(self, name: str) -> dict[bytes, Any]:
         """What Redis reports of a stream (XINFO STREAM): empty if there is no such stream."""
@@ -225,7 +207,7 @@ def _entries(found: Sequence[Any]) -> list[Entry]:
     return [(entry, _pairs(fields)) for entry, fields in found]
 
 
-def _reading(places: Mapping[str, bytes], many: int, wait: float) -> list[Word]:
+def xread_words(places: Mapping[str, bytes], many: int, wait: float) -> list[Word]:
     """The arguments of XREAD."""
     block: list[Word] = ["BLOCK", max(1, int(wait * 1000))] if wait > 0 else []
     return ["XREAD", "COUNT", many, *block, "STREAMS", *places, *places.values()]
@@ -257,9 +239,9 @@ class Script:
         except NoScript:
             return await redis.call("EVAL", self.touching if redis.nodes.replicas else self.text, len(keys), *keys, *arguments)
 
-    def begin(self, line: Redis, keys: Sequence[str], arguments: Sequence[Word]) -> asyncio.Future[Any]:
-        """Begins the script on a line of a server. If its reply is a NoScript, the script is called once more."""
-        return line.begin("EVALSHA", self.name(line), len(keys), *keys, *arguments)
+    def begin(self, redis: Redis, line: Line, keys: Sequence[str], arguments: Sequence[Word]) -> asyncio.Future[Any]:
+        """Begins the script on a line of a server. If its reply is a NoScript, the caller calls the script once more."""
+        return redis.begin(line, ["EVALSHA", self.name(redis), len(keys), *keys, *arguments])
 
 
 async def told_by(redis: Redis, section: str) -> dict[str, str]:

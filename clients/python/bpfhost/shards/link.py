@@ -1,4 +1,4 @@
-"""A connection to a Redis by its URL, of the library redis (of Debian: python3-redis). hiredis parses the replies (python3-hiredis)."""
+"""A connection to a Redis, of the library redis (of Debian: python3-redis). hiredis parses the replies (python3-hiredis)."""
 
 from __future__ import annotations
 
@@ -83,6 +83,8 @@ class RedisLink(asyncio.BufferedProtocol):
     transport: asyncio.Transport | None = None
     _timer: asyncio.TimerHandle | None = None
     is_over = False
+    # Whether the history that its server reports was looked at (`cluster`).
+    is_checked = False
 
     def __init__(self, **words: Any) -> None:
         """The arguments are those of the library's class."""
@@ -184,25 +186,3 @@ class RedisLink(asyncio.BufferedProtocol):
 
     def connection_lost(self, error: Exception | None) -> None:
         self.cut(error or OSError("the connection was ended"))
-
-
-@functools.cache
-def connections(url: str) -> tuple[type[RedisLink], dict[str, Any]]:
-    """The class of connections to a URL, and its arguments; raises RedisError if it is no URL.
-
-    With TLS, the name in the server's certificate is checked.
-    """
-    redis = library("redis.asyncio")
-    try:
-        pool = redis.ConnectionPool.from_url(url, **({"ssl_check_hostname": True} if url.startswith("rediss:") else {}))
-        # The class refuses an option that it does not have.
-        pool.make_connection()
-    except (AttributeError, TypeError, ValueError, redis.RedisError) as error:
-        raise RedisError(f"{url} is no URL of a Redis: {error}") from None
-    return type("Direct", (RedisLink, pool.connection_class), {}), pool.connection_kwargs
-
-
-def link(url: str) -> RedisLink:
-    """A connection to a URL."""
-    kind, words = connections(url)
-    return kind(**words)

@@ -51,5 +51,5 @@ class Patience:
 
     def demand_same_log(self) -> None:
         """Raises LogChanged if the log may lack what this worker has played."""
-        if self.redis.nodes.has_changed():
+        if self.redis.nodes.has_changed:
             raise LogChanged("another node of the cluster, or a server with another history, has the log now")

@@ -13,7 +13,8 @@ from typing import Any
 
 from bpfhost.numbers import MOST_TENANTS
 from bpfhost.shards.calls import Call, Item, NoCall, item_of
-from bpfhost.shards.connection import Entry, Redis, entries_of, forgotten
+from bpfhost.shards.cluster import Line
+from bpfhost.shards.connection import Entry, Redis, entries_of, forgotten, xread_words
 from bpfhost.shards.errors import Away
 from bpfhost.shards.names import ShardKeys
 from bpfhost.shards.patience import Patience
@@ -30,7 +31,7 @@ _SECONDS_TO_WAIT, _SECONDS_BESIDE = 1.0, 0.02
 class _Lane:
     """One lane: its tenants, the ids after which their streams are read, and the pending reply."""
 
-    def __init__(self, line: Redis, keys: ShardKeys, tenants: range) -> None:
+    def __init__(self, line: Line, keys: ShardKeys, tenants: range) -> None:
         self.line, self.names = line, {tenant: keys.frames(tenant) for tenant in tenants}
         self.tenants = {name: tenant for tenant, name in self.names.items()}
         self.of = slice(tenants.start, None, tenants.step)
@@ -53,7 +54,8 @@ class Reading:
         wake: Callable[[object], None],
     ) -> None:
         """Tenants that are busy are not read; `wake` is called when something has come."""
-        self._tenants, self._busy, self._patience, self._settings, self._wake = tenants, busy, patience, settings, wake
+        self._redis, self._tenants, self._busy, self._patience = redis, tenants, busy, patience
+        self._settings, self._wake = settings, wake
         lanes = settings.lanes
         self._lanes = [_Lane(redis.line(), keys, range(at, MOST_TENANTS, lanes)) for at in range(lanes)]
         # The ids up to which tenants were read whose replies are not written yet.
@@ -103,7 +105,7 @@ class Reading:
         lane.places = places = {lane.names[log.tenant]: read_to.get(log.tenant) or log.place for log in logs}
         if places:
             wait = min(self._settings.lease_seconds / 4, _SECONDS_TO_WAIT if len(places) == len(lane.names) else _SECONDS_BESIDE)
-            lane.task = lane.line.begin_xread(places, lane.at_once, wait)
+            lane.task = self._redis.begin(lane.line, xread_words(places, lane.at_once, wait), wait)
             lane.task.add_done_callback(self._wake)
 
     async def shares(self) -> list[list[Item]]:

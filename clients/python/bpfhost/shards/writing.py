@@ -8,6 +8,7 @@ from collections.abc import Iterable, Mapping, Sequence
 from bpfhost.parts import in_parts
 from bpfhost.shards import scripts
 from bpfhost.shards.calls import Arrives, Leaves
+from bpfhost.shards.cluster import Line
 from bpfhost.shards.connection import Redis, Script, told_by
 from bpfhost.shards.errors import Away, NoScript, OutOfMemory, ShardError, SnapshotDamaged
 from bpfhost.shards.lease import Lease
@@ -43,10 +44,10 @@ class Writing:
         """Writes replies of tenants, those of each in order."""
         await self._do(scripts.WRITE, *self._words(written, {}))
 
-    def begin(self, line: Redis, written: Sequence[Written], behind: Mapping[int, bytes]) -> asyncio.Future[int]:
+    def begin(self, line: Line, written: Sequence[Written], behind: Mapping[int, bytes]) -> asyncio.Future[int]:
         """Begins to write replies on a line, after earlier replies of some tenants up to these ids, which are still being written."""
         keys, words = self._words(written, behind)
-        return scripts.WRITE.begin(line, [self.keys.lease, *keys], [self.lease.token, *words])
+        return scripts.WRITE.begin(self.redis, line, [self.keys.lease, *keys], [self.lease.token, *words])
 
     async def end(self, task: asyncio.Future[int]) -> bool:
         """Whether replies whose write was begun are written; if not, write them again."""

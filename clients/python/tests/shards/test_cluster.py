@@ -7,12 +7,15 @@ import threading
 import time
 import unittest
 from collections.abc import Callable
+from typing import Any, cast
 
 from bpfhost import Host
 from bpfhost.shards import Client, NoReply, RedisError, Settings, ShardKeys, move
 from bpfhost.shards.cluster import Nodes
 from bpfhost.shards.errors import Away
+from bpfhost.shards.link import RedisLink
 from bpfhost.shards.names import DirectoryKeys
+from bpfhost.shards.system import MACHINE
 from tests.common import PROGRAM, HostTest
 from tests.shards.blocking_redis import shard_of
 from tests.shards.common import CREATE, WorkerThread, put
@@ -142,21 +145,35 @@ class Cluster(HostTest):
 
 class Words(unittest.TestCase):
     def test_urls(self) -> None:
-        self.assertEqual(Nodes.of("redis://u:p@h:1/0?cluster=1&db=2&replicas=2"), Nodes("redis://u:p@h:1/0?db=2", True, 2, ["h:1"]))
-        self.assertEqual(Nodes.of("redis://u:p@h:1/0?cluster=1").at("g:2"), "redis://u:p@g:2/0")
-        self.assertTrue(Nodes.of("unix:///s").is_one)
+        made = list[dict[str, Any]]()
+
+        def nodes(url: str) -> Nodes:
+            return Nodes(url, lambda _kind, words: cast(RedisLink, made.append(words)))
+
+        known = nodes("redis://u:p@h:1/0?cluster=1&db=2&replicas=2")
+        self.assertEqual((known.is_cluster, known.replicas, known.is_one, known.find(7)), (True, 2, False, "h:1"))
+        known.connect(known.find(7))
+        known.connect("g:2")
+        nodes("redis://u:p@h:1/0?replicas=1").connect("h:1")
+        words = {"username": "u", "password": "p", "host": "h", "port": "1", "db": 2}
+        self.assertEqual(made, [words, {**words, "host": "g", "port": "2"}, {**words, "port": 1, "db": 0}])
+        self.assertTrue(nodes("unix:///s").is_one)
         for url in ("redis://h:1/0?cluster=2", "redis://h:1/0?replicas=x", "unix:///s?cluster=1"):
             with self.assertRaisesRegex(RedisError, "cluster is 0 or 1, of hosts with ports, and replicas is a number"):
-                Nodes.of(url)
+                nodes(url)
+        with self.assertRaisesRegex(RedisError, r"^redis://h/0\?cluster=1&nonsense=1 is no URL of a Redis: .*'nonsense'$"):
+            nodes("redis://h/0?cluster=1&nonsense=1")
 
     def test_nodes(self) -> None:
-        nodes = Nodes.of("redis://a:1/0?cluster=1")
+        nodes = Nodes("redis://a:1/0?cluster=1", MACHINE.link)
         nodes.watch()
         self.assertEqual((nodes.find(5), nodes.learn(5, "b:2"), nodes.find(5)), ("a:1", False, "b:2"))
         nodes.note("b:2", is_away=True)
-        self.assertEqual((nodes.find(5), nodes.learn(5, "b:2"), nodes.changes), ("a:1", False, 0))
-        self.assertEqual((nodes.learn(5, "a:1"), nodes.changes), (True, 1))
-        self.assertEqual((nodes.learn("a:1", "x"), nodes.learn("a:1", "x"), nodes.learn("a:1", "y"), nodes.changes), (False, False, True, 2))
+        self.assertEqual((nodes.find(5), nodes.learn(5, "b:2"), nodes.has_changed), ("a:1", False, False))
+        self.assertEqual((nodes.learn(5, "a:1"), nodes.has_changed), (True, True))
+        nodes.watch()
+        self.assertEqual((nodes.learn("a:1", "x"), nodes.learn("a:1", "x"), nodes.has_changed), (False, False, False))
+        self.assertEqual((nodes.learn("a:1", "y"), nodes.has_changed), (True, True))
         with self.assertRaises(Away):
             nodes.find(5)
         nodes.watch()

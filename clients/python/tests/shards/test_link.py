@@ -8,11 +8,18 @@ from pathlib import Path
 from unittest import mock
 
 from bpfhost.shards import connection
-from bpfhost.shards.connection import Redis, forgotten
+from bpfhost.shards.cluster import Nodes
+from bpfhost.shards.connection import Redis, forgotten, xread_words
 from bpfhost.shards.errors import Away, NoScript, OutOfMemory, RedisError
-from bpfhost.shards.link import link as linked
+from bpfhost.shards.link import RedisLink
+from bpfhost.shards.system import MACHINE
 from tests.common import TimedTest
 from tests.shards.common import ShardTest
+
+
+def linked(url: str) -> RedisLink:
+    """A connection to a URL."""
+    return Nodes(url, MACHINE.link).connect("")
 
 
 class Commands(ShardTest, unittest.IsolatedAsyncioTestCase):
@@ -23,17 +30,17 @@ class Commands(ShardTest, unittest.IsolatedAsyncioTestCase):
     async def test_many_at_once(self) -> None:
         """Replies come in the order of the commands, also those that nobody waits for."""
         line = self.redis.line()
-        tasks = [line.begin("ECHO", number) for number in range(50)]
+        tasks = [self.redis.begin(line, ["ECHO", number]) for number in range(50)]
         self.assertEqual(await tasks[7], b"7")
-        blocked = line.begin_xread({"none": b"0-0"}, 1, 0.05)
-        last = line.begin("ECHO", "last")
+        blocked = self.redis.begin(line, xread_words({"none": b"0-0"}, 1, 0.05), 0.05)
+        last = self.redis.begin(line, ["ECHO", "last"])
         self.assertEqual(await asyncio.gather(*tasks[40:], blocked), [*(b"%d" % number for number in range(40, 50)), None])
         self.assertEqual(await last, b"last")
 
     async def test_what_is_refused(self) -> None:
         """A command that is refused leaves the connection as it is."""
         line = self.redis.line()
-        asked = [line.begin(*words) for words in (("NONSENSE",), ("EVALSHA", "0" * 40, 0), ("ECHO", 1), ("HGET", "x"))]
+        asked = [self.redis.begin(line, words) for words in (("NONSENSE",), ("EVALSHA", "0" * 40, 0), ("ECHO", 1), ("HGET", "x"))]
         for task, error in zip(asked, (RedisError, NoScript, None, RedisError)):
             if error:
                 with self.assertRaises(error):
@@ -42,31 +49,32 @@ class Commands(ShardTest, unittest.IsolatedAsyncioTestCase):
                 self.assertEqual(await task, b"1")
         await self.redis.call("CONFIG", "SET", "maxmemory", 1)
         with self.assertRaises(OutOfMemory):
-            await line.begin("SET", "a", "b")
+            await self.redis.begin(line, ["SET", "a", "b"])
 
     async def test_a_line_that_is_cut(self) -> None:
         """None of the sent commands has a reply, and the next command has a new connection."""
         line = self.redis.line()
-        self.assertEqual(await line.begin("ECHO", 0), b"0")
-        waits, behind = line.begin_xread({"none": b"0-0"}, 1, 60.0), line.begin("ECHO", 1)
+        self.assertEqual(await self.redis.begin(line, ["ECHO", 0]), b"0")
+        blocks = xread_words({"none": b"0-0"}, 1, 60.0)
+        waits, behind = self.redis.begin(line, blocks, 60.0), self.redis.begin(line, ["ECHO", 1])
         await asyncio.wait([waits], timeout=0.05)
         self.assertFalse(waits.done())
         line.cut()
         for task in (waits, behind):
             with self.assertRaisesRegex(Away, "Redis can't be reached: .+"):
                 await task
-        self.assertEqual(await line.begin("ECHO", 2), b"2")
+        self.assertEqual(await self.redis.begin(line, ["ECHO", 2]), b"2")
 
     async def test_a_call_that_is_cancelled(self) -> None:
         """Its reply, which comes later, is no other command's: neither of one that was sent after it, nor of the next one."""
-        line = self.redis.line()
-        for late in (line.begin_xread({"none": b"0-0"}, 1, 0.2), line.begin("ECHO", "late")):
-            behind = line.begin("ECHO", "behind")
+        line, blocks = self.redis.line(), xread_words({"none": b"0-0"}, 1, 0.2)
+        for late in (self.redis.begin(line, blocks, 0.2), self.redis.begin(line, ["ECHO", "late"])):
+            behind = self.redis.begin(line, ["ECHO", "behind"])
             await asyncio.sleep(0)
             forgotten(late)
             self.assertIn(await asyncio.gather(behind, return_exceptions=True), ([b"behind"], [mock.ANY]))
             for number in range(20):
-                self.assertEqual(await line.begin("ECHO", number), b"%d" % number)
+                self.assertEqual(await self.redis.begin(line, ["ECHO", number]), b"%d" % number)
 
     async def test_connections_that_nobody_uses(self) -> None:
         """They end after a while."""

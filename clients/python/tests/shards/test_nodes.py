@@ -5,12 +5,11 @@ from __future__ import annotations
 import asyncio
 import unittest
 from collections.abc import Sequence
-from typing import Any
+from typing import Any, cast
 
 from bpfhost.shards.cluster import Line, Nodes
 from bpfhost.shards.errors import Away, Moved
-from bpfhost.shards.link import Word
-from bpfhost.shards.system import Link
+from bpfhost.shards.link import RedisLink, Word
 
 
 class MovedLink:
@@ -32,12 +31,8 @@ class MovedLink:
 
 class SlotThatMoved(unittest.IsolatedAsyncioTestCase):
     def setUp(self) -> None:
-        self.nodes = Nodes.of("redis://a:1/0?cluster=1")
-
-        def link(_url: str) -> Link:
-            return MovedLink("b:1")
-
-        self.lines = [Line(self.nodes, link) for _ in range(2)]
+        self.nodes = Nodes("redis://a:1/0?cluster=1", lambda _kind, _words: cast(RedisLink, MovedLink("b:1")))
+        self.lines = [Line(self.nodes) for _ in range(2)]
 
     async def test_commands_behind_one_another(self) -> None:
         """One that learns first of the new node of a slot raises Away, as the history there may be another one."""

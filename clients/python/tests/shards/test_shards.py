@@ -193,18 +193,18 @@ class Calls(ShardTest):
         self.shard(0)
         customer = self.client.customer("acme")
         customer.ask(CREATE)
-        right = connection.Redis._begun
+        right = connection.Redis.begin
         lost: list[object] = []
 
         async def lose(reply: Awaitable[object]) -> object:
             lost.append(await reply)
             raise Away("cut")
 
-        def loses(redis: connection.Redis, line: Line, words: Sequence[object], wait: float) -> Awaitable[object]:
+        def loses(redis: connection.Redis, line: Line, words: Sequence[object], wait: float = 0.0) -> Awaitable[object]:
             reply = right(redis, line, words, wait)
             return lose(reply) if scripts.ASK.name(redis) in words and len(lost) < 3 else reply
 
-        with mock.patch.object(connection.Redis, "_begun", loses):
+        with mock.patch.object(connection.Redis, "begin", loses):
             self.assertEqual(customer.ask(frames.map_update_elem(0, 3, b"key1", bytes(8), 1)).status, 0)
         self.assertEqual(len(lost), 3)
         self.assertEqual(shard_of(self.client, 0)[0].xlen(ShardKeys(0).frames(0)), 2)
@@ -220,15 +220,15 @@ class Calls(ShardTest):
         """A call that was given up is refused when a delayed command with it reaches the server after all."""
         redis, keys = self.empty_shard(0)
         customer = self.client.customer("acme", seconds=0.1)
-        right, late = connection.Redis._begun, list[Sequence[object]]()
+        right, late = connection.Redis.begin, list[Sequence[object]]()
 
-        async def delays(server: connection.Redis, line: Line, words: Sequence[object], wait: float) -> object:
+        async def delays(server: connection.Redis, line: Line, words: Sequence[object], wait: float = 0.0) -> object:
             if scripts.ASK.name(server) in words and not late:
                 late.append(words)
                 raise Away("cut")
             return await right(server, line, words, wait)
 
-        with mock.patch.object(connection.Redis, "_begun", delays), mock.patch.object(names, "MOST_WAITING", 1):
+        with mock.patch.object(connection.Redis, "begin", delays), mock.patch.object(names, "MOST_WAITING", 1):
             redis.hset(keys.waiting, 0, 1)
             with self.assertRaisesRegex(NotTaken, "customer acme has as many calls waiting as one may have"):
                 customer.post(CREATE)

@@ -7,8 +7,7 @@ import socket
 import threading
 import time
 from collections.abc import Callable, Iterator, Sequence
-
-from typing import Any
+from typing import Any, cast
 
 from bpfhost import MapType, frames
 from bpfhost.library import Library
@@ -16,8 +15,8 @@ from bpfhost.shards import Settings, ShardKeys, Worker, operating
 from bpfhost.shards.connection import Redis
 from bpfhost.shards.names import MOST_WAITING
 from bpfhost.shards.serving import Serving
-from bpfhost.shards.link import Word
-from bpfhost.shards.system import MACHINE, Link, System, Work
+from bpfhost.shards.link import RedisLink, Word
+from bpfhost.shards.system import MACHINE, System, Work
 from bpfhost.shards.reading import TURN_FRAMES, share_of
 from bpfhost.state import Steps
 from tests.common import PROGRAM, HostTest
@@ -83,12 +82,12 @@ class Counting(System):
     def __init__(self) -> None:
         self.largest = 0
 
-    def link(self, url: str) -> Link:
-        return _CountingLink(self, super().link(url))
+    def link(self, kind: type[RedisLink], words: dict[str, Any]) -> RedisLink:
+        return cast(RedisLink, _CountingLink(self, super().link(kind, words)))
 
 
 class _CountingLink:
-    def __init__(self, counting: Counting, link: Link) -> None:
+    def __init__(self, counting: Counting, link: RedisLink) -> None:
         self._counting, self._link, self.cut = counting, link, link.cut
 
     @property

@@ -6,12 +6,12 @@ import asyncio
 import contextlib
 from collections.abc import Callable, Sequence
 from dataclasses import dataclass
-from typing import Any
+from typing import Any, cast
 
 from bpfhost.program import Program
 from bpfhost.shards.errors import Away, RedisError
-from bpfhost.shards.link import Word
-from bpfhost.shards.system import Asked, Link, System
+from bpfhost.shards.link import RedisLink, Word
+from bpfhost.shards.system import Asked, System
 from tests.shards.simulator.host import FakeHost
 from tests.shards.simulator.server import Scripts, Store
 from tests.shards.simulator.world import World
@@ -96,7 +96,7 @@ class Network:
 class SimulatedLink:
     """A connection of a process. The server runs commands in the order in which they were begun."""
 
-    is_over = False
+    is_over = is_checked = False
 
     def __init__(self, network: Network, url: str) -> None:
         self.network, self._server = network, network.server(url)
@@ -182,8 +182,8 @@ class Simulated(System):
     def now(self) -> float:
         return self.world.now + self._began
 
-    def link(self, url: str) -> Link:
-        return SimulatedLink(self._network, url)
+    def link(self, kind: type[RedisLink], words: dict[str, Any]) -> RedisLink:
+        return cast(RedisLink, SimulatedLink(self._network, f"redis://{words['host']}"))
 
     def host(self, program: Program, tenants: int) -> Asked:
         self.hosts.append(FakeHost())

@@ -36,7 +36,6 @@ from bpfhost.shards import (
     moving,
 )
 from bpfhost.shards.aside import Aside
-from bpfhost.shards.cluster import Nodes
 from bpfhost.shards.connection import Redis
 from bpfhost.shards.errors import RedisError
 from bpfhost.shards.operating import say
@@ -146,10 +145,10 @@ class Play:
             await asyncio.sleep(0.1)
 
     def _url(self, shard: int) -> str:
-        return (f"redis://shard-{shard}" if shard else DIRECTORY) + self._replicas
+        return _server_of(shard) + self._replicas
 
     def _server(self, shard: int) -> Server:
-        return self.network.server(Nodes.of(self._url(shard)).url)
+        return self.network.server(_server_of(shard))
 
     # Workers, which are started again when they end.
 
@@ -368,6 +367,11 @@ class Play:
                 if asked and (replied is None or (asked.added, asked.last) != (replied.added, replied.last)):
                     raise Differs(f"tenant {tenant} of shard {shard} has {asked.added} entries up to {asked.last!r}")
                 self.counts["entries"] += asked.added if asked else 0
+
+
+def _server_of(shard: int) -> str:
+    """The URL of the server of a shard, or of the directory."""
+    return f"redis://shard-{shard}" if shard else DIRECTORY
 
 
 def play(seed: int, seconds: float, tell: bool = False) -> Counter[str]:

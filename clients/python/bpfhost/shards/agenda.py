@@ -3,28 +3,22 @@
 from __future__ import annotations
 
 from collections import deque
-from typing import Protocol
+from typing import TYPE_CHECKING
 
 from bpfhost.shards.system import Work
+
+if TYPE_CHECKING:
+    from bpfhost.shards.playing import Playing
 
 # Work for one tenant, whose calls are not played meanwhile.
 Job = tuple[int, Work[None]]
 
 
-class UnderWay(Protocol):
-    """The calls that are read and played, and the replies that are written."""
-
-    async def settle(self) -> None:
-        """Waits until the replies to all that was played are written."""
-
-    def forget(self) -> None:
-        """Drops it: all tenants were restored."""
-
-
 class Agenda:
     """The jobs of one shard, in order."""
 
-    under_way: UnderWay
+    # The calls that are read and played, and the replies that are written.
+    under_way: Playing
 
     def __init__(self) -> None:
         self.jobs: deque[Job] = deque()

@@ -13,11 +13,12 @@ from __future__ import annotations
 from collections.abc import Iterable, Iterator
 
 from bpfhost import frames
+from bpfhost.host import Host
 from bpfhost.numbers import FIRST_DESCRIPTOR, MOST_DESCRIPTORS, MOST_MAPS, SOCKET_FILTER, Command
 from bpfhost.parts import in_parts
 from bpfhost.replies import Reply
 from bpfhost.shards.errors import CopyDiffers
-from bpfhost.shards.system import Asked as AskedHost
+from bpfhost.shards.library import HostHere
 from bpfhost.slots import renamed_maps
 from bpfhost.state import Pairs, Steps, read_pairs
 from bpfhost.tenancy import BODY, LiveMap, OpenProgram, Tenancy, command_of, status_of
@@ -33,7 +34,7 @@ Asked = tuple[bytes, bytes]
 class Copy:
     """The copy of one tenant, on a host of its own. It is a context manager, which ends the host."""
 
-    def __init__(self, host: AskedHost) -> None:
+    def __init__(self, host: Host | HostHere) -> None:
         self._host = host
         self._tenancy = Tenancy()
         self._numbers: dict[LiveMap | OpenProgram, int] = {}

@@ -34,7 +34,6 @@ _ERRORS: tuple[tuple[str, type[RedisError], str], ...] = (
     ("NOPERM", NotAllowed, "Redis refuses a command to this user: {rest}"),
     (".*user executing the script can't", NotAllowed, "Redis refuses a script to this user: {said}"),
     (".*OOM|.*allow-oom", OutOfMemory, "Redis has no memory: {said}"),
-    ("ERR ", RedisError, "Redis refuses a command: {rest}"),
     ("", RedisError, "Redis refuses a command: {said}"),
 )
 
@@ -56,7 +55,7 @@ def _error(said: str) -> RedisError:
     if said.startswith("MOVED "):
         return Moved(rest.split()[1])
     kind, sentence = next((kind, sentence) for begins, kind, sentence in _ERRORS if re.match(begins, said))
-    return kind(sentence.format(said=said, rest=rest))
+    return kind(sentence.format(said=said.removeprefix("ERR "), rest=rest))
 
 
 def packed(words: Sequence[Word]) -> bytes:
@@ -90,9 +89,8 @@ class RedisLink(asyncio.BufferedProtocol):
         """The arguments are those of the library's class."""
         super().__init__(**words)
         self._replies, self._read = library("hiredis").Reader(protocolError=RedisError, replyError=_error), bytearray(_READ_AT_ONCE)
-        # Who waits, and until when; and until when the first of them does.
+        # Who waits, and until when.
         self._waiting: deque[tuple[asyncio.Future[Any], float]] = deque()
-        self._due = math.inf
         # What is written before the library has logged in is sent then.
         self._unsent: list[bytes] = []
         self._write: Callable[[bytes], object] = self._unsent.append
@@ -104,7 +102,7 @@ class RedisLink(asyncio.BufferedProtocol):
         reply, until = self._loop.create_future(), self._loop.time() + seconds
         self._waiting.append((reply, until))
         self._write(packed(words))
-        if until < self._due:
+        if not self._timer or until < self._timer.when():
             self._look()
         return reply
 
@@ -136,11 +134,10 @@ class RedisLink(asyncio.BufferedProtocol):
         """Ends the connection if a reply is overdue, and looks again when the next one is."""
         if self._timer:
             self._timer.cancel()
-        self._due = min((until for reply, until in self._waiting if not reply.done()), default=math.inf)
-        if self._due <= self._loop.time():
+        due = min((until for reply, until in self._waiting if not reply.done()), default=math.inf)
+        self._timer = self._loop.call_at(due, self._look) if due < math.inf else None
+        if due <= self._loop.time():
             self.cut(TimeoutError())
-        elif self._due < math.inf:
-            self._timer = self._loop.call_at(self._due, self._look)
 
     def cut(self, error: Exception = OSError("the connection was cut")) -> None:
         """Ends the connection: no more replies come to what was sent."""
@@ -148,8 +145,6 @@ class RedisLink(asyncio.BufferedProtocol):
             return
         self.is_over = True
         self._opening.cancel()
-        if self._timer:
-            self._timer.cancel()
         if self.transport:
             self.transport.abort()
         for reply, _ in self._waiting:

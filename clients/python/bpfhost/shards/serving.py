@@ -22,7 +22,6 @@ from bpfhost.shards.copied import Asked, Copy
 from bpfhost.shards.errors import CopyDiffers, MemoryRefused, ShardError, StateRefused
 from bpfhost.shards.library import HostHere
 from bpfhost.shards.names import FAULT, REPLIES, weight
-from bpfhost.shards.system import Asked as AskedHost
 from bpfhost.shards.steps import in_steps, step
 from bpfhost.shards.system import System, Work
 from bpfhost.state import FILLER, Steps, read_pairs, same_pairs, split, state_frames, wanted_status, with_tenant
@@ -73,7 +72,7 @@ class Serving:
         self.is_new = True
         self.tenancies = [Tenancy() for _ in range(MOST_TENANTS)]
 
-    def _new_host(self, tenants: int) -> AskedHost:
+    def _new_host(self, tenants: int) -> Host | HostHere:
         if self._library and not self.is_careful:
             return HostHere(self._library, tenants)
         return self._system.host(self._program, tenants)

@@ -8,22 +8,15 @@ from __future__ import annotations
 import time
 import uuid
 from collections.abc import Coroutine
-from typing import Any, Protocol, TypeVar
+from typing import Any, TypeVar
 
 from bpfhost.host import Host
 from bpfhost.program import Program
 from bpfhost.shards.link import RedisLink
-from bpfhost.state import AsksBytes
 
 Answer = TypeVar("Answer")
 # Work in an event loop.
 Work = Coroutine[Any, Any, Answer]
-
-
-class Asked(AsksBytes, Protocol):
-    """A host that takes many frames at once, and can be ended."""
-
-    def kill(self) -> None: ...
 
 
 class System:
@@ -35,7 +28,7 @@ class System:
     def link(self, kind: type[RedisLink], words: dict[str, Any]) -> RedisLink:
         return kind(**words)
 
-    def host(self, program: Program, tenants: int) -> Asked:
+    def host(self, program: Program, tenants: int) -> Host:
         host = Host(program, tenants)
         host.widen()
         return host

@@ -8,10 +8,11 @@ from collections.abc import Callable, Sequence
 from dataclasses import dataclass
 from typing import Any, cast
 
+from bpfhost.host import Host
 from bpfhost.program import Program
 from bpfhost.shards.errors import Away, RedisError
 from bpfhost.shards.link import RedisLink, Word
-from bpfhost.shards.system import Asked, System
+from bpfhost.shards.system import System
 from tests.shards.simulator.host import FakeHost
 from tests.shards.simulator.server import Scripts, Store
 from tests.shards.simulator.world import World
@@ -185,9 +186,9 @@ class Simulated(System):
     def link(self, kind: type[RedisLink], words: dict[str, Any]) -> RedisLink:
         return cast(RedisLink, SimulatedLink(self._network, f"redis://{words['host']}"))
 
-    def host(self, program: Program, tenants: int) -> Asked:
+    def host(self, program: Program, tenants: int) -> Host:
         self.hosts.append(FakeHost())
-        return self.hosts[-1]
+        return cast(Host, self.hosts[-1])
 
     def fresh(self) -> str:
         return self.world.fresh()

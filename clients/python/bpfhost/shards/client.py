@@ -350,26 +350,23 @@ class AsyncCustomer:
 
     async def _replies(self, ticket: Ticket, place: Place, deadline: float) -> bytes:
         redis, keys = await self._shard(place.shard, deadline)
+        redis, name, behind = redis.patient(deadline), keys.replies(place.tenant), before(place.entry)
         try:
-            return await self._replies_from(redis.patient(deadline), keys, ticket, place, deadline)
+            while True:
+                wait = min(_SECONDS_TO_LOOK, deadline - self._system.now())
+                # The first reply after the last id below this one is the reply to this call, since each call has one.
+                many = max(1, len(self._unread))
+                found = (await redis.xread({name: behind}, many, wait)).get(name)
+                if found and found[0][0] == place.entry:
+                    self._note_read(place, found)
+                    return self._said(found[0][1], ticket)
+                if found:
+                    raise await self._gone(redis, keys, place, ticket)
+                await self._demand_hope(redis, keys, place, ticket)
+                if self._system.now() >= deadline:
+                    raise NoReply(f"shard {place.shard} has not answered entry {place.entry.decode()}: does its worker run?", ticket)
         except Away as away:
             raise NoReply(f"customer {self.name} waits for a reply: {away}", ticket) from None
-
-    async def _replies_from(self, redis: Redis, keys: ShardKeys, ticket: Ticket, place: Place, deadline: float) -> bytes:
-        name, behind = keys.replies(place.tenant), before(place.entry)
-        while True:
-            wait = min(_SECONDS_TO_LOOK, deadline - self._system.now())
-            # The first reply after the last id below this one is the reply to this call, since each call has one.
-            many = max(1, len(self._unread))
-            found = (await redis.xread({name: behind}, many, wait)).get(name)
-            if found and found[0][0] == place.entry:
-                self._note_read(place, found)
-                return self._said(found[0][1], ticket)
-            if found:
-                raise await self._gone(redis, keys, place, ticket)
-            await self._demand_hope(redis, keys, place, ticket)
-            if self._system.now() >= deadline:
-                raise NoReply(f"shard {place.shard} has not answered entry {place.entry.decode()}: does its worker run?", ticket)
 
     def _note_read(self, place: Place, found: Sequence[Entry]) -> None:
         """Gives replies to the calls that they belong to, after the first of them, which is returned to the caller."""

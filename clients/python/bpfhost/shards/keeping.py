@@ -12,7 +12,7 @@ from collections.abc import Callable, Sequence
 from bpfhost.shards import scripts
 from bpfhost.shards.client import NAMELESS
 from bpfhost.shards.log import Log, Mark, Since
-from bpfhost.shards.manifest import Manifest, pieces_of
+from bpfhost.shards.manifest import PIECE, Manifest
 from bpfhost.shards.metrics import Told
 from bpfhost.shards.names import START, after, order
 from bpfhost.shards.serving import Serving
@@ -75,9 +75,10 @@ class Keeping:
         """Stores the state of a tenant, in pieces that no manifest names yet."""
         stream = await serving.state(log.tenant, log.last_snapshot, log.history)
         name, digest = self._redis.system.fresh(), hashlib.sha256()
-        for at, piece in enumerate(pieces_of(stream)):
+        for at in range(0, len(stream), PIECE):
+            piece = stream[at : at + PIECE]
             digest.update(piece)
-            await self._writing.note(self._keys.pieces, f"{name}:{at}", piece)
+            await self._writing.note(self._keys.pieces, f"{name}:{at // PIECE}", piece)
             await step()
         return Manifest(log.place.decode(), self._build, name, len(stream), digest.hexdigest()).summed()
 

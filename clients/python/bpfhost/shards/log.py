@@ -2,6 +2,7 @@
 
 from __future__ import annotations
 
+import hashlib
 from collections.abc import AsyncIterator, Callable
 from dataclasses import dataclass, field
 
@@ -10,8 +11,9 @@ from bpfhost.shards.calls import Arrives, Call, Leaves, item_of
 from bpfhost.shards.connection import Entry, Redis
 from bpfhost.shards.copied import Asked
 from bpfhost.shards.errors import ShardError, SnapshotDamaged
-from bpfhost.shards.manifest import Manifest, read_pieces
+from bpfhost.shards.manifest import Manifest
 from bpfhost.shards.names import REPLIES, START, ShardKeys, after, order
+from bpfhost.shards.steps import step
 from bpfhost.shards.system import Work
 from bpfhost.state import split
 
@@ -117,9 +119,21 @@ class Log:
         if not await self.redis.xrange(self.frames, after(self.place), b"+", 1):
             await note(self.keys.waiting, self.tenant, b"0")
 
-    def stream_of(self, manifest: Manifest) -> Work[bytes]:
-        """The frames of a snapshot, in steps; raises SnapshotDamaged if they are not those that were written."""
-        return read_pieces(self.redis, self.keys.pieces, manifest)
+    async def stream_of(self, manifest: Manifest) -> bytes:
+        """The frames of a snapshot, in steps; raises SnapshotDamaged if a piece is missing or anything of it differs from what was written."""
+        stream, digest = bytearray(), hashlib.sha256()
+        for name in manifest.names():
+            piece = await self.redis.hget(self.keys.pieces, name)
+            if piece is None:
+                raise SnapshotDamaged(f"the snapshot at {manifest.place} has no piece {name} any more")
+            stream += piece
+            digest.update(piece)
+            await step()
+        if len(stream) != manifest.size:
+            raise SnapshotDamaged(f"the snapshot at {manifest.place} has {len(stream)} bytes, and had {manifest.size}")
+        if digest.hexdigest() != manifest.digest:
+            raise SnapshotDamaged(f"the checksum of the snapshot at {manifest.place} is wrong")
+        return bytes(stream)
 
     async def last_snapshot(self) -> bytes:
         """The frames of the last snapshot, in steps."""

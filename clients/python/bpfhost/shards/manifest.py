@@ -8,12 +8,9 @@ from __future__ import annotations
 
 import hashlib
 import json
-from collections.abc import Iterator
 from dataclasses import asdict, dataclass, replace
 
-from bpfhost.shards.connection import Redis
 from bpfhost.shards.errors import SnapshotDamaged
-from bpfhost.shards.steps import step
 
 VERSION = 1
 PIECE = 1 << 18
@@ -69,26 +66,3 @@ class Manifest:
     def names(self) -> list[str]:
         """The names of its pieces."""
         return [f"{self.name}:{at}" for at in range((self.size + PIECE - 1) // PIECE)]
-
-
-def pieces_of(stream: bytes) -> Iterator[bytes]:
-    """Splits frames into pieces."""
-    for at in range(0, len(stream), PIECE):
-        yield stream[at : at + PIECE]
-
-
-async def read_pieces(redis: Redis, pieces: str, manifest: Manifest) -> bytes:
-    """The frames of a snapshot, in steps; raises SnapshotDamaged if a piece is missing or anything of it differs from what was written."""
-    stream, digest = bytearray(), hashlib.sha256()
-    for name in manifest.names():
-        piece = await redis.hget(pieces, name)
-        if piece is None:
-            raise SnapshotDamaged(f"the snapshot at {manifest.place} has no piece {name} any more")
-        stream += piece
-        digest.update(piece)
-        await step()
-    if len(stream) != manifest.size:
-        raise SnapshotDamaged(f"the snapshot at {manifest.place} has {len(stream)} bytes, and had {manifest.size}")
-    if digest.hexdigest() != manifest.digest:
-        raise SnapshotDamaged(f"the checksum of the snapshot at {manifest.place} is wrong")
-    return bytes(stream)

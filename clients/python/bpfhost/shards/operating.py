@@ -67,9 +67,13 @@ async def say(client: AsyncClient, name: str, word: str, seconds: float) -> str:
 
 @dataclass(frozen=True)
 class _Lease:
-    token: bytes
-    count: bytes
-    seconds: float
+    """A lease, and the weight of the calls that wait; or why the shard's Redis does not report them."""
+
+    token: bytes = b""
+    count: bytes = b""
+    seconds: float = 0.0
+    waiting: int | None = None
+    unreachable: str = ""
 
 
 @dataclass(frozen=True)
@@ -104,22 +108,19 @@ class Seen:
 async def look(client: AsyncClient) -> Seen:
     """Reads the whole state; reads the leases twice, to see whether they are raised."""
     loads, drained, beats = await client.directory.loads(), await client.directory.drained(), await client.directory.beats()
-    first = {shard: await _told(client, shard, _lease) for shard in loads}
-    held = [lease.seconds for lease in first.values() if isinstance(lease, _Lease) and lease.token]
+    first = {shard: await _lease(client, shard) for shard in loads}
+    held = [lease.seconds for lease in first.values() if lease.token]
     if held:
         await asyncio.sleep(min(_SECONDS_TO_ANSWER, max(held) * 0.7))
     customers, shards = await client.directory.customers(), []
     for shard, load in sorted(loads.items()):
-        second, waits = await _told(client, shard, _lease), await _told(client, shard, _waiting)
+        lease, before = await _lease(client, shard), first[shard]
+        raises = bool(lease.token) and (lease.token, lease.count) != (before.token, before.count)
         wrong = await _told(client, shard, lambda redis, _keys: demand_durable(redis))
-        if isinstance(second, RedisError):
-            served_by, raises, unreachable = "", False, str(second)
-        else:
-            served_by, raises, unreachable = holder_of(second.token), _is_raised(first[shard], second), ""
-        waiting = None if isinstance(waits, RedisError) else waits
         # If it can't be reached, the shard's lease shows that.
-        why = "" if isinstance(wrong, Away) else str(wrong)
-        shards.append(SeenShard(shard, load, waiting, served_by, raises, shard in beats, shard in drained, unreachable, why))
+        why, holder = "" if isinstance(wrong, Away) else str(wrong), holder_of(lease.token)
+        offered, is_drained = shard in beats, shard in drained
+        shards.append(SeenShard(shard, load, lease.waiting, holder, raises, offered, is_drained, lease.unreachable, why))
     return Seen(shards, await client.directory.moves(), [one async for one in _asides(client, customers)], customers)
 
 
@@ -167,18 +168,14 @@ async def _told(client: AsyncClient, shard: int, ask: Callable[[Redis, ShardKeys
         return error
 
 
-async def _lease(redis: Redis, keys: ShardKeys) -> _Lease:
-    said = await redis.hgetall(keys.lease)
-    return _Lease(said.get(b"token", b""), said.get(b"count", b"0"), int(said.get(b"milliseconds", b"0")) / 1000)
+async def _lease(client: AsyncClient, shard: int) -> _Lease:
+    async def read(redis: Redis, keys: ShardKeys) -> _Lease:
+        said, waiting = await redis.hgetall(keys.lease), await redis.hgetall(keys.waiting)
+        seconds = int(said.get(b"milliseconds", b"0")) / 1000
+        return _Lease(said.get(b"token", b""), said.get(b"count", b"0"), seconds, sum(map(int, waiting.values())))
 
-
-async def _waiting(redis: Redis, keys: ShardKeys) -> int:
-    return sum(map(int, (await redis.hgetall(keys.waiting)).values()))
-
-
-def _is_raised(first: _Lease | RedisError, second: _Lease) -> bool:
-    """Whether a lease was raised between two reads, or is another worker's."""
-    return bool(second.token) and (not isinstance(first, _Lease) or (first.token, first.count) != (second.token, second.count))
+    found = await _told(client, shard, read)
+    return _Lease(unreachable=str(found)) if isinstance(found, RedisError) else found
 
 
 def _health(seen: SeenShard) -> str:

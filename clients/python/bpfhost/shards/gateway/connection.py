@@ -15,7 +15,7 @@ from bpfhost.shards.calls import LONGEST_CALL, MOST_FRAMES
 from bpfhost.shards.client import NAMELESS, AsyncCustomer
 from bpfhost.shards.errors import CallPassed, NoReply, NotDone, NotTaken, ReplyGone, SessionPassed, SetAside, ShardError
 from bpfhost.shards.gateway.customers import Known
-from bpfhost.shards.gateway.protocol import LONGEST_HELLO, Incoming, Refusal, Why, Word, hello_size, read_hello, told
+from bpfhost.shards.gateway.protocol import Incoming, Refusal, Why, Word, hello_size, read_hello, told
 from bpfhost.shards.system import Answer, Work
 from bpfhost.shards.tickets import Ticket
 from bpfhost.state import split
@@ -104,9 +104,8 @@ class Connection:
         return Refusal(Why.AGAIN, f"{self._limits.unknown} connections have come since that have not said who they are")
 
     async def _serve(self) -> None:
-        first, rest = await self._first()
-        await self._greet(first)
-        reading = asyncio.create_task(self._read(rest))
+        await self._greet(await self._first())
+        reading = asyncio.create_task(self._read())
         try:
             await self._call()
         finally:
@@ -116,19 +115,15 @@ class Connection:
 
     # The customer.
 
-    async def _first(self) -> tuple[bytes, bytes]:
-        """The first frame, and what came after it."""
-        held, seconds = bytearray(), self._limits.seconds_silent
+    async def _first(self) -> bytes:
+        """The first frame."""
+        seconds = self._limits.seconds_silent
         try:
             async with asyncio.timeout(seconds):
-                while (size := hello_size(held)) is None:
-                    data = await self._reader.read(LONGEST_HELLO)
-                    if not data:
-                        raise ConnectionResetError
-                    held += data
+                length = await self._reader.readexactly(4)
+                return length + await self._reader.readexactly(hello_size(length))
         except TimeoutError:
             raise Refusal(Why.SLOW, f"nobody said within {seconds:g} s which customer this is") from None
-        return bytes(held[:size]), bytes(held[size:])
 
     async def _greet(self, first: bytes) -> None:
         """Identifies the customer, and sends the replies that a session lacks."""
@@ -167,11 +162,9 @@ class Connection:
 
     # Frames.
 
-    async def _read(self, came: bytes) -> None:
+    async def _read(self) -> None:
         """Reads frames as long as there is room, until they end. A fault is reported after the replies to what came before it."""
         try:
-            self._incoming.feed(came)
-            self._came.set()
             while data := await self._read_some():
                 self._incoming.feed(data)
                 self._came.set()

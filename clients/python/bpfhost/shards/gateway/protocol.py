@@ -102,14 +102,12 @@ def read_told(reply: bytes) -> tuple[Word, Why | None, Mapping[str, Any]]:
     return Word(command_of(reply)), Why(-status) if status else None, found
 
 
-def hello_size(held: bytes | bytearray) -> int | None:
-    """The length of the first frame, once it is whole; raises Refusal if it is longer than such a frame may be, or shorter."""
-    if len(held) < 4:
-        return None
-    size = 4 + int.from_bytes(held[:4], "little")
-    if not BODY <= size <= LONGEST_HELLO:
+def hello_size(length: bytes) -> int:
+    """The bytes of the first frame after its length; raises Refusal if it is longer than such a frame may be, or shorter."""
+    size = int.from_bytes(length, "little")
+    if not BODY <= 4 + size <= LONGEST_HELLO:
         raise Refusal(Why.WRONG, f"a connection begins with a frame of at most {LONGEST_HELLO} bytes that says who the customer is")
-    return size if len(held) >= size else None
+    return size
 
 
 def read_hello(frame: bytes) -> tuple[str | None, str | None, int]:

@@ -39,9 +39,7 @@ class Upkeep:
             return
         if self._serving.is_used_up:
             await self._replace_host()
-            return
-        due = keeping.due(logs, agenda.busy)
-        if due is not None:
+        elif due := keeping.due(logs, agenda.busy):
             await agenda.begin(due.tenant, keeping.snapshot(self._serving, due))
         else:
             await keeping.look_at_bytes(logs, agenda.begin, agenda.busy)

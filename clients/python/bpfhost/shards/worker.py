@@ -71,8 +71,7 @@ class Worker:
         self._serving = serving = Serving(program, redis.system, self._lease.at_work, library, settings.most_asked)
         writing = Writing(self._redis, keys, self._lease)
         self._keeping = keeping = Keeping(writing, settings, build_of(library.path if library else program), self.metrics)
-        self._tenants, self._agenda = Tenants(writing, tell), Agenda()
-        tenants, agenda = self._tenants, self._agenda
+        self._tenants, self._agenda = tenants, agenda = Tenants(writing, tell), Agenda()
         self._states = states = States(serving, tenants, agenda, keeping, patience, self.metrics)
         self._suspects = suspects = Suspects(tenants, states, keeping.failed, patience)
         self._upkeep = Upkeep(serving, tenants, agenda, keeping, states, patience)

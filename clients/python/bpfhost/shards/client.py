@@ -37,8 +37,8 @@ from bpfhost.shards.tickets import Gathered, Part, Place, Ticket
 
 SECONDS = 30.0
 _PAUSE, _LONGEST_PAUSE = 0.005, 0.1
-# While it waits for a reply, the client checks so often whether the call is set aside.
-_SECONDS_TO_LOOK = 1.0
+# A call is given up within so many seconds.
+_SECONDS_TO_GIVE_UP = 1.0
 # The replies to so many calls, which a caller has sent and not waited for, are read together at most.
 _MOST_UNREAD = 16
 # The prefix of generated names of sessions; these are forgotten after a day in which the shard was served.
@@ -310,7 +310,7 @@ class AsyncCustomer:
 
     async def _give_up(self, ticket: Ticket, seat: Seat, why: str) -> None:
         """Ensures that a call is not taken later, even if a command with it is still in transit to the server."""
-        deadline = self._system.now() + _SECONDS_TO_LOOK
+        deadline = self._system.now() + _SECONDS_TO_GIVE_UP
         redis, keys = await self._shard(seat.shard, deadline)
         used = [keys.sessions(seat.generation), keys.lease]
         what, *said = await scripts.GIVE_UP(redis.patient(deadline), used, [ticket.session, ticket.number, ticket.given_up])
@@ -353,10 +353,8 @@ class AsyncCustomer:
         redis, name, behind = redis.patient(deadline), keys.replies(place.tenant), before(place.entry)
         try:
             while True:
-                wait = min(_SECONDS_TO_LOOK, deadline - self._system.now())
                 # The first reply after the last id below this one is the reply to this call, since each call has one.
-                many = max(1, len(self._unread))
-                found = (await redis.xread({name: behind}, many, wait)).get(name)
+                found = await redis.xread(name, behind, max(1, len(self._unread)))
                 if found and found[0][0] == place.entry:
                     self._note_read(place, found)
                     return self._said(found[0][1], ticket)

@@ -18,8 +18,8 @@ from bpfhost.shards.names import START, before
 from bpfhost.shards.system import MACHINE, System
 
 DEFAULT_URL = "redis://127.0.0.1:6379/0"
-# A server that does not reply for so many seconds is taken to be away. No call blocks for longer than LONGEST_WAIT.
-_SECONDS_TO_ANSWER, LONGEST_WAIT = 30.0, 5.0
+# A server that does not reply for so many seconds is taken to be away. A call blocks for so many seconds at most.
+_SECONDS_TO_ANSWER, _SECONDS_TO_BLOCK = 30.0, 1.0
 _LEAST_SECONDS, _SECONDS_FOR_AN_ANSWER = 0.25, 0.2
 _PAUSE, _LONGEST_PAUSE = 0.01, 0.25
 # Redis has flags of scripts from this version on.
@@ -176,12 +176,12 @@ class Redis:
         """Entries from one id up to another one, at most so many; a `(` before an id excludes it."""
         return _entries(await self.call("XRANGE", name, least, most, "COUNT", many))
 
-    async def xread(self, places: Mapping[str, bytes], many: int, wait: float) -> dict[str, list[Entry]]:
-        """Entries of streams after given ids, at most so many of each; waits so many seconds if there is none."""
+    async def xread(self, name: str, place: bytes, many: int) -> list[Entry]:
+        """Entries of a stream after an id, at most so many; waits a little if there is none."""
         # The server replies before the client gives the call up.
         left = self._deadline - self.system.now()
-        wait = max(0.0, min(wait, LONGEST_WAIT, left - min(_SECONDS_FOR_AN_ANSWER, left / 2)))
-        return entries_of(await self.call(*xread_words(places, many, wait), wait=wait))
+        wait = max(0.0, min(_SECONDS_TO_BLOCK, left - min(_SECONDS_FOR_AN_ANSWER, left / 2)))
+        return entries_of(await self.call(*xread_words({name: place}, many, wait), wait=wait)).get(name, [])
 
     async def stream(self, name: str) -> dict[bytes, Any]:
         """What Redis reports of a stream (XINFO STREAM): empty if there is no such stream."""

@@ -21,7 +21,6 @@ from bpfhost.shards.manifest import Manifest
 from bpfhost.shards.names import FAULT, ShardKeys, before, order
 
 SECONDS = 60.0
-_PAUSE, _SECONDS_TO_LOOK = 0.005, 1.0
 _AT_ONCE = 500
 
 
@@ -126,8 +125,7 @@ class _Move:
         """The reply to an entry with which a tenant leaves or arrives; empty if the reply was dropped since."""
         name, behind = keys.replies(tenant), before(entry)
         while True:
-            wait = min(_SECONDS_TO_LOOK, self._deadline - self._client.system.now())
-            found = (await redis.xread({name: behind}, 1, wait)).get(name)
+            found = await redis.xread(name, behind, 1)
             if found:
                 return found[0][1] if found[0][0] == entry else {}
             kept = await redis.hget(keys.aside, tenant)

@@ -291,7 +291,7 @@ class Connection:
         """Sends the reason why the connection ends, once."""
         if not self._has_told_end:
             self._has_told_end = True
-            self._gateway.refused(refusal.why)
+            self._gateway.told.add("bpfhost_gateway_refusals_total", label=refusal.why.name.lower())
             with contextlib.suppress(ConnectionError, ssl.SSLError, RuntimeError):
                 self._write(told(Word.END, refusal.why, why=str(refusal), taken=self._taken))
 

@@ -241,10 +241,6 @@ class Gateway:
         self.told.add("bpfhost_gateway_bytes_total", size, customer)
         self.told.saw("bpfhost_gateway_call_seconds", seconds, customer)
 
-    def refused(self, why: Why) -> None:
-        """Counts a connection that is ended."""
-        self.told.add("bpfhost_gateway_refusals_total", label=why.name.lower())
-
     def _numbers(self) -> Numbers:
         """Metrics that are computed when they are read."""
         return {

@@ -7,7 +7,7 @@ from __future__ import annotations
 
 import asyncio
 import contextlib
-from collections.abc import Callable
+from collections.abc import Callable, Mapping
 from typing import TypeVar
 
 from bpfhost.shards import moving
@@ -31,7 +31,7 @@ class _Watch:
     def __init__(self) -> None:
         self._seen: dict[object, tuple[object, float]] = {}
 
-    def stood_still(self, seen: dict[Seen, object], now: float, seconds: float) -> list[Seen]:
+    def stood_still(self, seen: Mapping[Seen, object], now: float, seconds: float) -> list[Seen]:
         """Those that have been the same for so many seconds."""
         self._seen = {name: self._seen[name] if name in self._seen and self._seen[name][0] == what else (what, now) for name, what in seen.items()}
         return [name for name in seen if self._seen[name][1] <= now - seconds]
@@ -67,16 +67,15 @@ class Attending:
     async def _attend(self) -> None:
         await self._directory.beat(self._shard, self._incarnation)
         now = self._system.now()
-        beats: dict[int, object] = dict(await self._directory.beats())
+        beats = await self._directory.beats()
         for shard in self._beats.stood_still(beats, now, _BEATS_MISSED * self._seconds):
             if shard != self._shard:
-                await self._directory.withdraw(shard, bytes(beats[shard]))  # type: ignore[call-overload]
+                await self._directory.withdraw(shard, beats[shard])
         await self._end_moves(now)
 
     async def _end_moves(self, now: float) -> None:
         """Ends moves from this shard or to it that did not change for a while."""
-        moves: dict[str, object] = dict(await self._directory.moves())
-        for name in self._moves.stood_still(moves, now, _BEATS_OF_A_MOVE * self._seconds):
+        for name in self._moves.stood_still(await self._directory.moves(), now, _BEATS_OF_A_MOVE * self._seconds):
             seat, next_seat = await self._directory.seat(name), (await self._directory.moves()).get(name)
             if self._shard in (seat and seat.shard, next_seat and next_seat.shard):
                 async with AsyncClient(self._directory.redis.url, self._directory.keys.prefix, self._system) as client:

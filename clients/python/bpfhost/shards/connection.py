@@ -17,13 +17,10 @@ from bpfhost.shards.link import Word, library
 from bpfhost.shards.names import START, before
 from bpfhost.shards.system import MACHINE, System
 
-DEFAULT_URL = "redis://127.0.0.1:6379/0"
 # A server that does not reply for so many seconds is taken to be away. A call blocks for so many seconds at most.
 _SECONDS_TO_ANSWER, _SECONDS_TO_BLOCK = 30.0, 1.0
 _LEAST_SECONDS, _SECONDS_FOR_AN_ANSWER = 0.25, 0.2
 _PAUSE, _LONGEST_PAUSE = 0.01, 0.25
-# Redis has flags of scripts from this version on.
-_LEAST_VERSION = (7, 0)
 
 # A connection that was not used for so many seconds ends.
 SECONDS_IDLE = 30.0
@@ -33,7 +30,7 @@ Entry = tuple[bytes, dict[bytes, bytes]]
 
 def redis_url(url: str | None = None) -> str:
     """A URL, as `redis://host:6379/0` or `unix:///path`; the default is that of the variable BPFHOST_REDIS, or of this machine's Redis."""
-    return url or os.environ.get("BPFHOST_REDIS") or DEFAULT_URL
+    return url or os.environ.get("BPFHOST_REDIS") or "redis://127.0.0.1:6379/0"
 
 
 def without_secrets(url: str) -> str:
@@ -277,5 +274,5 @@ def _demand(name: str, has: str, wanted: str) -> None:
 async def demand_version(redis: Redis) -> None:
     """Raises RedisError if the server is too old for flags of scripts."""
     version = (await told_by(redis, "server")).get("redis_version", "0.0")
-    if tuple(map(int, version.split(".")[:2])) < _LEAST_VERSION:
+    if tuple(map(int, version.split(".")[:2])) < (7, 0):
         raise RedisError(f"Redis is of version {version}, and shards need one from 7.0 on")

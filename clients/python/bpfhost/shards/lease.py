@@ -14,7 +14,7 @@ from collections.abc import Callable
 
 from bpfhost.shards import scripts
 from bpfhost.shards.connection import Redis
-from bpfhost.shards.errors import Away, LeaseHeld, LeaseLost, RedisError, Stopped
+from bpfhost.shards.errors import LeaseHeld, LeaseLost, RedisError, Stopped
 from bpfhost.shards.names import ShardKeys
 
 SECONDS = 5.0

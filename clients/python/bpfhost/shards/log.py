@@ -120,7 +120,10 @@ class Log:
             await note(self.keys.waiting, self.tenant, b"0")
 
     async def stream_of(self, manifest: Manifest) -> bytes:
-        """The frames of a snapshot, in steps; raises SnapshotDamaged if a piece is missing or anything of it differs from what was written."""
+        """The frames of a snapshot, in steps.
+
+        Raises SnapshotDamaged if a piece is missing, or anything of it differs from what was written.
+        """
         stream, digest = bytearray(), hashlib.sha256()
         for name in manifest.names():
             piece = await self.redis.hget(self.keys.pieces, name)

@@ -41,10 +41,6 @@ class Manifest:
         """The same frames, as the snapshot at another entry."""
         return replace(self, place=place.decode()).summed()
 
-    def renamed(self, name: str) -> Manifest:
-        """The same frames in pieces with another name. The checksum does not cover the name."""
-        return replace(self, name=name)
-
     def to_bytes(self) -> bytes:
         """Its bytes as Redis keeps them."""
         return json.dumps(asdict(self), sort_keys=True).encode()

@@ -66,19 +66,21 @@ class Told:
     """Metrics that a process counts, and those that are computed when they are read."""
 
     def __init__(self, known: Mapping[str, Metric], look: Callable[[], Numbers] = dict) -> None:
-        self._look, self._made, self._registry = look, dict[str, Any](), None
+        self._look, self._made = look, dict[str, Any]()
+        # None if nothing is counted.
+        self.registry: Any = None
         # The time at which each metric was made is of no use here.
         os.environ.setdefault("PROMETHEUS_DISABLE_CREATED_SERIES", "true")
         try:
             client = library("prometheus_client")
         except MissingPackage:
             return
-        self._registry = client.CollectorRegistry()
+        self.registry = client.CollectorRegistry()
         for name, metric in known.items():
             words = {"buckets": _BUCKETS} if metric.kind == "Histogram" else {}
             labels = [metric.label] if metric.label else []
-            self._made[name] = getattr(client, metric.kind)(name, metric.what, labels, registry=self._registry, **words)
-        client.ProcessCollector(registry=self._registry)
+            self._made[name] = getattr(client, metric.kind)(name, metric.what, labels, registry=self.registry, **words)
+        client.ProcessCollector(registry=self.registry)
 
     def _of(self, name: str, label: str) -> Any:
         made = self._made.get(name)
@@ -99,17 +101,12 @@ class Told:
         if made := self._of(name, label):
             made.observe(seconds)
 
-    def value(self, name: str, **labels: str) -> float:
-        """The value of a metric that is counted; 0 if nothing is."""
-        said = self._registry.get_sample_value(name, labels) if self._registry else None
-        return said or 0.0
-
     def text(self) -> str:
         """All of them, in Prometheus's text format; raises MissingPackage without the library."""
         client = library("prometheus_client")
         for name, value in self._look().items():
             self.set(name, value)
-        text: bytes = client.generate_latest(self._registry)
+        text: bytes = client.generate_latest(self.registry)
         return text.decode()
 
 

@@ -8,7 +8,7 @@ is turned back: the customer gets a new seat on the old shard.
 from __future__ import annotations
 
 from collections.abc import Iterable
-from dataclasses import dataclass
+from dataclasses import dataclass, replace
 
 from bpfhost.parts import in_parts
 from bpfhost.shards import scripts
@@ -161,7 +161,8 @@ class _Move:
 
     async def _bring(self, redis: Redis, keys: ShardKeys, next_seat: Seat, manifest: Manifest) -> Manifest:
         """Copies the pieces of the state to the next shard, under names of this arrival."""
-        arriving = manifest.renamed(arrival(next_seat.generation))
+        # The checksum does not cover the name.
+        arriving = replace(manifest, name=arrival(next_seat.generation))
         for old, new in zip(manifest.names(), arriving.names()):
             piece = await self._redis.hget(self._keys.pieces, old)
             if piece is not None:

@@ -124,13 +124,8 @@ async def look(client: AsyncClient) -> Seen:
     return Seen(shards, await client.directory.moves(), [one async for one in _asides(client, customers)], customers)
 
 
-async def show(client: AsyncClient) -> list[str]:
-    """Lines on the shards, moves, what is set aside, and customers."""
-    return list(lines(await look(client)))
-
-
 def lines(seen: Seen) -> Iterator[str]:
-    """The state, in lines."""
+    """Lines on the shards, moves, what is set aside, and customers."""
     for one in seen.shards:
         offered = "drained" if one.drained else "" if one.offered else "not offered"
         waits = f"{one.waiting // CALL_WEIGHT} KiB of calls wait" if one.waiting is not None else ""

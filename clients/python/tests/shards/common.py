@@ -17,6 +17,7 @@ from bpfhost.shards import operating
 from bpfhost.shards.client import AsyncClient
 from bpfhost.shards.connection import Redis
 from bpfhost.shards.directory import Seat
+from bpfhost.shards.metrics import Told
 from bpfhost.shards.registering import register
 from bpfhost.shards.system import Work
 from tests.common import PROGRAM, HostTest
@@ -70,6 +71,16 @@ def did(
 ) -> Answer:
     """The result of a function for an asynchronous client."""
     return client.loop.run(call(client.aio, *args, **words))
+
+
+def shown(client: Client) -> str:
+    """What an operator sees of all shards, moves and customers."""
+    return "\n".join(operating.lines(did(client, operating.look)))
+
+
+def counted(told: Told, name: str, **labels: str) -> float:
+    """The value of a metric; 0 if nothing is counted."""
+    return (told.registry and told.registry.get_sample_value(name, labels)) or 0.0
 
 
 async def drained(client: AsyncClient, shard: int, seconds: float) -> list[tuple[str, Seat]]:

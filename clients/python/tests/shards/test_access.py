@@ -12,7 +12,7 @@ import unittest
 from pathlib import Path
 
 from bpfhost import Host
-from bpfhost.shards import Client, RedisError, Settings, ShardKeys, move, operating, remove
+from bpfhost.shards import Client, RedisError, Settings, ShardKeys, move, remove
 from bpfhost.shards.connection import as_in, without_secrets
 from bpfhost.shards.errors import Away, NotAllowed
 from bpfhost.shards.gateway.limits import GatewayLimits
@@ -21,7 +21,7 @@ from bpfhost.shards.link import library, packed
 from tests.common import PROGRAM, HostTest
 from tests.shards.blocking_redis import Redis, connect, directory_of
 from tests.shards.certificates import OPENSSL, authority, signed
-from tests.shards.common import CREATE, SETTINGS, WorkerThread, did
+from tests.shards.common import CREATE, SETTINGS, WorkerThread, shown
 from tests.shards.gateways import GatewayThread, Raw, customers_file
 from tests.shards.redis_server import RedisServer, missing
 from tests.shards.streams import Stream
@@ -93,7 +93,7 @@ class Users(HostTest):
                 sharing = Sharing(client.aio)
                 client.loop.run(sharing.exchange({"customer-1": 1}))
                 client.loop.run(sharing.end())
-                self.assertRegex("\n".join(did(operator, operating.show)), r"shard 4: \d customers, 0 KiB of calls wait, served by ")
+                self.assertRegex(shown(operator), r"shard 4: \d customers, 0 KiB of calls wait, served by ")
             self.assertEqual([worker.error for worker in workers], [None, None])
             for worker in workers:
                 worker.stop()
@@ -135,7 +135,7 @@ class Users(HostTest):
         # The worker's user can't see it, so it serves.
         worker = self.worker(0)
         with Client(self.url("operator")) as operator:
-            self.assertIn("shard 0: Redis has appendfsync everysec, and a shard's log needs always", "\n".join(did(operator, operating.show)))
+            self.assertIn("shard 0: Redis has appendfsync everysec, and a shard's log needs always", shown(operator))
         worker.stop()
         self.assertIsNone(worker.error)
 

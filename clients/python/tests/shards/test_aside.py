@@ -8,7 +8,7 @@ from bpfhost.shards import MoveError, NotDone, SetAside, Settings, ShardError, m
 from bpfhost.shards.manifest import Manifest
 from tests.common import PROGRAM
 from tests.shards.blocking_redis import shard_of
-from tests.shards.common import CREATE, LOOK_UP, SECONDS, ShardTest, WorkerThread, put, did
+from tests.shards.common import CREATE, LOOK_UP, SECONDS, ShardTest, WorkerThread, put, did, shown
 
 # A host that ends at a lookup of a key with these bytes.
 _POISON = b"poison!!"
@@ -64,7 +64,7 @@ class Poison(AsideTest):
         for ticket in (poison, behind):
             with self.assertRaisesRegex(SetAside, "customer acme is set aside until an operator has looked: entry .* ended the host 3 times"):
                 customer.wait(ticket)
-        self.assertIn("acme is set aside: entry", "\n".join(did(self.client, operating.show)))
+        self.assertIn("acme is set aside: entry", shown(self.client))
         # It is as before if it is tried again, and done if the host takes it.
         did(self.client, operating.say, "acme", "retry", 20)
         with self.assertRaises(SetAside):

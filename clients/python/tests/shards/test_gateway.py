@@ -28,7 +28,7 @@ from bpfhost.shards.remote import CustomerTls, GatewayCustomer, GatewayRefuses
 from tests.common import PROGRAM
 from tests.shards.blocking_redis import shard_of
 from tests.shards.certificates import OPENSSL, authority, signed
-from tests.shards.common import CREATE, LOOK_UP, ShardTest, put, did
+from tests.shards.common import CREATE, LOOK_UP, ShardTest, counted, put, did
 from tests.shards.gateways import UNCOUNTED, GatewayThread, Raw, customers_file
 from tests.shards.streams import Stream
 from tests.shards.worker_process import WorkerProcess
@@ -47,7 +47,7 @@ class GatewayTest(ShardTest):
 
     def refused(self, gateway: GatewayThread, why: str) -> float:
         """How many connections were ended for a reason."""
-        return gateway.gateway.told.value("bpfhost_gateway_refusals_total", why=why)
+        return counted(gateway.gateway.told, "bpfhost_gateway_refusals_total", why=why)
 
     def raw(self, gateway: GatewayThread, tls: ssl.SSLContext | None = None) -> Raw:
         """A connection to it."""
@@ -486,7 +486,7 @@ class Crowd(GatewayTest):
         thread = threading.Thread(target=crowd)
         thread.start()
         beside = asks()
-        self.until(lambda: bool(UNCOUNTED) or gateway.gateway.told.value("bpfhost_gateway_new_connections_total") > 300)
+        self.until(lambda: bool(UNCOUNTED) or counted(gateway.gateway.told, "bpfhost_gateway_new_connections_total") > 300)
         ended.set()
         thread.join()
         for one in opened:

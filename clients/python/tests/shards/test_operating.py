@@ -8,11 +8,11 @@ import time
 from unittest import mock
 
 from bpfhost import MapType, frames
-from bpfhost.shards import MoveError, NotTaken, OtherShard, Settings, ShardError, ShardKeys, abort_move, move, operating, scripts
+from bpfhost.shards import MoveError, NotTaken, OtherShard, Settings, ShardError, ShardKeys, abort_move, move, scripts
 from bpfhost.shards import attending
 from bpfhost.shards.connection import Script
 from tests.shards.blocking_redis import connect, shard_of
-from tests.shards.common import CREATE, LOOK_UP, SECONDS, ShardTest, WorkerThread, put, did, drained
+from tests.shards.common import CREATE, LOOK_UP, SECONDS, ShardTest, WorkerThread, put, did, drained, shown
 from tests.shards.redis_server import RedisServer
 
 
@@ -104,7 +104,7 @@ class Offered(ShardTest):
         self.assertEqual(self.client.directory.loads(), {0: 0, 1: 6})
         self.assertEqual(self.client.customer("new").ask(CREATE).status, 3)
         self.assertEqual(self.client.directory.loads(), {0: 0, 1: 7})
-        self.assertRegex("\n".join(did(self.client, operating.show)), "shard 0: 0 customers, 0 KiB of calls wait, served by .*, drained")
+        self.assertRegex(shown(self.client), "shard 0: 0 customers, 0 KiB of calls wait, served by .*, drained")
         for number, customer in enumerate(customers):
             self.assertEqual(customer.ask(LOOK_UP).payload, number.to_bytes(8, "little"))
         with self.assertRaisesRegex(ShardError, "shard 0 can't be removed: it is served: stop its worker first"):
@@ -152,7 +152,7 @@ class BrokenMoves(ShardTest):
                     self.broken(behind)
                     was = self.client.directory.customers()["acme"]
                     wanted = f"acme is being moved: from shard {was.shard} to shard {1 - was.shard}"
-                    self.assertIn(wanted, "\n".join(did(self.client, operating.show)))
+                    self.assertIn(wanted, shown(self.client))
                     late = self.client.directory.moves()["acme"]
                     assert late is not None
                     self.assertEqual(abort_move(self.client, "acme").shard, was.shard)

@@ -40,7 +40,7 @@ from bpfhost.shards.names import FRAMES, after, before, order
 from bpfhost.shards.tickets import served_at
 from tests.common import LENGTH, PROGRAM
 from tests.shards.blocking_redis import connect, shard_of
-from tests.shards.common import CREATE, LOOK_UP, SECONDS, ShardTest, WorkerThread, put, did
+from tests.shards.common import CREATE, LOOK_UP, SECONDS, ShardTest, WorkerThread, counted, put, did
 from tests.shards.gateways import UNCOUNTED
 from tests.shards.streams import Stream
 
@@ -560,7 +560,7 @@ class Workers(ShardTest):
             self.assertEqual([reply.status for reply in customer.ask_all([put(value), LOOK_UP])], [0, 0])
         self.assertIsNone(worker.error)
         if not UNCOUNTED:
-            self.assertGreater(worker.worker.metrics.value("bpfhost_worker_hosts_total"), 1)
+            self.assertGreater(counted(worker.worker.metrics, "bpfhost_worker_hosts_total"), 1)
 
     def test_a_snapshot_in_pieces(self) -> None:
         """More bytes than a script is given at once, of tenants that come and go."""

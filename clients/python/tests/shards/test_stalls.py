@@ -11,7 +11,7 @@ from typing import Any, cast
 
 from bpfhost import MapType, frames
 from bpfhost.library import Library
-from bpfhost.shards import Settings, ShardKeys, Worker, operating
+from bpfhost.shards import Settings, ShardKeys, Worker
 from bpfhost.shards.connection import Redis
 from bpfhost.shards.names import MOST_WAITING
 from bpfhost.shards.serving import Serving
@@ -21,7 +21,7 @@ from bpfhost.shards.reading import TURN_FRAMES, share_of
 from bpfhost.state import Steps
 from tests.common import PROGRAM, HostTest
 from tests.shards.blocking_redis import directory_of, shard_of
-from tests.shards.common import CREATE, LOOK_UP, SECONDS, ShardTest, call_of, put, did, no_history
+from tests.shards.common import CREATE, LOOK_UP, SECONDS, ShardTest, call_of, put, no_history, shown
 from tests.shards.streams import slots_of
 
 # A step sends the host at most so many frames (the end of one part and the begin of another), and sends Redis so many bytes.
@@ -175,7 +175,7 @@ class Stalls(Waits):
         self.assertEqual(len(customer.wait(customer.post(LOOK_UP * 500))), 500)
         self.assertGreater(time.monotonic() - began, 3)
         self.assertEqual(errors, [])
-        self.assertRegex("\n".join(did(self.client, operating.show)), "shard 0: 1 customers, 0 KiB of calls wait, served by ")
+        self.assertRegex(shown(self.client), "shard 0: 1 customers, 0 KiB of calls wait, served by ")
 
 
 class SnapshotStalls(Waits):

@@ -22,7 +22,7 @@ from bpfhost.shards import metrics, operating
 from bpfhost.shards.metrics import Page, Told
 from tests.common import PROGRAM, HostTest
 from tests.shards.blocking_redis import shard_of
-from tests.shards.common import CREATE, LOOK_UP, ShardTest, WorkerThread, put, did
+from tests.shards.common import CREATE, LOOK_UP, ShardTest, WorkerThread, counted, put, did
 from tests.shards.gateways import UNCOUNTED, customers_file
 from tests.test_command import PACKAGE
 
@@ -88,7 +88,7 @@ class Numbers(ShardTest):
             customer.wait(customer.post(put(value) * 5))
         self.until(lambda: numbers(worker.worker.metrics.text())["bpfhost_worker_redis_memory_bytes"] > 0)
         # A reply is there before it is counted.
-        self.until(lambda: worker.worker.metrics.value("bpfhost_worker_calls_total") == 4)
+        self.until(lambda: counted(worker.worker.metrics, "bpfhost_worker_calls_total") == 4)
         found = numbers(worker.worker.metrics.text())
         self.assertEqual([found[f"bpfhost_worker_{name}"] for name in ("calls_total", "frames_total", "serves", "aside")], [4, 16, 1, 0])
         self.assertGreaterEqual(found["bpfhost_worker_lease_age_seconds"], 0)

@@ -84,7 +84,6 @@ class Connection:
     def refuse(self, refusal: Refusal) -> None:
         """Ends the connection, after the replies to the call in progress."""
         self._refusal = self._refusal or refusal
-        self._came.set()
         if not self._is_calling and self._task:
             self._task.cancel()
 
@@ -208,10 +207,8 @@ class Connection:
             self._room.set()
             await self._gateway.wait_for_rate(self.known, count, len(stream))
             self._is_calling = True
-            try:
-                await self._answer(self._customer, stream, count)
-            finally:
-                self._is_calling = False
+            await self._answer(self._customer, stream, count)
+            self._is_calling = False
 
     async def _is_next_there(self) -> bool:
         """Waits for frames of the next call; False if there will be none.

@@ -35,16 +35,18 @@ class Nodes:
         """
         redis = library("redis.asyncio")
         try:
-            pool = redis.ConnectionPool.from_url(url, **({"ssl_check_hostname": True} if url.startswith("rediss:") else {}))
-            self._words = words = pool.connection_kwargs
+            pool = redis.ConnectionPool.from_url(url)
+            kind, words = pool.connection_class, pool.connection_kwargs
+            if kind is redis.SSLConnection:
+                words.setdefault("ssl_check_hostname", True)
             cluster, replicas = words.pop("cluster", "0"), words.pop("replicas", "0")
             # The class refuses an option that it does not have.
             pool.make_connection()
-            if cluster not in ("0", "1") or not replicas.isdecimal() or cluster == "1" and url.startswith("unix:"):
+            if cluster not in ("0", "1") or not replicas.isdecimal() or cluster == "1" and kind is redis.UnixDomainSocketConnection:
                 raise ValueError("cluster is 0 or 1, of hosts with ports, and replicas is a number")
         except (AttributeError, TypeError, ValueError, redis.RedisError) as error:
             raise RedisError(f"{url} is no URL of a Redis: {error}") from None
-        self._link, self._kind = link, type("Direct", (RedisLink, pool.connection_class), {})
+        self._link, self._kind, self._words = link, type("Direct", (RedisLink, kind), {}), words
         self.is_cluster, self.replicas = cluster == "1", int(replicas)
         # Whether it is one server, without replicas.
         self.is_one = not self.is_cluster and not self.replicas

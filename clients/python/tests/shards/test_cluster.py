@@ -157,6 +157,9 @@ class Words(unittest.TestCase):
         nodes("redis://u:p@h:1/0?replicas=1").connect("h:1")
         words = {"username": "u", "password": "p", "host": "h", "port": "1", "db": 2}
         self.assertEqual(made, [words, {**words, "host": "g", "port": "2"}, {**words, "port": 1, "db": 0}])
+        for url, checks in (("rediss://h/0", True), ("REDISS://h/0", True), ("rediss://h/0?ssl_check_hostname=no", False)):
+            nodes(url).connect("")
+            self.assertIs(made[-1]["ssl_check_hostname"], checks)
         self.assertTrue(nodes("unix:///s").is_one)
         for url in ("redis://h:1/0?cluster=2", "redis://h:1/0?replicas=x", "unix:///s?cluster=1"):
             with self.assertRaisesRegex(RedisError, "cluster is 0 or 1, of hosts with ports, and replicas is a number"):

@@ -478,7 +478,8 @@ static inline int bpfhost_copy(bpfhost *host, const uint8_t *frame, size_t frame
 static inline BPFHOST_SELDOM int bpfhost_handle_by_pairs(bpfhost *host, const uint8_t *frame, size_t frame_length, void *room,
                                                          size_t room_length, size_t *written)
 {
-    int code = bpfhost_frame_code(host, frame, frame_length, room, room_length);
+    /* gcc warns of a host that is null, as a constant, if the test is in another function */
+    int code = host == NULL ? (int)BPFHOST_ERR_NULL : bpfhost_frame_code(host, frame, frame_length, room, room_length);
     if (code == BPFHOST_DONE)
         code = bpfhost_frame_code(host, frame, frame_length, written, sizeof *written);
     if (code == BPFHOST_DONE)

@@ -52,8 +52,16 @@ impl Maps {
         sum
     }
 
+    /// The live hash maps that limit the memory of a new map of this kind: none for an array, which takes no memory.
+    pub(crate) fn live_beside(&self, kind: MapKind) -> LiveHashMaps {
+        match kind {
+            MapKind::Array => NO_HASH_MAPS,
+            MapKind::Hash => self.live_hash_maps(),
+        }
+    }
+
     /// The hash maps that are live: how many they are, and how many entries they can have.
-    pub(crate) fn live_hash_maps(&self) -> LiveHashMaps {
+    fn live_hash_maps(&self) -> LiveHashMaps {
         self.maps_are_laid();
         let mut live = NO_HASH_MAPS;
         for handle in 0..MAPS {

@@ -55,14 +55,19 @@ impl SpareMaps {
         Ok(SpareMaps { maps })
     }
 
-    /// Keeps a hash map, if there is room for it. It takes no memory.
-    #[cold]
-    #[inline(never)]
+    /// Keeps a hash map, if there is room for it; an array has no memory to keep. It takes no memory.
+    #[inline(always)]
     pub(crate) fn keep(&mut self, map: BpfMap) {
         if let BpfMap::Hash(map) = map {
-            if self.maps.len() < self.maps.capacity() {
-                self.maps.push_reserved(map);
-            }
+            self.keep_hash_map(map);
+        }
+    }
+
+    #[cold]
+    #[inline(never)]
+    fn keep_hash_map(&mut self, map: HashMap) {
+        if self.maps.len() < self.maps.capacity() {
+            self.maps.push_reserved(map);
         }
     }
 

@@ -454,7 +454,7 @@ static inline int bpfhost_frame_code(const bpfhost *host, const uint8_t *frame, 
 
 /* Most calls are right, and few instructions show it: no pointer is null, and the objects lie in the lower half of the addresses, one after
  * another in any order. Then bpfhost_is_.._right is true, and the proved function is called. Else bpfhost_.._by_pairs tests each pair of objects,
- * says what is wrong, if anything is, and replaces what may be null. */
+ * and says what is wrong, if anything is. The address of no bytes, packets or contexts may be null: it was replaced before. */
 static inline bool bpfhost_is_frame_right(const bpfhost *host, const uint8_t *frame, size_t frame_length, const void *out,
                                           size_t out_length, uintptr_t more)
 {
@@ -671,8 +671,8 @@ static inline bool bpfhost_are_written_beside(const bpfhost *host, const uint32_
                 && bpfhost_are_beside(ran, sizeof *ran, results, packets * sizeof *results)));
 }
 
-/* As bpfhost_is_frame_right, of a run of many packets. No context of more than 64 bytes is seen to be right, nor are no contexts, or more contexts or
- * packets than have 128 bytes each. */
+/* As bpfhost_is_frame_right, of a run of many packets. No context of more than 64 bytes is seen to be right, nor are more contexts or packets than
+ * have 128 bytes each. */
 static inline BPFHOST_BY_FORCE bool bpfhost_is_run_right(const bpfhost *host, bpfhost_contexts contexts, const uint8_t *bytes, size_t byte_count,
                                                          const size_t *ends, size_t packets, const uint32_t *results, const int32_t *status,
                                                          const size_t *ran)
@@ -707,7 +707,7 @@ static inline BPFHOST_BY_FORCE int bpfhost_run_up_to(bpfhost *host, uint16_t ten
                                                      size_t packets, uint64_t bound, uint32_t *results, int32_t *status, size_t *ran)
 {
     static const size_t no_ends[1] = {0};
-    uint32_t no_results[1];
+    uint32_t no_results[1]; /* nobody reads or writes it */
     const bpfhost_contexts none = {bpfhost_context_at(NULL), sizeof(bpfhost_context), 1};
     const bpfhost_contexts some = {contexts, context_size, context_count};
     const bpfhost_contexts given = context_count == 0 ? none : some;

@@ -77,5 +77,6 @@ pub record HasAccesses (m : Memory) (t : ℕ) : Type 0 where
       → IsWrittenAt m t to (bytes_at (part_bytes m t) from n)
       (copied m n (asked_in m t n from) (asked_in m t n to))
 
+-- the accesses within any part of a memory are those of the part's bytes
 abbrev pub AccessesAreInParts : Type 0
 AccessesAreInParts = (m : Memory) (t : ℕ) → IsPart m t → HasAccesses m t

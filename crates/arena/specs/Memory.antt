@@ -12,12 +12,14 @@ pub record Memory : Type 0 where
   pub parts : ℕ
   pub part : ℕ
 
+-- the logic's code of a memory: that of the tuple of its fields
 abbrev pub memory_code : Coded Memory
 memory_code =
     code_by (List ℕ × (ℕ × ℕ)) (coded× (coded_list coded_ℕ) (coded× coded_ℕ coded_ℕ))
     (λ m. (m.bytes, (m.parts, m.part))) (λ p. record { bytes = p.0; parts = p.1.0; part = p.1.1 })
     (λ _. refl)
 
+-- the number of bytes of the memory
 abbrev pub size_of : Memory → ℕ
 size_of m = length m.bytes
 
@@ -34,10 +36,12 @@ offset_of size n address =
 
 -- ---- loads, stores and copies; without an offset, nothing is loaded or changed
 
+-- the number that the n bytes at an offset make, little-endian
 abbrev pub loaded : Memory → ℕ → Option ℕ → Option ℕ
 loaded m n None = None
 loaded m n (Some offset) = Some (number_of (bytes_at m.bytes offset n))
 
+-- the memory with `new` written at an offset
 abbrev pub with_bytes : Memory → ℕ → List ℕ → Memory
 with_bytes m offset new = record {
   bytes = written_at m.bytes offset new;
@@ -45,10 +49,12 @@ with_bytes m offset new = record {
   part = m.part;
 }
 
+-- the memory with the low n bytes of a value stored at an offset
 abbrev pub stored : Memory → ℕ → ℕ → Option ℕ → Memory
 stored m n value None = m
 stored m n value (Some offset) = with_bytes m offset (low_bytes n value)
 
+-- the memory with n bytes copied from one offset to another
 abbrev pub copied : Memory → ℕ → Option ℕ → Option ℕ → Memory
 copied m n None to = m
 copied m n (Some from) None = m
@@ -56,13 +62,15 @@ copied m n (Some from) (Some to) = with_bytes m to (bytes_at m.bytes from n)
 
 -- ---- parts
 
+-- the offset of part t in the memory
 abbrev pub part_start : Memory → ℕ → ℕ
 part_start m t = t * m.part
 
+-- the bytes of part t
 abbrev pub part_bytes : Memory → ℕ → List ℕ
 part_bytes m t = bytes_at m.bytes (part_start m t) m.part
 
--- bytes overwritten by others from the first on, at their own length
+-- bytes overwritten by others from the first on; their number is unchanged
 abbrev pub refilled : List ℕ → List ℕ → List ℕ
 refilled bytes others = take (length bytes) (others ++ drop (length others) bytes)
 

@@ -16,7 +16,7 @@ part_within m t is =
     let size = is.0 in
     omega arith
 
--- if n bytes at an offset are in the memory, `offset_of` finds it from the address base + offset
+-- if n bytes at an offset are in the memory, `offset_of` returns it for the address base + offset
 pub offset_is : (size n offset address : ℕ)
     → address ≡ base + offset
     → offset + n ≤ size

@@ -1,4 +1,5 @@
-//! What a caller can prove of a tenant's part only from the contracts.
+//! Callers for proofs only, which nothing calls: that each meets its contract, about a tenant's part, follows only from public contracts
+//! and laws.
 
 ghost use Rattle.std.specs.Prelude.{◌+◌, ◌<◌, ◌≤◌};
 ghost use Rattle.words.specs.Bytes.{low_bytes};
@@ -10,7 +11,7 @@ use crate::laws;
 use crate::memory::Arena;
 use crate::trace::Trace;
 
-/// A number stored within a part is written in that part's bytes, and no other part changes.
+/// Stores a number at offset `at` of a tenant's part: it is written in that part's bytes, and no other part changes.
 fn store_within(arena: &mut Arena, tenant: usize, at: usize, value: u64, trace: &mut Trace)
     requires tenant { tenant < arena.old.parts }
     requires room { at + 8 ≤ arena.old.part }
@@ -22,7 +23,7 @@ fn store_within(arena: &mut Arena, tenant: usize, at: usize, value: u64, trace: 
     let _ = arena.store(address, 8, value, trace);
 }
 
-/// Bytes copied within a part are written in that part's bytes, and no other part changes.
+/// Copies eight bytes from offset `from` to offset `to` of a tenant's part: they are written in its bytes, and no other part changes.
 fn copy_within(arena: &mut Arena, tenant: usize, to: usize, from: usize, trace: &mut Trace)
     requires tenant { tenant < arena.old.parts }
     requires to { to + 8 ≤ arena.old.part }

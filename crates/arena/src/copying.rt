@@ -21,7 +21,7 @@ fn first_bytes<const N: usize>(bytes: &[u8]) -> [u8; N]
     first
 }
 
-/// Copies `N` bytes to an offset.
+/// Copies `N` bytes to an offset of `to`.
 #[inline(always)]
 fn copy_piece<const N: usize>(to: &mut [u8], offset: usize, bytes: &[u8])
     requires length { length bytes.now ≡ N }
@@ -32,7 +32,7 @@ fn copy_piece<const N: usize>(to: &mut [u8], offset: usize, bytes: &[u8])
     to[offset..offset + N].copy_from_slice(&piece);
 }
 
-/// Copies `N` to 2 `N` bytes to an offset: the first `N` and the last `N` of them, which may overlap.
+/// Copies `N` to 2 `N` bytes to an offset of `to`: the first `N` and the last `N` of them, which may overlap.
 #[inline(always)]
 fn copy_by_ends<const N: usize>(to: &mut [u8], offset: usize, bytes: &[u8])
     requires least { N ≤ length bytes.now }
@@ -45,7 +45,7 @@ fn copy_by_ends<const N: usize>(to: &mut [u8], offset: usize, bytes: &[u8])
     copy_piece::<N>(to, offset + last, &bytes[last..]);
 }
 
-/// Copies any number of bytes to an offset.
+/// Copies any number of bytes to an offset of `to`, by a call.
 #[inline(never)]
 fn copy_many(to: &mut [u8], offset: usize, bytes: &[u8])
     requires { offset + length bytes.now ≤ length to.old }
@@ -54,7 +54,7 @@ fn copy_many(to: &mut [u8], offset: usize, bytes: &[u8])
     to[offset..offset + bytes.len()].copy_from_slice(bytes);
 }
 
-/// Copies bytes to an offset.
+/// Copies bytes to an offset of `to`: up to 64 by pieces of a fixed length, more by a call.
 #[inline(always)]
 pub(crate) fn copy_bytes(to: &mut [u8], offset: usize, bytes: &[u8])
     requires { offset + length bytes.now ≤ length to.old }

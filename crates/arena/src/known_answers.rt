@@ -21,7 +21,7 @@ fn number_stored_and_loaded(alloc: Global) -> Result<(), AllocError> {
     Ok(())
 }
 
-/// The same if the bytes are known to be in the memory.
+/// A stored number is loaded unchanged by the accesses without a test, for bytes that are known to be in the memory.
 fn number_stored_and_loaded_inside(alloc: Global) -> Result<(), AllocError> {
     let mut arena = Arena::new(alloc, 2, 16)?;
     let mut trace = Trace::new();

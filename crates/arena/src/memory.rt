@@ -19,7 +19,9 @@ pub const BASE: u64 = 0x1_0000_0000;
 #[derive(Drop)]
 pub struct Arena {
     bytes: Vec<u8>,
+    // The number of parts.
     parts: usize,
+    // The size of one part, in bytes.
     part_size: usize,
 }
 
@@ -106,7 +108,7 @@ impl Arena {
         let _ = &self.bytes;
     }
 
-    /// The offset of the part of `tenant`.
+    /// The offset of the part of `tenant` in the memory, in bytes. Tenants are numbered from 0.
     fn start(&self, tenant: usize) -> usize
         requires { tenant < self.now.parts }
         ensures value { result ≡ part_start self.now tenant }
@@ -165,7 +167,7 @@ impl Arena {
         Some(())
     }
 
-    /// Loads like `load`; the bytes are known to be in the memory.
+    /// Loads a little-endian number of `size` bytes (1, 2, 4 or 8) at `address`. They are known to be in the memory, so there is no test.
     #[inline(always)]
     pub fn load_inside(&self, address: u64, size: usize, trace: &mut Trace) -> u64
         requires size { IsSize size }
@@ -180,7 +182,8 @@ impl Arena {
         read(&self.bytes, start, size)
     }
 
-    /// Stores like `store`; the bytes are known to be in the memory.
+    /// Stores the low `size` bytes (1, 2, 4 or 8) of `value` at `address`, little-endian. The range is known to be in the memory, so there
+    /// is no test.
     #[inline(always)]
     pub fn store_inside(&mut self, address: u64, size: usize, value: u64, trace: &mut Trace)
         requires size { IsSize size }
@@ -195,7 +198,7 @@ impl Arena {
         write(&mut self.bytes, start, size, value);
     }
 
-    /// Writes bytes at `address`. The range is known to be in the memory.
+    /// Writes bytes at `address`. The range is known to be in the memory, so there is no test.
     #[inline(always)]
     pub fn write_inside(&mut self, address: u64, bytes: &[u8], trace: &mut Trace)
         requires { IsSome (offset_of (size_of self.old) (length bytes.now) address) }
@@ -230,7 +233,8 @@ impl Arena {
         Some(())
     }
 
-    /// Copies like `copy`; both ranges are known to be in the memory.
+    /// Copies `length` bytes, at least one, from address `from` to `to` like memmove: the ranges may overlap. Both are known to be in the
+    /// memory, so there is no test.
     #[inline(always)]
     pub fn copy_inside(&mut self, to: u64, from: u64, length: usize, trace: &mut Trace)
         requires some { 1 ≤ length }

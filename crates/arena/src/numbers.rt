@@ -22,6 +22,7 @@ pub(crate) fn read(bytes: &[u8], at: usize, size: usize) -> u64
     }
 }
 
+/// The little-endian number of the four bytes at offset `at`.
 #[inline(always)]
 fn read_word(bytes: &[u8], at: usize) -> u32
     requires { at + 4 ≤ length bytes.now }
@@ -30,6 +31,7 @@ fn read_word(bytes: &[u8], at: usize) -> u32
     u32::from_le_bytes([bytes[at], bytes[at + 1], bytes[at + 2], bytes[at + 3]])
 }
 
+/// The little-endian number of the eight bytes at offset `at`.
 #[inline(always)]
 fn read_double(bytes: &[u8], at: usize) -> u64
     requires { at + 8 ≤ length bytes.now }
@@ -47,7 +49,7 @@ fn read_double(bytes: &[u8], at: usize) -> u64
     ])
 }
 
-/// The number whose eight bytes, little-endian, are at offset `at`.
+/// The number whose eight bytes, little-endian, are at offset `at`: `read_double` with the contract that a copy of the number needs.
 #[inline(always)]
 fn spelled_double(bytes: &[u8], at: usize) -> u64
     requires { at + 8 ≤ length bytes.now }

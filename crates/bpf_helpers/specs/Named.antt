@@ -26,7 +26,7 @@ part_offset start part n address =
     if nat_le (base + start) address && nat_le (address + n) (base + start + part)
     then Some (address - (base + start)) else None
 
--- the same in part t
+-- the offset of n bytes at an address, in part t; None if they don't lie in it
 abbrev pub named_offset : Memory → ℕ → ℕ → ℕ → Option ℕ
 named_offset memory t n address = part_offset (part_start memory t) memory.part n address
 
@@ -36,27 +36,30 @@ part_input memory t n address =
     and_then (named_offset memory t n address) (λ at.
     Some (bytes_at memory.bytes (part_start memory t + at) n))
 
--- the key of a map at an address, and the value
+-- the bytes of a key, of the size for the map of handle k, at an address, if they lie in the part
 abbrev pub key_input : CallSite → ℕ → ℕ → Option (List ℕ)
 key_input site k address =
     part_input site.memory site.tenant (shape_at site.maps k).key_size address
 
+-- the bytes of a value, of the size for the map of handle k, at an address, if they lie in the part
 abbrev pub value_input : CallSite → ℕ → ℕ → Option (List ℕ)
 value_input site k address =
     part_input site.memory site.tenant (shape_at site.maps k).value_size address
 
 -- ---- a map with a key, and with a value
 
+-- the handle of a map, and the bytes of a key
 pub record NamedKey : Type 0 where
   pub map : ℕ
   pub key : List ℕ
 
+-- the handle of a map, and the bytes of a key and of a value
 pub record NamedPair : Type 0 where
   pub map : ℕ
   pub key : List ℕ
   pub value : List ℕ
 
--- the key of a map at an address, with its map
+-- the key at an address, with its map, that of handle k
 abbrev pub key_at : CallSite → ℕ → ℕ → Option NamedKey
 key_at site key k =
     option_map (λ bs. let n : NamedKey = record { map = k; key = bs } in n) (key_input site k key)
@@ -78,7 +81,7 @@ pair_named site map key value = and_then (key_named site map key) (pair_at site 
 
 -- ---- words that name nothing
 
--- a word names no map, or bytes outside the part
+-- a word of the helper's arguments names no map, or bytes outside the part
 abbrev pub NamesNothing : CallSite → List ℕ → Helper → Type 0
 NamesNothing site words LookUp = key_named site (slice_index words 0) (slice_index words 1) ≡ None
 NamesNothing site words Update =
@@ -96,7 +99,7 @@ IsInRun site words Delete = ⊥
 IsInRun site words LoadBytes =
     IsSome (named_offset site.memory site.tenant (slice_index words 3) (slice_index words 2))
 
--- the result of such a call: null, EINVAL or EFAULT
+-- the result of a call whose words name nothing: null, or EINVAL or EFAULT, negated
 abbrev pub unnamed_answer : Helper → ℕ
 unnamed_answer LookUp = 0
 unnamed_answer Update = negative (errno Invalid)

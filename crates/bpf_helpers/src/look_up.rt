@@ -14,7 +14,7 @@ use crate::caller::Caller;
 use arena::{Arena, Trace};
 use bpf_maps::{Elements, INDEX_SIZE, MapKey, Maps, PART, laws};
 
-/// The handle of the bound map that a word names; `None` if it names none.
+/// The handle of the bound map that a word names, 1 for the first of `bind`; `None` if it names none.
 #[inline(always)]
 pub(crate) fn bound(bind: &[MapKey], word: u64) -> Option<MapKey>
     ensures value { result ≡ bound_map bind.now word }
@@ -28,8 +28,7 @@ pub(crate) fn bound(bind: &[MapKey], word: u64) -> Option<MapKey>
     Some(bind[index as usize])
 }
 
-/// The offset, in the part of `tenant`, of `size` bytes at an address; `size` is at most `PART`; `None`
-/// if they don't lie in the part.
+/// The offset, in the part of `tenant`, of `size` bytes at an address, at most `PART` bytes; `None` if they don't lie in the part.
 #[inline(always)]
 pub(crate) fn offset_in(arena: &Arena, tenant: usize, size: usize, address: u64) -> Option<usize>
     requires part { IsPartOf tenant arena.now }
@@ -46,7 +45,8 @@ pub(crate) fn offset_in(arena: &Arena, tenant: usize, size: usize, address: u64)
     Some(at as usize)
 }
 
-/// The offset of requested bytes, like `offset_in`; appends their range to the trace if they lie in the part.
+/// The offset, in the part of `tenant`, of `size` bytes at an address, whose range is appended to the trace; `None`, and nothing is
+/// appended, if they don't lie in the part.
 #[inline(always)]
 pub(crate) fn traced_offset(
     arena: &Arena,
@@ -66,7 +66,7 @@ pub(crate) fn traced_offset(
     Some(at)
 }
 
-/// Bytes that have an offset in the part of `tenant` lie in it. It does nothing when it runs.
+/// A law: bytes at an address that have an offset in the part of `tenant` lie in it. It does nothing when it runs.
 #[inline(always)]
 pub(crate) fn named_bytes_lie_inside(arena: &Arena, tenant: usize, size: usize, address: u64)
     requires { IsSome (named_offset arena.now tenant size address) }
@@ -79,7 +79,8 @@ pub(crate) fn named_bytes_lie_inside(arena: &Arena, tenant: usize, size: usize, 
     let _ = (tenant, size, address);
 }
 
-/// The offset of requested bytes that are known to lie in the part of `tenant`, without a test; appends their range to the trace.
+/// The offset, in the part of `tenant`, of `size` bytes at an address that are known to lie in it, without a test; their range is appended
+/// to the trace.
 #[inline(always)]
 pub(crate) fn traced_offset_inside(
     arena: &Arena,
@@ -130,7 +131,8 @@ pub(crate) fn look_up(
     maps.address_of(map, &part[at..at + size], arena.address(caller.tenant))
 }
 
-/// The same for a run that knows which of its maps are arrays.
+/// bpf_map_lookup_elem (1) for a run that knows which of its maps are arrays: returns the address of the value of a key, or 0. `map` names
+/// the map, and `key` is the address of the key. The key of an array is found by `arrays`, without the map.
 #[inline(always)]
 pub(crate) fn look_up_among(
     arrays: Arrays<'_>,

@@ -13,12 +13,13 @@ use crate::look_up::{named_bytes_lie_inside, offset_in, traced_offset_inside};
 use arena::{Arena, Trace, laws};
 use bpf_maps::PART;
 
-// The offset in a packet is read as 32 bits, and may not be negative.
+// The offset in a packet is a word modulo this number: 32 bits of it are read.
 const OFFSETS: u64 = 0x1_0000_0000;
 
+// The greatest offset in a packet: of the 32 bits, the highest is the sign, and an offset may not be negative.
 const LAST_OFFSET: u64 = 0x7fff_ffff;
 
-/// The negated error for an offset or a length outside the packet (EFAULT).
+/// The negated error for an offset or a length outside the packet (EFAULT, 14), modulo 2^64.
 pub(crate) const OUTSIDE: u64 = 0xffff_ffff_ffff_fff2;
 
 /// Writes `count` zeros at an offset of a tenant's part.
@@ -35,7 +36,7 @@ pub(crate) fn write_zeros(arena: &mut Arena, tenant: usize, at: usize, count: us
     part[at..at + count].fill(0);
 }
 
-/// Writes bytes at an address that is known to be that of so many bytes in the part of `tenant`.
+/// Writes bytes at an address, in a range that is known to lie in the part of `tenant`.
 #[inline(always)]
 fn write_named(arena: &mut Arena, tenant: usize, address: u64, bytes: &[u8], trace: &mut Trace)
     requires part { IsPartOf tenant arena.old }
@@ -50,7 +51,8 @@ fn write_named(arena: &mut Arena, tenant: usize, address: u64, bytes: &[u8], tra
     arena.write_inside(address, bytes, trace);
 }
 
-/// Loads bytes of the packet like `load_bytes`, to an address that is known to be one in the tenant's part.
+/// bpf_skb_load_bytes (26) to an address that is known to be that of `count` bytes in the tenant's part: copies `count` bytes of the packet
+/// at `offset` there, and returns 0. If they don't lie in the packet, it writes zeros and returns EFAULT, negated.
 #[inline(always)]
 pub(crate) fn load_bytes_inside(
     offset: u64,

@@ -30,7 +30,7 @@ struct Offsets {
     value: usize,
 }
 
-/// The number of an error of bpf(2).
+/// The number of an error of bpf(2), as errno(3) has it.
 fn errno_of(fault: MapFault) -> u64
     ensures value { result ≡ errno fault }
     ensures some { 1 ≤ result }
@@ -45,14 +45,15 @@ fn errno_of(fault: MapFault) -> u64
     }
 }
 
-/// The negated number of an error.
+/// What a helper returns for an error: its number, negated, modulo 2^64.
 pub(crate) fn refusal(fault: MapFault) -> u64
     ensures { result ≡ negative (errno fault) }
 {
     u64::MAX - errno_of(fault) + 1
 }
 
-/// Stores a value under a key of a live map. The key and the value are at these offsets of the tenant's part.
+/// Stores a value under a key of a live map, and returns 0, or the number of the error, negated. The key and the value are at these offsets
+/// of the tenant's part.
 fn put(
     map: MapKey,
     at: Offsets,
@@ -87,8 +88,8 @@ fn put(
     }
 }
 
-/// bpf_map_update_elem (2): stores a value under a key. `map` names the map, and the key and the value are at these addresses. If one
-/// of the three names nothing, it returns EINVAL, negated, and nothing changes.
+/// bpf_map_update_elem (2): stores a value under a key, and returns 0, or the number of the error, negated. `map` names the map, and the
+/// key and the value are at these addresses. If one of the three names nothing, it returns EINVAL, negated, and nothing changes.
 pub(crate) fn update(
     map: u64,
     at: Addresses,

@@ -3,6 +3,7 @@ use Rattle.bpf_maps.specs.declared.bpf_map.BpfMap.{BpfMap}
 use Rattle.bpf_maps.specs.declared.bpf_map.BpfMap.TheVariants.{Array, Hash}
 use Rattle.bpf_maps.specs.KeyTable.{KeyTable}
 
+-- the keys of a map of either kind, with their elements
 abbrev pub keys_in : BpfMap → KeyTable
 keys_in (Array t) = t
 keys_in (Hash t) = t

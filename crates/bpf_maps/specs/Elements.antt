@@ -11,7 +11,8 @@ abbrev pub element_count : MapKind → ℕ → ℕ
 element_count Array n = n
 element_count Hash n = 0
 
--- the elements of a map of this shape
+-- the elements of a map of this shape: how many there are, and the distance from the start of one
+-- value to that of the next, in bytes
 abbrev pub elements_of : MapShape → Elements
 elements_of s = record {
   count = element_count s.kind s.max_entries;
@@ -26,6 +27,6 @@ elements_at t k = elements_of (shape_at t k)
 abbrev pub AreOfArray : Elements → LiveMaps → ℕ → Type 0
 AreOfArray e t k = IsSome (live_at t k) × (e ≡ elements_at t k) × (e.count ≢ 0)
 
--- the elements as one number of 64 bits
+-- the elements as one number of 64 bits: how many there are, in the low 32, and their distance
 abbrev pub word_of : Elements → ℕ
 word_of e = e.count + 2 ^ 32 * e.stride

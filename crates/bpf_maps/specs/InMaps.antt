@@ -14,9 +14,11 @@ use Rattle.bpf_maps.specs.Live.{LiveMap, LiveMaps, areas, area_of, StandsBefore,
 
 -- ---- what contracts see
 
+-- a stored map as contracts see it
 abbrev pub live_of : StoredMap → LiveMap
 live_of e = record { keys = keys_in e.map; start = e.start; stride = e.stride; holds = e.holds }
 
+-- a list of stored maps as contracts see it
 abbrev pub live_maps_of : List (Option StoredMap) → List (Option LiveMap)
 live_maps_of xs = map (λ o. option_map live_of o) xs
 
@@ -24,9 +26,11 @@ live_maps_of xs = map (λ o. option_map live_of o) xs
 abbrev pub by_handle : List (Option ℕ) → Slab StoredMap → List (Option StoredMap)
 by_handle keys maps = map (λ key. option_and_then (get maps) key) keys
 
+-- the stored map of each handle
 abbrev pub stored_in : Inside → List (Option StoredMap)
 stored_in a = by_handle a.keys a.maps
 
+-- a tenant's live maps as contracts see them
 abbrev pub as_live_maps : Inside → LiveMaps
 as_live_maps a = record { maps = live_maps_of (stored_in a); refused = a.refused }
 
@@ -42,7 +46,8 @@ pub record AreKeys (keys : List (Option ℕ)) (maps : Slab StoredMap) : Type 0 w
       → k ≡ j
   pub all : slab_len maps ≡ count_by is_some keys
 
--- a map after an area of `size` bytes up to `end` is gone
+-- a stored map once an area of `size` bytes up to `end` is removed: its start is lower by `size`,
+-- if it was `end` or more
 abbrev pub closed_up : ℕ → ℕ → StoredMap → StoredMap
 closed_up end size e = record {
   map = e.map;

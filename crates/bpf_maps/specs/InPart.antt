@@ -41,6 +41,8 @@ pub record ValueIsWritten (part : List ℕ) (t : LiveMaps) (k p : ℕ) (bytes : 
   pub front : take STACK_AND_CONTEXT (with_value part t k p bytes) ≡ take STACK_AND_CONTEXT part
   pub size : length (with_value part t k p bytes) ≡ PART
 
+-- a value that is written at an element of a live map is that of the element's key, and nothing
+-- else changes
 abbrev pub ValuesAreWritten : Type 0
 ValuesAreWritten =
     (part : List ℕ) (t : LiveMaps) (k p : ℕ) (bytes : List ℕ)
@@ -59,6 +61,7 @@ updated (map.Refused fault) t key value = t
 updated (map.Present old) t key value = map.with_object t key value
 updated map.New t key value = map.with_new t key value
 
+-- the map of handle k, with its values in the part, after an update of a key with these flags
 abbrev pub updated_in : List ℕ → LiveMaps → ℕ → List ℕ → List ℕ → ℕ → map.Table (List ℕ)
 updated_in part t k key value flags =
     updated (map.verdict (map_in part t k) key flags) (map_in part t k) key value
@@ -78,6 +81,7 @@ pub record RefinesValues (part : List ℕ) (old new : LiveMaps) (k : ℕ) : Type
       (keys_at new k)
       → map_in (with_value part new k p bytes) new k ≡ updated_in part old k key bytes flags
 
+-- each map that is live after a change that keeps the areas refines the map of values
 abbrev pub LiveMapsRefineValues : Type 0
 LiveMapsRefineValues =
     (part : List ℕ) (old new : LiveMaps) (k : ℕ)

@@ -13,7 +13,7 @@ entries_of (Words keys) = keys.entries
 entries_of (Middle keys) = keys.entries
 entries_of (Long keys) = keys.entries
 
--- its elements are less than this
+-- the elements of an index are less than this number
 abbrev pub bound_of : KeyIndex → ℕ
 bound_of (Words keys) = keys.bound
 bound_of (Middle keys) = keys.bound
@@ -26,7 +26,8 @@ TakesKeys (Words keys) size = size ≡ keys.size
 TakesKeys (Middle keys) size = size ≤ 64
 TakesKeys (Long keys) size = size ≤ 512
 
--- the first of the spare elements are kept apart, and the others are free
+-- a hash map as contracts see it: of the spare elements, which no key has, the first `kept` are
+-- kept apart, and the others are free
 abbrev pub shown : Inside → KeyTable
 shown a = record { shape = a.shape; entries = entries_of a.index; kept = take a.kept a.spare.items }
 

@@ -54,6 +54,7 @@ pub record IsFree (t : KeyTable) (p : ℕ) : Type 0 where
   pub entries : occurrences p (values_of t.entries) ≡ 0
   pub kept : occurrences p t.kept ≡ 0
 
+-- the table with a new key at the end, whose element is p
 abbrev pub with_entry : KeyTable → List ℕ → ℕ → KeyTable
 with_entry t key p = record { shape = t.shape; entries = with_key key p t.entries; kept = t.kept }
 
@@ -65,6 +66,7 @@ Claims (Present p) key old answer new = (answer ≡ Ok p) × (new ≡ old)
 Claims New key old (Ok p) new = IsFree old p × (new ≡ with_entry old key p)
 Claims New key old (Err fault) new = ⊥
 
+-- the table without a key; p, the element of the key, is kept apart
 abbrev pub with_kept : KeyTable → List ℕ → ℕ → KeyTable
 with_kept t key p = record {
   shape = t.shape;
@@ -72,7 +74,8 @@ with_kept t key p = record {
   kept = t.kept ++ p ∷ [];
 }
 
--- the result of a deletion, and the table after it; the element of the key is kept apart
+-- the result of a deletion, and the table after it, given the verdict on the deletion: its fault,
+-- or the element of the key, which is kept apart
 abbrev pub Removes : Result ℕ MapFault
     → List ℕ
     → KeyTable
@@ -82,7 +85,8 @@ abbrev pub Removes : Result ℕ MapFault
 Removes (Err fault) key old answer new = (answer ≡ Err fault) × (new ≡ old)
 Removes (Ok p) key old answer new = (answer ≡ Ok tt) × (new ≡ with_kept old key p)
 
--- the result of a request for the next key, and the bytes of the caller's buffer after it
+-- the result of a request for the next key, and the bytes of the caller's buffer before and after
+-- it: the key is written at the front
 abbrev pub GivesKey : Option (List ℕ) → List ℕ → Result (Unit {0}) MapFault → List ℕ → Type 0
 GivesKey None old answer new = (answer ≡ Err NoEntry) × (new ≡ old)
 GivesKey (Some key) old answer new = (answer ≡ Ok tt) × (new ≡ key ++ drop (length key) old)

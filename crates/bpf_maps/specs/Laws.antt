@@ -9,8 +9,9 @@ use Rattle.bpf_maps.specs.KeyTable.{KeyTable, table_of, occurrences, IsSound, ne
 use Rattle.bpf_maps.specs.declared.part.TheConstants.{PART}
 use Rattle.bpf_maps.specs.Live.{LiveMaps, live_at, offset_at, SameAreas}
 
--- the changes of a table of keys are those of a map of elements
+-- ---- a table of keys
 
+-- the changes of a table of keys are those of a map of elements
 pub record CallsAreThoseOfAMap : Type 0 where
   pub new : (shape : MapShape) → table_of (new_keys shape) ≡ map.new_table (λ i. i) shape
   pub update : (t : KeyTable) (key : List ℕ) (element : ℕ)

@@ -25,6 +25,7 @@ pub record LiveMaps : Type 0 where
   pub maps : List (Option LiveMap)
   pub refused : Bool
 
+-- the live map of handle k, if it has one
 abbrev pub live_at : LiveMaps → ℕ → Option LiveMap
 live_at t k = slice_index_or t.maps k None
 
@@ -32,10 +33,11 @@ live_at t k = slice_index_or t.maps k None
 abbrev pub free_handle : LiveMaps → Option ℕ
 free_handle t = position is_none t.maps
 
--- a placeholder for the map of a handle without one, for the functions below; it means nothing
+-- the shape of `no_live`
 abbrev pub no_shape : MapShape
 no_shape = record { kind = Hash; key_size = 1; value_size = 1; max_entries = 1; listed = refl }
 
+-- a placeholder for the map of a handle without one, for the functions below; it means nothing
 abbrev pub no_live : LiveMap
 no_live = record {
   keys = new_keys no_shape;
@@ -44,29 +46,34 @@ no_live = record {
   holds = 0;
 }
 
+-- a live map, and `no_live` for None
 abbrev pub live_or : Option LiveMap → LiveMap
 live_or None = no_live
 live_or (Some l) = l
 
+-- the table of keys of the map of handle k, if it has one (else that of `no_live`)
 abbrev pub keys_at : LiveMaps → ℕ → KeyTable
 keys_at t k = (live_or (live_at t k)).keys
 
+-- the shape of the map of handle k, if it has one (else that of `no_live`)
 abbrev pub shape_at : LiveMaps → ℕ → MapShape
 shape_at t k = (keys_at t k).shape
 
+-- the number of references to the map of handle k; 0 if it has none
 abbrev pub holds_at : LiveMaps → ℕ → ℕ
 holds_at t k = (live_or (live_at t k)).holds
 
--- no two keys of a live map have the same element
+-- the table of keys of each live map is sound: so no two of its keys have the same element
 abbrev pub AreSound : LiveMaps → Type 0
 AreSound t = (k : ℕ) → IsSome (live_at t k) → IsSound (keys_at t k)
 
 -- ---- the addresses of the values
 
--- the offset in the part of the value of an element of a live map
+-- the offset in the part of the value of element p of a live map
 unfoldable pub offset : LiveMap → ℕ → ℕ
 offset l p = l.start + p * l.stride
 
+-- the offset in the part of the value of element p of the map of handle k
 abbrev pub offset_at : LiveMaps → ℕ → ℕ → ℕ
 offset_at t k p = offset (live_or (live_at t k)) p
 
@@ -117,7 +124,8 @@ SameAreas old new =
     × (l.start ≡ m.start)
     × (l.stride ≡ m.stride)
 
--- a map that was and is live has the same values of all its elements
+-- a map that was and is live has the same values of all its elements; `bytes` and `later` are the
+-- tenant's part before and after
 abbrev pub SameValues : LiveMaps → List ℕ → LiveMaps → List ℕ → Type 0
 SameValues old bytes new later =
     (k p : ℕ)
@@ -126,15 +134,17 @@ SameValues old bytes new later =
     → p < (shape_at new k).max_entries
     → value_in later new k p ≡ value_in bytes old k p
 
--- if the map was live it still is, with the same keys and values
+-- if the map of handle k was live it still is, with the same keys and values; `bytes` and `later`
+-- are the tenant's part before and after
 abbrev pub KeepsMap : ℕ → LiveMaps → List ℕ → LiveMaps → List ℕ → Type 0
 KeepsMap k old bytes new later =
     IsSome (live_at old k) → IsSome (live_at new k) × (map_in later new k ≡ map_in bytes old k)
 
+-- each map that was live still is, with the same keys and values
 abbrev pub KeepsMaps : LiveMaps → List ℕ → LiveMaps → List ℕ → Type 0
 KeepsMaps old bytes new later = (k : ℕ) → KeepsMap k old bytes new later
 
--- this is so of all maps but one
+-- each map that was live, but that of handle k, still is, with the same keys and values
 abbrev pub KeepsOthers : ℕ → LiveMaps → List ℕ → LiveMaps → List ℕ → Type 0
 KeepsOthers k old bytes new later = (other : ℕ) → other ≢ k → KeepsMap other old bytes new later
 
@@ -144,6 +154,7 @@ KeepsOthers k old bytes new later = (other : ℕ) → other ≢ k → KeepsMap o
 abbrev pub area_by : MapShape → ℕ
 area_by shape = area shape.value_size shape.max_entries
 
+-- the number of bytes of the area of a live map
 abbrev pub area_of : LiveMap → ℕ
 area_of l = area_by l.keys.shape
 
@@ -177,10 +188,12 @@ pub record IsPacked (t : LiveMaps) : Type 0 where
       → live_at t k ≡ Some l
       → l.stride ≡ (l.keys.shape.value_size + 7) / 8 * 8
 
--- the start of an area after another one, of `size` bytes up to `end`, is removed
+-- the start of an area once another one, of `size` bytes up to `end`, is removed: lower by `size`,
+-- if it was `end` or more
 abbrev pub start_without : ℕ → ℕ → ℕ → ℕ
 start_without end size start = if nat_le end start then start - size else start
 
+-- a live map once the area of the map `gone` is removed: only its start may be lower
 abbrev pub map_without : LiveMap → LiveMap → LiveMap
 map_without gone l = record {
   keys = l.keys;
@@ -233,7 +246,8 @@ pub record IsCreated (old : LiveMaps) (shape : MapShape) (k : ℕ) (new : LiveMa
   pub others : (other : ℕ) → other ≢ k → live_at new other ≡ live_at old other
   pub refused : new.refused ≡ old.refused
 
--- the possible results of a creation, each with the live maps after it
+-- the possible results of a creation with this fault, each with the live maps after it; with none,
+-- it can only be out of memory, and then only the flag changes
 abbrev pub Creates : Option MapFault → LiveMaps → MapShape → Result ℕ MapFault → LiveMaps → Type 0
 Creates (Some fault) old shape answer new = (answer ≡ Err fault) × (new ≡ old)
 Creates None old shape (Ok k) new = IsCreated old shape k new
@@ -251,17 +265,20 @@ pub record MapWithoutArea : Type 0 where
   pub keys : KeyTable
   pub holds : ℕ
 
+-- a live map without its area
 abbrev pub without_area : LiveMap → MapWithoutArea
 without_area l = record { keys = l.keys; holds = l.holds }
 
+-- the live map of handle k without its area, if it has one
 abbrev pub held_at : LiveMaps → ℕ → Option MapWithoutArea
 held_at t k = option_map without_area (live_at t k)
 
--- with one more reference
+-- a live map with one more reference
 abbrev pub one_more : LiveMap → LiveMap
 one_more l = record { keys = l.keys; start = l.start; stride = l.stride; holds = l.holds + 1 }
 
--- with one reference less; None if that was the last
+-- a live map with one reference less; None if that was the last, so that the map is freed, and for
+-- no map
 abbrev pub one_less : Option MapWithoutArea → Option MapWithoutArea
 one_less None = None
 one_less (Some h) =

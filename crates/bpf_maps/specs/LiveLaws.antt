@@ -25,7 +25,7 @@ total_same f (x ∷ xs) [] h =
 total_same f (x ∷ xs) (y ∷ ys) h =
     ap₂ (λ (m n : ℕ). m + n) (h 0) (total_same f xs ys (λ j. h (suc j)))
 
--- the sum over the first elements and one more
+-- the sum over the first n + 1 elements is that over the first n, and the number of the next one
 total_after : {A : Type 0} (f : A → ℕ) (n : ℕ) (xs : List (Option A))
     → n < length xs
     → total f (take (suc n) xs) ≡ total f (take n xs) + weight f (get_or xs n None)
@@ -35,6 +35,7 @@ total_after f zero (x ∷ xs) within = omega arith
 total_after f (suc n) (x ∷ xs) within =
     let rest = total_after f n xs (omega arith) in omega arith
 
+-- `total_after`, with n + 1 for the successor
 pub total_next : {A : Type 0} (f : A → ℕ) (n : ℕ) (xs : List (Option A))
     → n < length xs
     → total f (take (n + 1) xs) ≡ total f (take n xs) + weight f (get_or xs n None)
@@ -48,6 +49,7 @@ record IsWithout {A : Type 0} (k : ℕ) (xs : List (Option A)) : Type 0 where
   fewer : total (λ x. 1) slots + 1 ≡ total (λ x. 1) xs
   others : (j : ℕ) → j ≢ k → get_or slots j None ≡ get_or xs j None
 
+-- a list with an element at k has one without it (`IsWithout`)
 without_slot : {A : Type 0} (k : ℕ) (xs : List (Option A))
     → IsSome (get_or xs k None)
     → IsWithout k xs
@@ -97,13 +99,14 @@ few_slots (suc m) at xs used apart =
     (λ i j lt less e. apart i j (omega arith) (omega arith) e) in
     omega arith
 
+-- at most as many elements of a list are present as it is long
 slots_most : {A : Type 0} (xs : List (Option A)) → total (λ x. 1) xs ≤ length xs
 unfolding total
 slots_most [] = omega arith
 slots_most (None ∷ xs) = let rest = slots_most xs in omega arith
 slots_most (Some x ∷ xs) = let rest = slots_most xs in omega arith
 
--- n different handles of live maps are at most as many as there are
+-- n different handles of live maps are at most as many as the handles of a tenant
 pub few_handles : (n : ℕ) (handle : ℕ → ℕ) (tenant : LiveMaps)
     → ((i : ℕ) → i < n → IsSome (live_at tenant (handle i)))
     → ((i j : ℕ) → i < n → j < n → handle i ≡ handle j → i ≡ j)
@@ -112,6 +115,7 @@ few_handles n handle tenant live apart =
     let few = few_slots n handle tenant.maps live apart in
     let most = slots_most tenant.maps in omega arith
 
+-- the index of an element that is present is less than the length of the list
 some_within : {A : Type 0} (k : ℕ) (xs : List (Option A))
     → IsSome (get_or xs k None)
     → k < length xs
@@ -125,6 +129,8 @@ live_within k tenant live = some_within k tenant.maps live
 
 -- ---- the lowest free handle
 
+-- in lists of one length with elements at the same indices, the first index without an element is
+-- the same; it is the length if there is none
 same_front : {A B : Type 0} (xs : List (Option A)) (ys : List (Option B))
     → length xs ≡ length ys
     → ((k : ℕ) → is_some (get_or xs k None) ≡ is_some (get_or ys k None))
@@ -138,7 +144,8 @@ same_front (Some x ∷ xs) (None ∷ ys) long same = absurd (true≢false (same 
 same_front (Some x ∷ xs) (Some y ∷ ys) long same =
     ap (λ (n : ℕ). 1 + n) (same_front xs ys (omega arith) (λ k. same (suc k)))
 
--- it is the same in two lists of the same length with elements at the same indices
+-- the lowest index without an element is the same in two lists of one length with elements at the
+-- same indices
 pub same_lowest : {A B : Type 0} (xs : List (Option A)) (ys : List (Option B))
     → length xs ≡ length ys
     → ((k : ℕ) → is_some (get_or xs k None) ≡ is_some (get_or ys k None))
@@ -146,12 +153,14 @@ pub same_lowest : {A B : Type 0} (xs : List (Option A)) (ys : List (Option B))
 same_lowest xs ys long same =
     ap₂ (λ (n len : ℕ). cond (nat_lt n len) (Some n) None) (same_front xs ys long same) long
 
+-- the lowest free handle is the same if the same handles have a map
 pub same_free_handle : (old new : LiveMaps)
     → length new.maps ≡ length old.maps
     → ((k : ℕ) → is_some (live_at new k) ≡ is_some (live_at old k))
     → free_handle new ≡ free_handle old
 same_free_handle old new long same = same_lowest new.maps old.maps long same
 
+-- the first index without an element is no higher than any index without one
 front_most : {A : Type 0} (k : ℕ) (xs : List (Option A))
     → k < length xs
     → get_or xs k None ≡ None
@@ -162,7 +171,7 @@ front_most zero (Some x ∷ xs) within free = absurd (none-some x (sym free))
 front_most (suc k) (Some x ∷ xs) within free =
     let rest = front_most k xs (omega arith) free in omega arith
 
--- it is no higher than any free handle
+-- the lowest free handle is no higher than any free handle
 pub lowest_most : (lowest k : ℕ) (tenant : LiveMaps)
     → free_handle tenant ≡ Some lowest
     → live_at tenant k ≡ None
@@ -176,7 +185,7 @@ lowest_most lowest k tenant is free = by_order (cases_lt k lowest)
         (sym (ap is_none free) ∙ (position-Some is_none tenant.maps lowest None is).2 k lower))
     by_order (inr high) = high
 
--- there is one if a handle has no map
+-- there is a lowest free handle if a handle has no map
 pub some_handle_free : (k : ℕ) (tenant : LiveMaps)
     → k < length tenant.maps
     → live_at tenant k ≡ None
@@ -207,7 +216,7 @@ laid_inside tenant laid k p live lt = by (live_at tenant k) refl live lt
 pub same_areas : (tenant : LiveMaps) → SameAreas tenant tenant
 same_areas tenant k l e = (l, e, refl, refl, refl)
 
--- and a live map has the same elements
+-- if all areas are the same, a live map has the same elements
 pub same_elements : (old new : LiveMaps) (k : ℕ)
     → SameAreas old new
     → IsSome (live_at new k)
@@ -225,7 +234,7 @@ same_elements old new k areas live = by (live_at new k) refl live
     by (Some l) e some =
         let was = areas k l e in ap shown e ∙ ap elements_of was.2 ∙ sym (ap shown was.1)
 
--- and after two changes that each keep the areas
+-- two changes that each keep the areas keep them, one after the other
 pub areas_along : (old mid new : LiveMaps)
     → SameAreas old mid
     → SameAreas mid new

@@ -177,12 +177,14 @@ impl ValueMap for ArrayMap {
         self.element_of(key)
     }
 
+    // No update needs a free element: a present index has its own, and an absent one is out of range.
     #[inline(always)]
     fn claim(&mut self, key: &[u8], flags: u64) -> Result<u32, MapFault> {
         self.keys_are_its_indices();
         self.element_for(key, flags)
     }
 
+    // An array has all its indices at any time, so no key is removed.
     fn remove(&mut self, _key: &[u8]) -> Result<(), MapFault> {
         self.keys_are_its_indices();
         Err(MapFault::Invalid)
@@ -197,6 +199,7 @@ impl ValueMap for ArrayMap {
         Some(KeyRef::Short(ShortKey::of_word(u64::from(index), INDEX_SIZE)))
     }
 
+    // No key of an array is removed, so no element is kept apart.
     fn end_run(&mut self) {
         self.keys_are_its_indices();
     }

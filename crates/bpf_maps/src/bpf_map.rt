@@ -34,8 +34,8 @@ impl BpfMap {
         }
     }
 
-    /// Makes a map of this shape, a hash map in the memory of a spare one, if one fits. `live` are the other hash maps. `AllocError`:
-    /// out of memory.
+    /// Makes a map of this shape, a hash map in the memory of a spare one, if one fits. `live` are the live hash maps, for a hash map only
+    /// (`SpareMaps`). `AllocError`: out of memory.
     pub(crate) fn with_spares(
         alloc: Global,
         shape: MapShape,
@@ -83,6 +83,7 @@ impl BpfMap {
     }
 }
 
+// Each call is that of the map's kind.
 impl ValueMap for BpfMap {
     ghost keys = { keys_in };
 

@@ -1,4 +1,5 @@
-//! What follows for a caller only from the contracts, about live maps with the bytes of their values.
+//! Callers for proofs only, which nothing calls: that each meets its contract follows only from public contracts and laws. They are about
+//! live maps with the bytes of their values in the tenant's part.
 
 ghost use Rattle.std.specs.Prelude.{◌≡◌, ◌≢◌, ◌+◌, ◌-◌, ◌^◌, ◌<◌, ◌≤◌, length, Err, IfOk, OnErr, IsSome};
 ghost use Rattle.tagged_model.specs.Table.{after_run, with_deleted};
@@ -13,7 +14,8 @@ use seeded_hash::HashSeed;
 use std::alloc::Global;
 use tagged_model::{MapFault, MapShape};
 
-/// An update changes the map as the verdict on it says, and no other map. A rejected update changes no map.
+/// Updates a key: claims an element for it and writes the value there. The map changes as the verdict on the update says, and no other
+/// map changes; if the update is rejected, none does.
 fn update(
     maps: &mut Maps,
     map: MapKey,
@@ -40,7 +42,8 @@ fn update(
     Ok(())
 }
 
-/// A deletion outside a run removes the key from the map, and changes no other map. A rejected deletion changes no map.
+/// Deletes a key outside a run, so the end of a run follows at once. The map has lost the key, and no other map changes; if the deletion
+/// is rejected, none does.
 fn delete(maps: &mut Maps, map: MapKey, key: &[u8], part: &[u8]) -> Result<(), MapFault>
     requires live { IsSome (live_at maps.old map) }
     requires key { length key.now ≡ (shape_at maps.old map).key_size }
@@ -55,7 +58,7 @@ fn delete(maps: &mut Maps, map: MapKey, key: &[u8], part: &[u8]) -> Result<(), M
     Ok(())
 }
 
-/// If no value of an element of a map has changed, the map is unchanged.
+/// A law: if no value of an element of a map differs in the parts `before` and `after`, the map is the same in both.
 fn is_unchanged(maps: &Maps, map: MapKey, before: &[u8], after: &[u8])
     requires live { IsSome (live_at maps.now map) }
     requires values { SameValues maps.now before.now maps.now after.now }
@@ -65,7 +68,7 @@ fn is_unchanged(maps: &Maps, map: MapKey, before: &[u8], after: &[u8])
     laws::values_agree();
 }
 
-/// Creates a tenant's first map, of handle 0, unless out of memory.
+/// Creates a tenant's first map: it has handle 0, and there is room for it, so the only error is `Memory`.
 fn make_first(alloc: Global, shape: MapShape, part: &mut [u8]) -> Result<MapKey, MapFault>
     requires { length part.old ≡ PART }
     ensures room { result ≢ Err NoSpace }
@@ -78,7 +81,8 @@ fn make_first(alloc: Global, shape: MapShape, part: &mut [u8]) -> Result<MapKey,
     maps.create(shape, part)
 }
 
-/// After a map is freed there is room for another of its shape, with its handle or a lower one. The other maps are unchanged.
+/// Frees a map by its last release, and creates another of its shape: there is room for it, and its handle is that of the freed map or a
+/// lower one. The other maps are unchanged.
 fn make_again(maps: &mut Maps, map: MapKey, part: &mut [u8]) -> Result<MapKey, MapFault>
     requires live { IsSome (live_at maps.old map) }
     requires last { holds_at maps.old map ≤ 1 }
@@ -94,7 +98,7 @@ fn make_again(maps: &mut Maps, map: MapKey, part: &mut [u8]) -> Result<MapKey, M
     maps.create(shape, part)
 }
 
-/// After a map is created and released there is as much room as before. The other maps are unchanged.
+/// Creates a map and releases it: the creation of any map then has the same fault as before, or none. The other maps are unchanged.
 fn make_and_release(maps: &mut Maps, shape: MapShape, part: &mut [u8])
     requires { length part.old ≡ PART }
     ensures room { (other : MapShape) → create_fault maps.new other ≡ create_fault maps.old other }
@@ -107,7 +111,7 @@ fn make_and_release(maps: &mut Maps, shape: MapShape, part: &mut [u8])
     }
 }
 
-/// A reference that is added and dropped again changes no map.
+/// Adds a reference to a map and drops it: no map has changed.
 fn hold_and_release(maps: &mut Maps, map: MapKey, part: &mut [u8])
     requires live { IsSome (live_at maps.old map) }
     requires few { holds_at maps.old map < 2 ^ 32 - 1 }

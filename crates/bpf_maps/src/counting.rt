@@ -52,7 +52,8 @@ impl Maps {
         sum
     }
 
-    /// The live hash maps that limit the memory of a new map of this kind: none for an array, which takes no memory.
+    /// The live hash maps, for the creation of a map of this kind: a new hash map frees spare maps if they and the live ones are too many
+    /// (`SpareMaps`). An array takes no memory and frees none, so for an array none are counted.
     pub(crate) fn live_beside(&self, kind: MapKind) -> LiveHashMaps {
         match kind {
             MapKind::Array => NO_HASH_MAPS,

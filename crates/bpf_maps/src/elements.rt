@@ -35,7 +35,7 @@ impl Elements {
         }
     }
 
-    /// The elements as one number: how many there are in its low 32 bits, and the distance in the others.
+    /// The elements as one number: how many there are in its low 32 bits, and the distance of their values, in bytes, in the others.
     #[inline(always)]
     pub fn word(self) -> u64
         ensures { result ≡ word_of self }
@@ -43,7 +43,8 @@ impl Elements {
         u64::from(self.count) + 0x1_0000_0000 * u64::from(self.stride)
     }
 
-    /// The elements from their number. If they are those of a shape and there are some, its keys have `INDEX_SIZE` bytes.
+    /// The elements that `word` makes this number. If they are those of a shape, and there are some, the shape is an array's and its keys
+    /// have `INDEX_SIZE` bytes.
     #[inline(always)]
     pub fn of_word(word: u64) -> Elements
         ensures word { word_of result ≡ word }
@@ -58,8 +59,8 @@ impl Elements {
         }
     }
 
-    /// The address of the value of a key, modulo 2^64, like `Maps::address_of`, if these are the elements of a live array whose first
-    /// value has address `first`. It doesn't read the map.
+    /// The address of the value of a key, modulo 2^64, if these are the elements of a live array whose first value has address `first`; 0
+    /// if the array doesn't have the key. It reads neither `maps` nor the map: they are for the contract.
     #[inline(always)]
     pub fn address_of(self, maps: &Maps, map: MapKey, key: &[u8], first: u64) -> u64
         ensures address { AreOfArray self maps.now map → (part : ℕ)

@@ -56,7 +56,7 @@ impl HashMap {
         })
     }
 
-    /// Whether keys have this shape's size, and the map as many entries.
+    /// Whether the map's keys have the size of this shape's, and the map as many entries: then a map of the shape can have its memory.
     pub(crate) fn is_like(&self, shape: MapShape) -> bool
         ensures { IsTrue result → IsLike shape (Some self.now) }
     {
@@ -90,7 +90,7 @@ impl HashMap {
         self.shape.max_entries - self.spare.len() as u32
     }
 
-    /// A law: no two keys have the same element. It does nothing when it runs.
+    /// A law: the map's kind is `Hash`, and no two keys have the same element. It does nothing when it runs.
     #[inline(always)]
     fn elements_are_distinct(&self)
         ensures kind { self.now.shape.kind ≡ Hash }
@@ -117,7 +117,8 @@ impl HashMap {
         self.index.entry_after(element)
     }
 
-    /// Claims a free element for a new key, which goes to the end. `TooBig` if no element is free. Then nothing has changed.
+    /// Claims a free element for a new key, which goes to the end. `TooBig` if no element is free; then nothing has changed. Not inlined,
+    /// as the rest of an update is: that of a present key needs none of it.
     #[cold]
     #[inline(never)]
     #[tactic(auto, using(crate::proofs::Kept::sound))]
@@ -141,12 +142,14 @@ impl HashMap {
 impl ValueMap for HashMap {
     ghost keys = { λ m. m };
 
+    // A function of its own in the machine code, which ends in a jump to that for the kind of the index (`get` of `KeyIndex`).
     #[inline(never)]
     fn find(&self, key: &[u8]) -> Option<u32> {
         self.elements_are_distinct();
         self.element_of(key)
     }
 
+    // A present key has its element; only an absent one needs a free element, which `add` claims.
     #[inline(always)]
     fn claim(&mut self, key: &[u8], flags: u64) -> Result<u32, MapFault> {
         self.elements_are_distinct();
@@ -188,6 +191,7 @@ impl ValueMap for HashMap {
     }
 
     fn end_run(&mut self) {
+        // Of the spare elements the first `kept` are kept apart, so now all are free.
         self.kept = 0;
     }
 }

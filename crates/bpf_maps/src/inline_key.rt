@@ -33,7 +33,7 @@ impl<const N: usize> Model for InlineKey<N> {
 }
 
 impl<const N: usize> InlineKey<N> {
-    /// Makes a key with a copy of these bytes.
+    /// Makes a key of a copy of these bytes, of which there are at most `N`, with zeros after them.
     #[inline(always)]
     pub(crate) fn copy_of(bytes: &[u8]) -> InlineKey<N>
         requires short { length bytes.now ≤ N }
@@ -47,6 +47,7 @@ impl<const N: usize> InlineKey<N> {
         }
     }
 
+    /// The bytes of the key, without the zeros after them.
     #[inline(always)]
     pub(crate) fn bytes(&self) -> &[u8]
         ensures { result.now ≡ self.now }
@@ -80,7 +81,7 @@ impl<const N: usize> Hash for InlineKey<N> {
     }
 }
 
-/// The bytes of a key that is looked up.
+/// The bytes of a key that is looked up, borrowed. They equal an `InlineKey` that has the same bytes, and are hashed like it.
 #[derive(Clone, Copy)]
 pub(crate) struct KeyBytes<'a> {
     pub(crate) bytes: &'a [u8],

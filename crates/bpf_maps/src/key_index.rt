@@ -16,8 +16,8 @@ use crate::word_index::{LONGEST_WORD, WordIndex};
 use seeded_hash::HashSeed;
 use std::alloc::{AllocError, Global};
 
-/// The keys of a hash map, each with its element, in the order in which they were added. Short keys are kept as numbers, longer ones
-/// as bytes, in arrays of one of two lengths.
+/// The keys of a hash map, each with its element, in the order in which they were added. Keys of at most 8 bytes are kept as numbers,
+/// longer ones as bytes, in arrays of 64 or of 512.
 #[derive(Drop)]
 pub enum KeyIndex {
     Words(WordIndex),
@@ -47,7 +47,7 @@ impl KeyIndex {
         }
     }
 
-    /// The bytes in which a key of this size is kept.
+    /// The number of bytes in which a key of this size is kept.
     pub(crate) fn room_of(key_size: usize) -> usize
         ensures { result ≤ LONGEST_LONG }
     {

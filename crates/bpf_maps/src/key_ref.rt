@@ -36,6 +36,7 @@ impl ShortKey {
         }
     }
 
+    /// The bytes of the key, without those after it.
     fn bytes(&self) -> &[u8]
         ensures { result.now ≡ self.now }
     {

@@ -25,7 +25,7 @@
 //!   the model of `HashMap`.
 //! - The next key is the one of the definition, and has the size of the map's keys: `given`, `size` of `key_after`. Or it is
 //!   written at the front of a buffer for the longest key, with nothing changed after it; nothing is written if no key follows:
-//!   `given` of `next_key`.
+//!   `given` of `next_key`. After the key of an element, it comes with its element: `entry` of `Maps::entry_after`.
 //! - Seen as maps, new maps, new keys, deletes and ends of runs are those of the definition: `calls_are_those_of_a_map`.
 //! - Writing a value at a key's element gives the key that value; values that agree on the elements in use give one map:
 //!   `writes_refine_values`, `values_agree`.

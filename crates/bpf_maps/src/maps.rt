@@ -46,8 +46,10 @@ impl Model for MapKey {
 /// A tenant's live maps. Contracts see the map of each of `MAPS` handles, and the positions of its values in the tenant's part.
 #[derive(Drop)]
 pub struct Maps {
+    // With these, new maps are allocated and the keys of hash maps are hashed.
     alloc: Global,
     seed: HashSeed,
+    // The live maps, by keys that the slab chooses.
     maps: Slab<StoredMap>,
     // The slab's key of the map of each handle.
     keys: SlabKeys,
@@ -56,6 +58,7 @@ pub struct Maps {
     // The number of bytes that the areas of all maps take. The areas lie one after another, in order of creation, after the stack
     // and the context.
     pub(crate) bytes: usize,
+    // Whether memory was refused to a new map.
     refused: bool,
 }
 
@@ -117,7 +120,7 @@ impl Maps {
         &self.maps[key]
     }
 
-    /// The offset of the value of an element of a live map, which is this one, in the tenant's part.
+    /// The offset of the value of an element of a live map in the tenant's part, in bytes. `stored` is the map of handle `map`.
     #[inline(always)]
     fn offset_in(&self, map: MapKey, stored: &StoredMap, element: u32) -> usize
         requires stored { live_at self.now map ≡ Some (live_of stored.now) }
@@ -178,7 +181,7 @@ impl Maps {
             elements: Elements::of(shape).word(),
             holds: 1,
         };
-        // A key is less than the capacity.
+        // The slab's key is less than its capacity, and so it is not `NO_KEY`.
         let _capacity = self.maps.capacity();
         let key = self.maps.insert_reserved(stored);
         self.keys.put(handle, key);

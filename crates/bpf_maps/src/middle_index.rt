@@ -13,7 +13,7 @@ use seeded_hash::HashSeed;
 use std::alloc::{AllocError, Global};
 use std::marker::Model;
 
-/// The length of the longest key, in bytes.
+/// The length of the longest key of a `MiddleIndex`, in bytes.
 pub(crate) const LONGEST_MIDDLE: usize = 64;
 
 /// Keys of at most 64 bytes, each with its element, in the order in which they were added. Contracts see the keys' bytes with their
@@ -45,7 +45,8 @@ impl MiddleIndex {
         Ok(MiddleIndex { map })
     }
 
-    /// Returns the element of a key; `None` if the key is absent.
+    /// Returns the element of a key; `None` if the key is absent. A function of its own in the machine code, so that the look-up of a short
+    /// key (`WordIndex`) saves no registers for it.
     #[inline(never)]
     pub(crate) fn get(&self, key: &[u8]) -> Option<u32>
         ensures { result ≡ found key.now self.now.entries }

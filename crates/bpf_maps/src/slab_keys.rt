@@ -14,6 +14,7 @@ const NO_KEY: usize = usize::MAX;
 /// The slab's key of each handle, if it has one. Contracts see a list of `MAPS` options.
 #[derive(Drop)]
 pub(crate) struct SlabKeys {
+    // By handle: its key, or `NO_KEY`.
     words: [usize; MAPS],
 }
 

@@ -13,7 +13,7 @@ use seeded_hash::HashSeed;
 use std::alloc::{AllocError, Global};
 use tagged_model::MapShape;
 
-/// The most entries of a tenant's hash maps: the values of each take at least eight bytes of `LARGEST_SUM`.
+/// The most entries that a tenant's live hash maps can have together: the value of each takes at least eight bytes of `LARGEST_SUM`.
 const MOST_ENTRIES: usize = LARGEST_SUM / 8;
 
 /// The live hash maps of a tenant: how many they are, and how many entries they can have.
@@ -30,7 +30,7 @@ pub(crate) const NO_HASH_MAPS: LiveHashMaps = LiveHashMaps {
 };
 
 impl LiveHashMaps {
-    /// With a map more, which can have so many entries.
+    /// These and one map more, which can have this many entries.
     pub(crate) fn with(self, entries: u32) -> LiveHashMaps {
         LiveHashMaps {
             maps: self.maps.saturating_add(1),
@@ -49,7 +49,7 @@ pub struct SpareMaps {
 }
 
 impl SpareMaps {
-    /// None. Allocates room for `MAPS`. `AllocError`: out of memory.
+    /// No spare maps. Allocates room for `MAPS` of them. `AllocError`: out of memory.
     pub(crate) fn with_room(alloc: Global) -> Result<SpareMaps, AllocError> {
         let maps = Vec::with_capacity(alloc, MAPS)?;
         Ok(SpareMaps { maps })
@@ -63,6 +63,7 @@ impl SpareMaps {
         }
     }
 
+    /// Keeps a hash map, if there is room for it. It is not inlined, so that an array takes no call and no copy of the map's record.
     #[cold]
     #[inline(never)]
     fn keep_hash_map(&mut self, map: HashMap) {
@@ -72,7 +73,7 @@ impl SpareMaps {
     }
 
     /// Makes a hash map of this shape: a spare one with the same size of keys and as many entries, if there is one, or a new one.
-    /// `live` are the other hash maps. `AllocError`: out of memory.
+    /// `live` are the live hash maps. `AllocError`: out of memory.
     #[cold]
     #[inline(never)]
     pub(crate) fn hash_map(
@@ -121,7 +122,7 @@ impl SpareMaps {
             && self.entries().saturating_add(live.entries) <= MOST_ENTRIES
     }
 
-    /// How many entries of these maps are too many besides these live ones.
+    /// By how many the entries of the spare maps and of these live ones exceed `MOST_ENTRIES`; 0 if they do not.
     fn excess(&self, live: LiveHashMaps) -> usize {
         let entries = self.entries().saturating_add(live.entries);
         entries.saturating_sub(MOST_ENTRIES)
@@ -137,8 +138,8 @@ impl SpareMaps {
         }
     }
 
-    /// The index of the map to free if so many entries are too many: of those that suffice the one with the least memory; if none
-    /// does, the one with the most entries.
+    /// The index of the map to free if `excess` entries are too many: of those that can have so many, the one with the least memory; if
+    /// none can, the one with the most entries.
     fn next_to_free(&self, excess: usize) -> usize
         requires { 0 < vec_len self.now.maps }
         ensures within { result < vec_len self.now.maps }
@@ -155,7 +156,7 @@ impl SpareMaps {
     }
 }
 
-/// Whether a map of a shape is freed rather than another one, if so many entries are too many.
+/// Whether a map of `shape` is freed rather than one of `other`, if `excess` entries are too many, by the rule of `next_to_free`.
 fn is_freed_before(shape: MapShape, other: MapShape, excess: usize) -> bool
     ensures freed { result ≡ true → excess ≤ other.max_entries → excess ≤ shape.max_entries }
     ensures stays { result ≡ false → excess ≤ shape.max_entries → excess ≤ other.max_entries }

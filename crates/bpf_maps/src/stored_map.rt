@@ -22,7 +22,7 @@ pub(crate) struct StoredMap {
 }
 
 impl StoredMap {
-    /// Lowers the start of the area by `size` if it is `end` or more.
+    /// Lowers the start of the area by `size` if the area begins at `end` or after it: an area of `size` bytes up to `end` is gone.
     fn close_up(&mut self, end: usize, size: usize)
         requires { size ≤ end }
         ensures { self.new ≡ closed_up end size self.old }

@@ -20,6 +20,7 @@ pub(crate) const LONGEST_WORD: usize = 8;
 /// that its bytes make, little-endian. Contracts see the size and the keys' bytes with their elements.
 #[derive(Drop)]
 pub struct WordIndex {
+    // The size of each key, in bytes.
     size: usize,
     map: OrderedMap<u64, HashSeed>,
 }
@@ -53,7 +54,8 @@ impl WordIndex {
         Ok(WordIndex { size, map })
     }
 
-    /// Returns the element of a key; `None` if the key is absent.
+    /// Returns the element of a key; `None` if the key is absent. A function of its own in the machine code, so that it saves no registers
+    /// that only longer keys need.
     #[inline(never)]
     pub(crate) fn get(&self, key: &[u8]) -> Option<u32>
         requires { length key.now ≡ self.now.size }
@@ -131,6 +133,7 @@ fn word_of(key: &[u8]) -> u64
     }
 }
 
+/// The number that the four bytes of a key make, little-endian, by one load.
 #[inline(always)]
 fn four_bytes(key: &[u8]) -> u32
     requires { length key.now ≡ 4 }
@@ -139,6 +142,7 @@ fn four_bytes(key: &[u8]) -> u32
     u32::from_le_bytes([key[0], key[1], key[2], key[3]])
 }
 
+/// The number that the eight bytes of a key make, little-endian, by one load.
 #[inline(always)]
 fn eight_bytes(key: &[u8]) -> u64
     requires { length key.now ≡ 8 }
@@ -149,7 +153,8 @@ fn eight_bytes(key: &[u8]) -> u64
     ])
 }
 
-/// The number of a key of another length, filled up with zero bytes to eight.
+/// The number that the bytes of a key make, little-endian, if they are neither four nor eight: zeros fill them up to eight. Out of line,
+/// so that other keys take one load.
 #[cold]
 #[inline(never)]
 fn filled_word(key: &[u8]) -> u64

@@ -17,16 +17,19 @@ use Rattle.bpf_text.specs.Lines.{text_lines}
 
 -- ---- slots and labels of lines; `None` is a line that has none of the forms
 
+-- the slots of a line's instruction, 0 if it has none
 abbrev pub line_slots : Option Line → ℕ
 line_slots None = 0
 line_slots (Some blank) = 0
 line_slots (Some (label n)) = 0
 line_slots (Some (code form n)) = form_slots form
 
+-- the slots of all these lines
 unfoldable pub slots_on : List (Option Line) → ℕ
 slots_on [] = 0
 slots_on (line ∷ lines) = line_slots line + slots_on lines
 
+-- whether the line defines the label of this name
 abbrev pub defines : List ℕ → Option Line → Bool
 defines name None = false
 defines name (Some blank) = false
@@ -45,13 +48,15 @@ label_slot lines name = slots_on (take (unwrap_or (label_line name lines) 0) lin
 
 -- ---- faults
 
+-- whether some line defines the label that a form names, if it names one
 abbrev pub is_known : List (Option Line) → Form → List ℕ → Bool
 is_known lines form name = not (names_label form) || is_some (label_line name lines)
 
+-- whether a line before line i defines the label of this name
 abbrev pub is_twice : List (Option Line) → ℕ → List ℕ → Bool
 is_twice lines i name = nat_lt (unwrap_or (label_line name lines) i) i
 
--- the line's slots go past the most that a program may have
+-- these slots go past the most that a program may have, and those before them do not
 abbrev pub passes : ℕ → ℕ → Bool
 passes before slots = nat_le before most_slots && nat_lt most_slots (before + slots)
 
@@ -68,10 +73,12 @@ line_fault lines i before (Some (code form name)) =
     Some UnknownLabel) else
     Some Range
 
+-- the fault of line i, counted from 0; `None` if no line has this index
 abbrev pub line_fault_of : List (Option Line) → ℕ → Option (Option Line) → Option TextFaultKind
 line_fault_of lines i None = None
 line_fault_of lines i (Some line) = line_fault lines i (slots_on (take i lines)) line
 
+-- the fault of line i, counted from 0, of the lowest kind that it has; `None` if it has none
 unfoldable pub fault_at : List (Option Line) → ℕ → Option TextFaultKind
 fault_at lines i = line_fault_of lines i (slice_get lines i)
 
@@ -81,7 +88,8 @@ fault_at lines i = line_fault_of lines i (slice_get lines i)
 abbrev pub distance : List (Option Line) → ℕ → List ℕ → ℤ
 distance lines slot name = pos (label_slot lines name) -ℤ pos (slot + 1)
 
--- the written forms of the lines from a slot on, with labels replaced by distances
+-- the written forms of the lines from a slot on, with labels replaced by distances: `all` are all
+-- lines of the text, one of which defines the label
 unfoldable pub forms_from : List (Option Line) → ℕ → List (Option Line) → List Form
 forms_from all slot [] = []
 forms_from all slot (None ∷ lines) = forms_from all slot lines
@@ -90,7 +98,7 @@ forms_from all slot (Some (label n) ∷ lines) = forms_from all slot lines
 forms_from all slot (Some (code form n) ∷ lines) =
     resolved (distance all slot n) form ∷ forms_from all (slot + form_slots form) lines
 
--- each line has its reading
+-- the second list has the readings of the lines of the first, in order
 abbrev pub AreRead : List (List ℕ) → List (Option Line) → Type 0
 AreRead [] [] = Unit {0}
 AreRead (bytes ∷ more) (line ∷ lines) = ReadAs bytes line × AreRead more lines

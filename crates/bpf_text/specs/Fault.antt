@@ -4,6 +4,7 @@ use Rattle.bpf_text.specs.declared.fault.TextFault.{TextFault}
 use Rattle.bpf_text.specs.declared.fault.TextFaultKind.{TextFaultKind}
 use Rattle.bpf_text.specs.declared.fault.TextFaultKind.TheVariants.{Syntax, Range, UnknownLabel, LabelTwice, TooLong, Empty, Memory}
 
+-- the kind's number, which a fault line has
 abbrev pub kind_number : TextFaultKind → ℕ
 kind_number Syntax = 1
 kind_number Range = 2
@@ -17,6 +18,7 @@ kind_number Memory = 7
 abbrev pub memory_fault : TextFault
 memory_fault = record { line = 0; kind = Memory }
 
+-- the text has no slot
 abbrev pub empty_fault : TextFault
 empty_fault = record { line = 0; kind = Empty }
 

@@ -22,6 +22,7 @@ hex_text _ = []
 abbrev pub hex_digits : List ℕ → Option (List ℕ)
 hex_digits digits = if length digits == 0 then Some [] else result_ok (decode_sized digits 8)
 
+-- the bytes on a line; `None` if it is neither blank nor sixteen digits
 unfoldable pub hex_line : List ℕ → Option (List ℕ)
 hex_line line = hex_digits (stripped line)
 
@@ -37,10 +38,12 @@ hex_fault before (Some bytes) =
     then Some TooLong
     else None
 
+-- the fault of a line, after lines of `before` bytes; `None` if no line is given
 abbrev pub hex_fault_of : ℕ → Option (List ℕ) → Option TextFaultKind
 hex_fault_of before None = None
 hex_fault_of before (Some line) = hex_fault before (hex_line line)
 
+-- the fault of line i, counted from 0; `None` if it has none
 unfoldable pub hex_fault_at : List (List ℕ) → ℕ → Option TextFaultKind
 hex_fault_at lines i = hex_fault_of (length (hex_bytes (take i lines))) (slice_get lines i)
 

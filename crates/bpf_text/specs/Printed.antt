@@ -8,5 +8,6 @@ use Rattle.text_line.specs.Written.{printed_insn}
 abbrev pub printed_line : Insn → List ℕ
 printed_line insn = printed_insn insn ++ 10 ∷ []
 
+-- the text of a program: a line for each instruction, in order
 abbrev pub printed : List Insn → List ℕ
 printed insns = flat_map printed_line insns

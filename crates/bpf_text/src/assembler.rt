@@ -22,7 +22,7 @@ use std::alloc::{AllocError, Global};
 use std::collections::HashMap;
 use text_line::{Form, Line, read_line};
 
-/// Parses the lines of a text.
+/// Parses the lines of a text, given without their line feeds; `None` for a line that has none of the forms.
 fn read_lines<'a>(alloc: Global, text: &'a [&'a str]) -> Result<Vec<Option<Line<'a>>>, AllocError>
     ensures { IfOk result (λ lines. AreRead (map (λ line. line.now) text.now)
         (seen_lines lines.items)) }
@@ -38,14 +38,14 @@ fn read_lines<'a>(alloc: Global, text: &'a [&'a str]) -> Result<Vec<Option<Line<
     Ok(lines)
 }
 
-/// The index of a line, and the number of slots before it.
+/// A line, as of the definition of a label: its index, from 0, and the number of slots before it.
 #[derive(Clone, Copy, Debug)]
 struct Definition {
     line: usize,
     slot: usize,
 }
 
-/// The number of slots of a line.
+/// The number of slots of a line's instruction; 0 if it has none.
 fn line_slots(line: &Option<Line<'_>>) -> usize
     ensures value { result ≡ line_slots (seen_option line.now) }
     ensures bound { result ≤ 2 }
@@ -56,7 +56,7 @@ fn line_slots(line: &Option<Line<'_>>) -> usize
     }
 }
 
-/// The name of the label that a line defines.
+/// The name of the label that a line defines, if it defines one.
 fn defined<'a>(line: &Option<Line<'a>>) -> Option<&'a str>
     ensures { option_map (λ n. n.now) result ≡ label_defined (seen_option line.now) }
 {
@@ -66,7 +66,7 @@ fn defined<'a>(line: &Option<Line<'a>>) -> Option<&'a str>
     }
 }
 
-/// Keeps the line and the slot of a label's definition, unless an earlier line defines it.
+/// Enters the label that a line defines, if it defines one, with the line's index and slot, unless an earlier line defines it.
 fn note<'a>(
     labels: &mut HashMap<&'a str, Definition>,
     line: &Option<Line<'a>>,
@@ -101,14 +101,15 @@ fn labels<'a>(
     Ok(labels)
 }
 
-/// The definition of a label.
+/// The first definition of a label; `None` if no line defines it.
 fn definition_of_label(labels: &HashMap<&str, Definition>, name: &str) -> Option<Definition>
     ensures { result ≡ definition_of labels.now name.now }
 {
     labels.get(name).copied()
 }
 
-/// The distance in slots from slot `slot + 1` to a label.
+/// The distance in slots from slot `slot + 1` to a label. So that it fits, a label that no line defines counts as one of slot 0, and one
+/// past `MAX_SLOTS` as one of that slot: the text of a jump to them has a fault.
 fn distance(label: Option<Definition>, slot: usize) -> i16
     requires { slot ≤ MAX_SLOTS }
     ensures { result ≡ kept_distance label slot }
@@ -120,7 +121,7 @@ fn distance(label: Option<Definition>, slot: usize) -> i16
     to as i16 - (slot as i16 + 1)
 }
 
-/// The instruction of a form, given the definition of the label that it names and the slots before it.
+/// The instruction of a form, given the definition of the label that it names and the slots before it; or its fault, the lowest kind.
 fn resolve(form: &Form, label: Option<Definition>, slot: usize) -> Result<Insn, TextFaultKind>
     requires form { IsForm form.now }
     requires room { slot ≤ MAX_SLOTS }
@@ -141,7 +142,8 @@ fn resolve(form: &Form, label: Option<Definition>, slot: usize) -> Result<Insn, 
     Ok(insn)
 }
 
-/// The instruction on a line, with its number and slot; `None` for a blank line or one that defines a label.
+/// The instruction on a line, with its index and the slots before it in `here`; `None` for a blank line or one that defines a label. Or
+/// the line's fault.
 fn instruction(
     labels: &HashMap<&str, Definition>,
     line: &Option<Line<'_>>,
@@ -171,7 +173,7 @@ fn instruction(
     }
 }
 
-/// The instructions on the lines.
+/// The instructions on the lines, or the fault of the first line that has one.
 fn instructions(
     alloc: Global,
     lines: &[Option<Line<'_>>],
@@ -201,7 +203,7 @@ fn instructions(
     Ok(insns)
 }
 
-/// The program of the instructions; `Empty` if there is no instruction.
+/// The program of the instructions; the fault `Empty` if there is no instruction.
 fn program(alloc: Global, insns: &[Insn]) -> Result<Program, TextFault>
     requires { slot_count insns.now ≤ MAX_SLOTS }
     ensures made { IfOk result (λ program. (program ≡ insns.now) × (0 < slot_count insns.now)) }
@@ -217,7 +219,7 @@ fn program(alloc: Global, insns: &[Insn]) -> Result<Program, TextFault>
     }
 }
 
-/// Assembles a text.
+/// Assembles a text, as `assemble`, whose contract also has that no other program or fault is the text's.
 fn program_of(alloc: Global, text: &str) -> Result<Program, TextFault>
     ensures ok { IfOk result (λ program. IsAssembled text.now program) }
     ensures fault { IfErr result (λ e. (e ≡ memory_fault) ⊎ IsOwnFault text.now e) }

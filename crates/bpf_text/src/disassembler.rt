@@ -20,6 +20,7 @@ use std::fmt::Write;
 
 // ---- names
 
+/// The name of a register's 64 bits.
 fn wide_name(reg: Reg) -> &'static str
     ensures { result.now ≡ register_name true reg }
 {
@@ -38,6 +39,7 @@ fn wide_name(reg: Reg) -> &'static str
     }
 }
 
+/// The name of a register's low 32 bits.
 fn half_name(reg: Reg) -> &'static str
     ensures { result.now ≡ register_name false reg }
 {
@@ -56,6 +58,7 @@ fn half_name(reg: Reg) -> &'static str
     }
 }
 
+/// The name of a register: of its 64 bits if `wide`, else of its low 32.
 fn register_name(wide: bool, reg: Reg) -> &'static str
     ensures { result.now ≡ register_name wide reg }
 {
@@ -81,7 +84,7 @@ fn signed_parts(n: i32) -> (&'static str, u32)
     (sign, n.unsigned_abs())
 }
 
-/// Writes the second operand.
+/// Writes the second operand: a constant, or the name of a register, of its 64 bits if `wide`, else of its low 32.
 fn write_operand(text: &mut String, wide: bool, src: Operand) -> Result<(), AllocError>
     ensures { OnOk result (string_bytes text.new ≡ string_bytes text.old
         ++ laid_out (operand_layout wide (source_of src) [])) }
@@ -94,7 +97,7 @@ fn write_operand(text: &mut String, wide: bool, src: Operand) -> Result<(), Allo
 
 // ---- lines of instructions
 
-/// Writes an operation of two operands.
+/// Writes an operation of two operands, or a move.
 #[tactic(auto, unfolding(text_line::specs::Written::printed_insn))]
 fn write_alu(
     text: &mut String,

@@ -88,7 +88,7 @@ fn slots_on(alloc: Global, lines: &[&str]) -> Result<Vec<u8>, TextFault>
     Ok(bytes)
 }
 
-/// Appends the slot of a line to `bytes`, if the line has one.
+/// Appends the slot of a line, eight bytes, to `bytes`, if the line has one. `bytes` has those of the lines before it.
 fn append_slot(bytes: &mut Vec<u8>, line: &str) -> Result<(), TextFaultKind>
     requires { vec_len bytes.old ≤ 8 * MAX_SLOTS }
     ensures ok { OnOk result (bytes.new.items ≡ bytes.old.items

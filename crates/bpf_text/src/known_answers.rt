@@ -2,6 +2,7 @@
 
 use crate::TextFaultKind;
 
+/// The kinds of faults are numbered from 1, the lowest, to 7.
 fn kinds_of_faults() {
     let (first, last) = (
         TextFaultKind::Syntax.number(),

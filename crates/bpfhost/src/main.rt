@@ -5,7 +5,7 @@ use host::{HashSeed, refuse_unread_words, run_words};
 use std::process::ExitCode;
 use std::{env, io};
 
-/// Runs the program on its arguments. An error means that the arguments could not be read.
+/// Runs the program on its arguments, those after its name, and returns the exit status. An error means that they could not be read.
 fn run(rt: &HostRuntime) -> io::Result<u8> {
     let alloc = rt.alloc();
     let given: Vec<String> = env::args(rt)?.skip(1).collect(alloc)?;
@@ -13,6 +13,7 @@ fn run(rt: &HostRuntime) -> io::Result<u8> {
         .iter()
         .map(|argument| argument.as_str())
         .collect(alloc)?;
+    // Without a seed only `serve` fails.
     let seed = HashSeed::random(rt).ok();
     Ok(run_words(
         alloc,

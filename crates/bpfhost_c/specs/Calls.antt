@@ -29,7 +29,8 @@ StandsAt None reply at length = ⊥
 StandsAt (Some s) reply at length =
     (s.reply.items ≡ reply) × (at ≡ vec_ptr s.reply) × (length ≡ vec_len s.reply)
 
--- the frames of a save lie at an address in the same way
+-- The frames that were saved last lie at an address: they are the bytes of the session's vector for
+-- them, which begin there.
 abbrev pub SavedAt : Option Session → List ℕ → Ptr → ℕ → Type 0
 SavedAt None frames at length = ⊥
 SavedAt (Some s) frames at length =
@@ -37,13 +38,13 @@ SavedAt (Some s) frames at length =
 
 -- ---- return codes
 
--- the code of `new`, unless it is out of memory
+-- the code of a call that creates a host, unless it is out of memory
 abbrev pub new_code : Option Session → ℕ → ℤ
 new_code before tenants =
     if nat_lt tenants 1 || nat_lt most_tenants tenants then ERR_TENANT_COUNT
     else (if is_none before then DONE else ERR_HAS_HOST)
 
--- the code of a call that takes a host
+-- the code of a call that needs a host and nothing else
 abbrev pub host_code : Option Session → ℤ
 host_code before = if is_none before then ERR_NO_HOST else DONE
 

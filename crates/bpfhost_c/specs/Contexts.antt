@@ -14,12 +14,13 @@ fitted words =
 abbrev pub has_known_words : List ℕ → Bool
 has_known_words words = list_all (λ word. nat_eq word 0) (drop given_words words)
 
--- so many contexts, each of `size` words, one after another
+-- so many contexts, each of `size` words, one after another, as a run is given them
 abbrev pub fitted_all : ℕ → ℕ → List ℕ → List (List ℕ)
 fitted_all size zero words = []
 fitted_all size (suc count) words =
     fitted (take size words) ∷ fitted_all size count (drop size words)
 
+-- each of so many contexts, of `size` words, has zeros after the words that a run is given
 abbrev pub have_known_words : ℕ → ℕ → List ℕ → Bool
 have_known_words size zero words = true
 have_known_words size (suc count) words =

@@ -5,7 +5,7 @@ use Rattle.host_core.specs.State.{TenantState}
 use Rattle.verifier.specs.declared.cost.Cost.{Cost}
 use Rattle.bpfhost_c.specs.declared.costs.ProgramCost.{ProgramCost}
 
--- both numbers are 0 if there is no program; one that there is executes at least one instruction
+-- a cost as C has it: both numbers are 0 if there is no program, and no program has 0 instructions
 abbrev pub shown_cost : Option Cost → ProgramCost
 shown_cost None = record { instructions = 0; calls = 0 }
 shown_cost (Some cost) = record { instructions = cost.instructions; calls = cost.calls }

@@ -20,7 +20,7 @@ Logs number slots named accepted text =
     × (style_of number ≡ Some style)
     × IsLogOfSlots slots named style accepted text
 
--- how much of a text fits in a room, with a zero byte after it
+-- the number of bytes of a text that fit in a room, with a zero byte after them
 abbrev pub fitting : List ℕ → List ℕ → ℕ
 fitting text room = min (length text) (length room - 1)
 
@@ -32,7 +32,7 @@ text_in text (byte ∷ rest) =
     take (fitting text (byte ∷ rest)) text
     ++ 0 ∷ drop (fitting text (byte ∷ rest) + 1) (byte ∷ rest)
 
--- the code of the call, unless it is out of memory
+-- the code of a call for a log, unless it is out of memory
 abbrev pub verify_code : Option Session → ℕ → ℤ
 verify_code before style =
     if is_none before

@@ -17,5 +17,6 @@ prepared_owns alloc (block_ptr b o) None = ffalse
 prepared_owns alloc (block_ptr b o) (Some s) =
     box_owns (ghosts.dealloc_token alloc) the_row (block_ptr b o) s
 
+-- the coding of what a handle has, a program or none, which a ghost field needs
 abbrev pub prepared_coded : Coded (Option the_row.Denot)
 prepared_coded = coded_option the_row.coded

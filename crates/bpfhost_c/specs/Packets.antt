@@ -18,7 +18,7 @@ pub record RunsPackets (tenant fd : ℕ) (contexts : List (List ℕ)) (bytes end
   pub refused : status ≢ pos 0 → (after ≡ before) × (written ≡ room)
   pub others : ChangesTenant tenant before after
 
--- the contexts of the first n of so many packets: that of all, or those of each
+-- the contexts of the first n of so many packets: the one of all, or n if each has its own
 abbrev pub front_contexts : ℕ → ℕ → List (List ℕ) → List (List ℕ)
 front_contexts packets n contexts = if length contexts == packets then take n contexts else contexts
 

@@ -23,17 +23,18 @@ use Rattle.bpfhost_c.specs.declared.session.Session.{Session}
 
 -- ---- the objects that descriptors are to name
 
+-- the object of a map with this shape; None if MAP_CREATE would have an error
 abbrev pub map_of : Result MapShape Errno → Option Target
 map_of (Ok shape) = Some (target.Map shape)
 map_of (Err errno) = None
 
--- a program, or a map of the shape with these fields of MAP_CREATE
+-- the object of a descriptor: a program, or a map of the shape with these fields of MAP_CREATE
 abbrev pub object_of : Descriptor → Option Target
 object_of d =
     if d.kind == 0 then Some target.Program
     else map_of (asked_shape (kind_of d.kind) d.key_size d.value_size d.max_entries 0)
 
--- each is given an object that there can be
+-- each descriptor is given an object that there can be
 abbrev pub are_objects : List Descriptor → Bool
 are_objects ds = list_all (λ d. is_some (object_of d)) ds
 

@@ -1,6 +1,6 @@
 //! The codes that calls return to C. `clients/c/include/bpfhost.h` has the same numbers.
 
-/// The call did what it says.
+/// The call was carried out. The status of a command, which is written or in its reply, may still be an error.
 pub(crate) const DONE: i32 = 0;
 
 /// The handle has no host.
@@ -9,10 +9,10 @@ pub(crate) const ERR_NO_HOST: i32 = -1;
 /// The handle has a host already.
 pub(crate) const ERR_HAS_HOST: i32 = -2;
 
-/// A host has 1 to `MOST_TENANTS` tenants.
+/// The number of tenants is not from 1 to `MOST_TENANTS`.
 pub(crate) const ERR_TENANT_COUNT: i32 = -3;
 
-/// Out of memory for the host.
+/// Out of memory.
 pub(crate) const ERR_NO_MEMORY: i32 = -4;
 
 /// The room has fewer than `LONGEST_REPLY` bytes.

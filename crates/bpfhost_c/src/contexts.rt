@@ -1,7 +1,7 @@
 //! Contexts from C, which have any number of words, as the words that a run is given.
 //!
-//! A caller may be older or newer than the library: as with the attributes of bpf(2), a word that it does not have is zero, and one that the
-//! library does not know has to be zero.
+//! A caller may be older or newer than the library: as with the attributes of bpf(2), a word that it does not have is zero, and one that
+//! the library does not know has to be zero.
 
 ghost use Rattle.std.specs.Prelude.{◌≡◌, ◌≢◌, ◌*◌, ◌/◌, ◌%◌, ◌≤◌, length, true, is_some, nat_eq, IfOk, IfErr, IfSome};
 ghost use Rattle.std.specs.Cow.{cow_slice_items};
@@ -14,7 +14,7 @@ use host_core::GIVEN_WORDS;
 use std::alloc::{AllocError, Global};
 use std::borrow::CowSlice;
 
-/// Contexts of as many words as a run is given, as they are; `None` if the last one is cut off.
+/// Contexts of `GIVEN_WORDS` words each, without a copy; `None` if the last one is cut off.
 #[tactic(auto, using(crate::proofs::Given::as_given, crate::proofs::Given::all_known))]
 fn as_given(words: &[u32]) -> Option<&[[u32; GIVEN_WORDS]]>
     ensures some { is_some result ≡ nat_eq (length words.now % given_words) 0 }
@@ -29,7 +29,7 @@ fn as_given(words: &[u32]) -> Option<&[[u32; GIVEN_WORDS]]>
     Some(contexts)
 }
 
-/// The words that a run is given of a context.
+/// The words that a run is given of a context: its first `GIVEN_WORDS`, and zeros for those that it does not have.
 fn fit(words: &[u32]) -> [u32; GIVEN_WORDS]
     ensures { result ≡ fitted words.now }
 {

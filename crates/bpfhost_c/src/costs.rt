@@ -34,8 +34,8 @@ fn shown(cost: Option<Cost>) -> ProgramCost
     }
 }
 
-/// Writes the cost of the program that the descriptor `fd` of `tenant` names to `cost`: 1 to 4,096 instructions, and 0 to 4,095 calls; both 0
-/// if it names none, and for a number that is not served. Takes no memory.
+/// Writes the cost of the program that the descriptor `fd` of `tenant` names to `cost`: 1 to 4,096 instructions, and 0 to 4,095 calls;
+/// both 0 if it names none, and for a number that is not served. Takes no memory.
 ///
 /// Returns `DONE`; else `ERR_NO_HOST`, and `cost` is unchanged. The host is unchanged.
 #[unsafe(no_mangle)]

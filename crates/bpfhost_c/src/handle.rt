@@ -24,7 +24,7 @@ impl Model for Handle {
 }
 
 impl Handle {
-    /// A handle with no session.
+    /// A handle with no session: its pointer is null, and it owns nothing. Nothing is allocated; `alloc` only fills the field.
     pub(crate) fn empty(alloc: Global) -> Handle
         ensures { result.session ≡ None }
     {
@@ -34,7 +34,7 @@ impl Handle {
         }
     }
 
-    /// A handle with the session of a box.
+    /// A handle that owns the session of a box, whose raw pointer it gets.
     pub(crate) fn from_raw_box(raw: RawBox<Session, Global>) -> Handle
         ensures { result.session ≡ Some raw.value }
     {
@@ -45,7 +45,7 @@ impl Handle {
         }
     }
 
-    /// The box of the session; `None` if the handle is empty.
+    /// The raw pointer of the session's box, which the caller owns then; `None` if the handle is empty.
     pub(crate) fn into_raw_box(self) -> Option<RawBox<Session, Global>>
         ensures { option_map (λ raw. raw.value) result ≡ self.session }
     {
@@ -59,7 +59,7 @@ impl Handle {
         })
     }
 
-    /// Takes the session out, which leaves the handle empty; `None` if it was empty.
+    /// Takes the session out, which leaves the handle empty; `None` if it was empty. `alloc` is for the empty handle.
     pub(crate) fn take(&mut self, alloc: Global) -> Option<Box<Session>>
         ensures session { option_map (λ b. b.value) result ≡ self.old.session }
         ensures empty { self.new.session ≡ None }
@@ -70,7 +70,7 @@ impl Handle {
         }
     }
 
-    /// Puts a session in. A session that was there is dropped.
+    /// Puts a session in. A session that the handle had is dropped.
     pub(crate) fn put(&mut self, session: Box<Session>)
         ensures { self.new.session ≡ Some session.value }
     {
@@ -78,7 +78,8 @@ impl Handle {
     }
 }
 
-/// Frees a session. It is a function of its own, so that a call that puts a session back tests only whether the handle is empty.
+/// Frees the session of a handle that is dropped. It is never inlined, unlike `drop`: `put` drops the handle that it replaces, which a call
+/// has emptied by `take`, so that only the test for null is in the code of the call.
 #[cold]
 #[inline(never)]
 fn free(session: Box<Session>) {
@@ -86,6 +87,7 @@ fn free(session: Box<Session>) {
 }
 
 impl Drop for Handle {
+    /// Frees the session, if there is one. Inlined in each call, without `free`.
     #[inline(always)]
     fn drop(self) {
         if let Some(raw) = self.into_raw_box() {

@@ -1,7 +1,8 @@
 //! The host as a library for C: sixteen functions, and handles that are one pointer each. The header is `clients/c/include/bpfhost.h`.
 //!
-//! A session (`Session`) is a host with its last reply and the last part of a save; a `Handle` owns one or is empty, and contracts see which. The header
-//! declares these functions and adds others in C, which are tested and not proved; so is the crate for Rust, `clients/rust`.
+//! A session (`Session`) is a host with its last reply and the last part of a save; a `Handle` owns one or is empty, and contracts see
+//! which. The header declares these functions and adds others in C, which are tested and not proved; so is the crate for Rust,
+//! `clients/rust`.
 //!
 //! # What is proved
 //!
@@ -68,8 +69,9 @@
 //! - A handle is one pointer, and empty if it is null. So a second `new` can keep the first host, a second `free` does nothing,
 //!   and a call on an empty handle returns a code. The type defines what a handle owns (`handle_owns`), in terms of the kit's
 //!   `Box`.
-//! - Each call takes the session out of the handle, works on it as on any box, and puts it back. Only three functions touch the
-//!   raw pointer, and only their proofs are by hand. It costs moves of a pointer.
+//! - Each call takes the session out of the handle, works on it as on any box, and puts it back. Only three functions of each kind
+//!   of handle touch its raw pointer (`empty`, `from_raw_box`, `into_raw_box`), and two of `RawBox`; only the ownership in these is proved
+//!   by hand. It costs moves of a pointer.
 //! - A lent reply is an address. Three forms were tried. A `&` returned through a parameter, with a lifetime from the handle's
 //!   `&mut`: the handle has no value after the call, and a function that stores the reference would need a proof of ownership
 //!   by hand. A `&` to a handle that shares its session (`also_shares`): the kit exports no function over such a type. So the
@@ -86,10 +88,11 @@
 //! - A batch is run or rejected as a whole: everything is checked before the first packet runs. A bound on executed instructions makes
 //!   it shorter before that: packets after those that the bound allows are not even checked, so a caller with many packets pays for
 //!   each once. The number of packets follows only from the cost of the program (`Verified::cost`), and no run is stopped; one packet
-//!   is always allowed, so that a caller makes progress with any bound. The order of errors is that of PROG_TEST_RUN, with those that a frame cannot have in between: the tenant is not
-//!   served (-1); the descriptor is not open (-9), or names a map (-22); there is room for fewer results than packets (-22); there
-//!   is neither one context nor one for each packet (-22); then packet by packet, its end is before the previous one or after the
-//!   bytes (-22), or it is too long (-7). An empty batch of what is no program is rejected too.
+//!   is always allowed, so that a caller makes progress with any bound. The order of errors is that of PROG_TEST_RUN, with those that
+//!   a frame cannot have in between: the tenant is not served (-1); the descriptor is not open (-9), or names a map (-22); there is
+//!   room for fewer results than packets (-22); there is neither one context nor one for each packet (-22); then packet by packet, its
+//!   end is before the previous one or after the bytes (-22), or it is too long (-7). An empty batch of what is no program is rejected
+//!   too.
 //! - Packets are consecutive in one buffer, and each has its end, a number of machine size, since a batch may have more than 4
 //!   GiB. All have the same context, or each its own, one after another; the length is that of each packet. A shared context is one
 //!   of one, and no second function.
@@ -151,7 +154,7 @@ use std::alloc::Global;
 pub use verifying::{Logged, bpfhost_c_verify};
 use version::{ABI, VERSION};
 
-/// The address of a reply, and its length in bytes.
+/// The address of what is lent, a reply or the frames of a part of a save, and its length in bytes.
 #[derive(Drop)]
 #[repr(C)]
 pub struct Lent {
@@ -268,8 +271,8 @@ pub extern "C" fn bpfhost_c_handle_lent(
 }
 
 /// Runs the program at a descriptor of a tenant on many packets, one after another. The packets lie one after another in `bytes`, and
-/// each ends at its number in `ends`. `contexts` has the context that all packets get, or that of each, each of `size` words: one that
-/// is not there counts as 0, and one that no run is given has to be 0.
+/// `ends` has for each how many bytes are before its end. `contexts` has the context that all packets get, or that of each, each of
+/// `size` words: a word that a context does not have counts as 0, and one that no run is given has to be 0.
 ///
 /// With a `bound` that is not 0 the batch is made shorter: it has as many of the first packets as can be run, by the cost of the program,
 /// without executing more than `bound` instructions, if a call of a helper counts as `CALL_WEIGHT` more, but at least one.

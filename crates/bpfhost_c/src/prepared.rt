@@ -24,7 +24,7 @@ impl Model for Prepared {
 }
 
 impl Prepared {
-    /// A handle with no program.
+    /// A handle with no program: its pointer is null, and it owns nothing. Nothing is allocated; `alloc` only fills the field.
     pub(crate) fn empty(alloc: Global) -> Prepared
         ensures { result.program ≡ None }
     {
@@ -34,7 +34,7 @@ impl Prepared {
         }
     }
 
-    /// A handle with the program of a box.
+    /// A handle that owns the program of a box, whose raw pointer it gets.
     pub(crate) fn from_raw_box(raw: RawBox<Verified, Global>) -> Prepared
         ensures { result.program ≡ Some raw.value }
     {
@@ -45,7 +45,7 @@ impl Prepared {
         }
     }
 
-    /// The box of the program; `None` if the handle is empty.
+    /// The raw pointer of the program's box, which the caller owns then; `None` if the handle is empty.
     pub(crate) fn into_raw_box(self) -> Option<RawBox<Verified, Global>>
         ensures { option_map (λ raw. raw.value) result ≡ self.program }
     {
@@ -59,7 +59,7 @@ impl Prepared {
         })
     }
 
-    /// Takes the program out, which leaves the handle empty; `None` if it was empty.
+    /// Takes the program out, which leaves the handle empty; `None` if it was empty. `alloc` is for the empty handle.
     pub(crate) fn take(&mut self, alloc: Global) -> Option<Box<Verified>>
         ensures program { option_map (λ b. b.value) result ≡ self.old.program }
         ensures empty { self.new.program ≡ None }
@@ -70,7 +70,7 @@ impl Prepared {
         }
     }
 
-    /// Puts a program in. A program that was there is dropped.
+    /// Puts a program in. A program that the handle had is dropped.
     pub(crate) fn put(&mut self, program: Box<Verified>)
         ensures { self.new.program ≡ Some program.value }
     {
@@ -79,6 +79,7 @@ impl Prepared {
 }
 
 impl Drop for Prepared {
+    /// Frees the program, if there is one.
     fn drop(self) {
         if let Some(raw) = self.into_raw_box() {
             drop(raw.into_box());

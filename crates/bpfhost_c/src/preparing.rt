@@ -44,7 +44,7 @@ pub struct PreparedRefusal {
     pub reason: u32,
 }
 
-/// The object that a descriptor is to name; `None` if no map may have the shape.
+/// The object that a descriptor is to name, a program or a map, whose flags are 0; `None` if no map may have its kind and shape.
 fn object_of(descriptor: &Descriptor) -> Option<Target>
     ensures { result ≡ object_of descriptor.now }
 {
@@ -76,7 +76,7 @@ fn are_objects(descriptors: &[Descriptor]) -> bool
     true
 }
 
-/// The descriptors with their objects. `AllocError`: out of memory.
+/// The descriptors with their objects; one without an object is left out. `AllocError`: out of memory.
 fn named_by(alloc: Global, descriptors: &[Descriptor]) -> Result<Vec<Named>, AllocError>
     ensures { IfOk result (λ named. named.items ≡ named_by descriptors.now) }
 {
@@ -118,7 +118,7 @@ const NOT_REFUSED: PreparedRefusal = PreparedRefusal {
     reason: 0,
 };
 
-/// Why slots are refused, as in the reply to PROG_LOAD.
+/// Why slots are refused, as in the reply to PROG_LOAD; a slot above 2^32 - 1 is written as this number.
 fn shown_refusal(refusal: Refusal) -> PreparedRefusal
     ensures status { result.status ≡ status_of (cause_errno refusal.cause) }
     ensures slot { result.slot ≡ min refusal.slot 4294967295 }
@@ -131,9 +131,9 @@ fn shown_refusal(refusal: Refusal) -> PreparedRefusal
     }
 }
 
-/// Verifies the slots of a program with these objects, and stores it in an empty handle; or stores none, and writes why the slots are refused.
-/// The host is not needed, so this can be done on any thread. A refusal is that of PROG_LOAD if the descriptors name these objects; of
-/// several entries with one descriptor the first counts.
+/// Verifies the slots of a program with these objects, and stores it in an empty handle; or stores none, and writes why the slots are
+/// refused. The host is not needed, so this can be done on any thread. A refusal is that of PROG_LOAD if the descriptors name these
+/// objects; of several entries with one descriptor the first counts.
 ///
 /// Returns `DONE`; else `ERR_HAS_PROGRAM`, `ERR_DESCRIPTORS` or `ERR_NO_MEMORY`, and `prepared` and `refusal` are unchanged.
 #[unsafe(no_mangle)]
@@ -178,8 +178,8 @@ pub extern "C" fn bpfhost_c_prepare(
 /// error number. What happens is what happens at this frame, but the program is neither copied nor verified again. `prepared` is empty
 /// afterwards, whatever the status is.
 ///
-/// Returns `DONE`; else `ERR_NO_HOST`, `ERR_NO_PROGRAM`, or `ERR_STALE` if a descriptor of the program names no map of the shape with which it
-/// was prepared, and the host, `prepared` and `status` are unchanged.
+/// Returns `DONE`; else `ERR_NO_HOST`, `ERR_NO_PROGRAM`, or `ERR_STALE` if a descriptor of the program names no map of the shape with
+/// which it was prepared, and the host, `prepared` and `status` are unchanged.
 #[unsafe(no_mangle)]
 pub extern "C" fn bpfhost_c_install(
     alloc: Global,

@@ -1,4 +1,4 @@
-//! A host with its last reply.
+//! A host with its last reply, the last part of a save, and what the calls of C do with them.
 
 ghost use Rattle.std.specs.Prelude.{◌≡◌, ◌≢◌, ◌≤◌, length, slice_get, vec_capacity, IfErr, IfOk, OnErr, OnOk, Some, None, true, false, if◌then◌else◌};
 ghost use Rattle.host_core.specs.Batch.{IsAllowedFor};
@@ -20,7 +20,7 @@ use std::mem::replace;
 use tenant::Batch;
 use verifier::Verified;
 
-/// A host and its last reply, in a vector with the capacity for the longest one.
+/// A host and its last reply, in a vector with the capacity for the longest one, and the last part of a save.
 #[derive(Drop)]
 pub struct Session {
     pub(crate) host: Host,
@@ -31,14 +31,16 @@ pub struct Session {
     ghost room: { longest_reply ≤ vec_capacity reply },
 }
 
-/// The packets of a batch, and contexts of any size. The bytes of the packets and their ends are as in `Batch`.
+/// The packets of a batch, and contexts of any size.
 #[derive(Clone, Copy)]
 pub(crate) struct SizedBatch<'a> {
     /// The words of the contexts, one context after another.
     pub words: &'a [u32],
     /// The number of words of each context.
     pub size: usize,
+    /// The bytes of the packets, one packet after another.
     pub bytes: &'a [u8],
+    /// For each packet, how many of these bytes are before its end.
     pub ends: &'a [usize],
 }
 
@@ -50,7 +52,7 @@ pub(crate) struct Ran {
     pub(crate) packets: usize,
 }
 
-/// The contexts of the first `count` of so many packets: that of all, or those of each.
+/// The contexts of the first `count` of `packets` packets: the one of all, or the first `count` if each packet has its own.
 fn front_contexts(
     contexts: &[[u32; GIVEN_WORDS]],
     packets: usize,
@@ -89,13 +91,14 @@ impl Session {
         Ok(Box::new(alloc, session)?)
     }
 
-    /// Handles a frame, whose reply becomes the last one.
+    /// Handles a frame, whose reply is then in `reply`.
     pub(crate) fn handle(&mut self, frame: &[u8])
         ensures handled { Handles self.old.host.states frame.now self.new.reply.items
             self.new.host.states }
         ensures recorded { Records frame.now self.new.reply.items self.old.host self.new.host }
         ensures bound { length self.new.reply.items ≤ longest_reply }
     {
+        // The vector has the capacity for the longest reply, so it can be a buffer for one.
         let room = replace(&mut self.reply, Vec::new(self.alloc));
         let Some(mut reply) = ReplyBuf::from_vec(room) else {
             unreachable!()
@@ -104,8 +107,8 @@ impl Session {
         self.reply = reply.into_vec();
     }
 
-    /// Saves a part of a tenant, whose frames become those that were saved last; false if there is no such part. `AllocError`: out
-    /// of memory.
+    /// Saves part `part` of a tenant, from 0, whose frames are then in `saved`; false if there is no such part, or no such tenant.
+    /// `AllocError`: out of memory.
     pub(crate) fn save(&mut self, tenant: usize, part: usize) -> Result<bool, AllocError>
         ensures saved { IfOk result (λ found. saved_part self.old.host tenant part
             ≡ (if found then Some self.new.saved.items else None)) }
@@ -113,7 +116,7 @@ impl Session {
         ensures host { self.new.host ≡ self.old.host }
     {
         self.host.tenants_are_restored();
-        // Those that were saved before are freed first.
+        // The frames of the part before are freed first.
         self.saved = Vec::new(self.alloc);
         match self.host.save(tenant, part)? {
             Some(frames) => {
@@ -124,7 +127,8 @@ impl Session {
         }
     }
 
-    /// Installs a program, as `Host::install` does. If it does not fit, the session is unchanged.
+    /// Opens a program of `tenant` that was verified elsewhere, and returns the status of the reply to the frame that would load it. If a
+    /// descriptor of its maps names no map of its shape, it is given back, and the session is unchanged.
     pub(crate) fn install(
         &mut self,
         tenant: u16,
@@ -167,8 +171,8 @@ impl Session {
         }
     }
 
-    /// The number of packets at the front of a batch that a bound on executed instructions allows. A batch with neither one context nor
-    /// one for each packet is rejected, and not made shorter.
+    /// The number of packets at the front of a batch that a bound on executed instructions allows; `contexts` and `packets` are numbers. A
+    /// batch with neither one context nor one for each packet is rejected, and not made shorter.
     fn allowed_packets(
         &self,
         tenant: usize,
@@ -216,7 +220,8 @@ impl Session {
         Ran { status, packets }
     }
 
-    /// The same with contexts of any size.
+    /// Runs a program of a tenant on the packets at the front of a batch that a bound on executed instructions allows, with contexts of
+    /// any size.
     ///
     /// `Err`: the code of the call, `ERR_SIZE`, `ERR_TOO_BIG` or `ERR_NO_MEMORY`, and nothing is changed.
     pub(crate) fn run_sized(

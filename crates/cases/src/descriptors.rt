@@ -17,7 +17,7 @@ pub struct Descriptors {
     named: Vec<Named>,
 }
 
-/// The shape `KIND:KEY:VALUE:MAX`.
+/// The shape `KIND:KEY:VALUE:MAX`. `read_shape` parses it with a descriptor before it, and 3 is one.
 pub fn shape_of(alloc: Global, text: &str) -> Result<MapShape, CaseError> {
     let argument = format!(in alloc; "3:{text}")?;
     match read_shape(argument.as_str())?.target {
@@ -45,7 +45,7 @@ fn named_program(text: &str) -> Result<Named, CaseError> {
 }
 
 impl Descriptors {
-    /// No descriptor is open.
+    /// Descriptors of which none is open.
     pub fn new(alloc: Global) -> Descriptors {
         Descriptors {
             alloc,
@@ -58,13 +58,13 @@ impl Descriptors {
         &self.named
     }
 
-    /// Opens a descriptor.
+    /// Appends an open descriptor. Returns the text below the line.
     fn open(&mut self, new: Named) -> Result<String, CaseError> {
         self.named.push(new)?;
         Ok("open".to_string(self.alloc)?)
     }
 
-    /// Plays a line that opens a descriptor, or `new`.
+    /// Plays a line that opens a descriptor, or `new`. Returns the text below the line.
     pub fn play(&mut self, line: &str) -> Result<String, CaseError> {
         let (word, rest) = first_word(line);
         match word {

@@ -5,7 +5,7 @@ use crate::notation::text_of;
 use std::alloc::{AllocError, Global};
 use std::fmt::Write;
 
-/// Appends equal lines: one unchanged, more as a repetition.
+/// Appends equal lines after a line feed: one unchanged, more as a repetition in the notation of cases.
 fn append_equal(text: &mut String, lines: &[&str]) -> Result<(), AllocError> {
     let line = lines.first().copied().unwrap_or("");
     match lines.len() {
@@ -26,7 +26,7 @@ fn append_output(alloc: Global, text: &mut String, output: &str) -> Result<(), A
     Ok(())
 }
 
-/// The status of a program that was run, and below it the lines of its output and of its fault.
+/// The status of a program that was run, and below it the lines of its output and of its fault, those of `faults`.
 pub fn outcome(
     alloc: Global,
     status: u8,

@@ -16,7 +16,7 @@ pub fn is_remark(line: &str) -> bool
     }
 }
 
-/// The first word of a text, and the text after the space that follows it.
+/// The first word of a text, and the text after the space that follows it: empty if there is no space.
 pub fn first_word(text: &str) -> (&str, &str)
     ensures word { result.0.now ≡ before_first is_space text.now }
     ensures rest { result.1.now ≡ after_first is_space text.now }
@@ -24,7 +24,7 @@ pub fn first_word(text: &str) -> (&str, &str)
     text.split_once(' ').unwrap_or((text, ""))
 }
 
-/// The arguments of a program, and after `<` its input.
+/// The arguments of a program, which are before the first `<`, and its input, which is after it.
 pub fn input_of(text: &str) -> Result<(&str, &str), CaseError> {
     text.split_once('<').ok_or(CaseError::Notation)
 }

@@ -8,13 +8,13 @@ use hex::FromHex;
 use std::alloc::{AllocError, Global};
 use std::fmt::Write;
 
-/// The number of bytes of a frame or a reply in one group.
+/// The number of bytes in one group of hex digits, of frames, replies, keys and values.
 pub const GROUP: usize = 4;
 
 /// The greatest number of times that a part is repeated.
 const MOST_TIMES: u32 = 1_048_576;
 
-/// A number of times, from decimal digits.
+/// A number of times, from decimal digits, at most `MOST_TIMES`.
 pub fn times(digits: &str) -> Result<u32, CaseError> {
     match digits.parse::<u32>() {
         Ok(times) if times <= MOST_TIMES => Ok(times),
@@ -22,7 +22,7 @@ pub fn times(digits: &str) -> Result<u32, CaseError> {
     }
 }
 
-/// Appends the characters of a text without escapes.
+/// Appends the characters of a text without escapes and repetitions: `;` as a line feed, others unchanged.
 fn append_characters(bytes: &mut Vec<u8>, text: &str) -> Result<(), AllocError> {
     for byte in text.bytes() {
         bytes.push(if byte == b';' { b'\n' } else { byte })?;
@@ -63,7 +63,7 @@ fn append_numbered(bytes: &mut Vec<u8>, part: &[u8], digits: &str) -> Result<(),
     Ok(())
 }
 
-/// Appends a part a number of times.
+/// Appends a part a number of times, with the number of times before for each `#`.
 fn append_times(
     alloc: Global,
     bytes: &mut Vec<u8>,
@@ -87,7 +87,7 @@ fn append_repeated(alloc: Global, bytes: &mut Vec<u8>, text: &str) -> Result<(),
     append_text(bytes, rest)
 }
 
-/// The bytes of a text.
+/// The bytes that a text in this notation represents.
 pub fn written(alloc: Global, text: &str) -> Result<Vec<u8>, CaseError> {
     let mut bytes = Vec::new(alloc);
     for (index, piece) in text.split('{').enumerate() {
@@ -105,7 +105,7 @@ pub fn text_of(bytes: &[u8]) -> Result<&str, CaseError> {
     str::from_utf8(bytes).map_err(|_| CaseError::NoText)
 }
 
-/// The bytes of hex digits.
+/// The bytes of hex digits, which blanks may separate. Repetitions of digits are replaced first, as in a text.
 pub fn bytes_of(alloc: Global, text: &str) -> Result<Vec<u8>, CaseError> {
     let text = written(alloc, text)?;
     let digits = text_of(&text)?;
@@ -137,7 +137,7 @@ pub fn hex_groups(alloc: Global, bytes: &[u8], size: usize) -> Result<String, Al
     Ok(text)
 }
 
-/// Appends equal lines: one unchanged, more as a repetition.
+/// Appends equal lines, with `;` for the line feed at their end: one line unchanged, more as a repetition.
 fn append_lines(alloc: Global, shown: &mut String, lines: &[&str]) -> Result<(), AllocError> {
     let line = lines.first().copied().unwrap_or("");
     let line = line.replace(alloc, '\n', ";")?;
@@ -147,7 +147,7 @@ fn append_lines(alloc: Global, shown: &mut String, lines: &[&str]) -> Result<(),
     }
 }
 
-/// A text on one line.
+/// A text on one line, in this notation.
 pub fn shown(alloc: Global, text: &str) -> Result<String, AllocError> {
     let lines: Vec<&str> = text.split_inclusive('\n').collect(alloc)?;
     let mut shown = String::new(alloc);

@@ -5,7 +5,7 @@ use cases::{CaseError, bytes_of};
 use command_frames::{BadFrame, Command, GIVEN_WORDS, HEAD_LENGTH, head, parse};
 use std::alloc::{AllocError, Global};
 
-/// The head of a frame.
+/// The tenant and the command number of the frame of hex digits, as text.
 pub fn head_line(alloc: Global, digits: &str) -> Result<String, CaseError> {
     let frame = bytes_of(alloc, digits)?;
     let Some(head) = head(&frame) else {
@@ -15,7 +15,7 @@ pub fn head_line(alloc: Global, digits: &str) -> Result<String, CaseError> {
     Ok(format!(in alloc; "tenant {tenant}, command {command}")?)
 }
 
-/// Words one after another.
+/// The context words of a test run, in decimal, with a blank between them.
 fn words_text(alloc: Global, words: [u32; GIVEN_WORDS]) -> Result<String, AllocError> {
     let mut text = String::new(alloc);
     for word in words {
@@ -27,13 +27,13 @@ fn words_text(alloc: Global, words: [u32; GIVEN_WORDS]) -> Result<String, AllocE
     Ok(text)
 }
 
-/// A command whose fields are a descriptor and bytes.
+/// The text of a command whose fields are a number, mostly a descriptor, and bytes.
 fn fd_and_bytes(alloc: Global, name: &str, fd: u32, bytes: &[u8]) -> Result<String, AllocError> {
     let bytes = shown(alloc, bytes)?;
     format!(in alloc; "{name} {fd} [{bytes}]")
 }
 
-/// A command with its fields.
+/// The text of a command: its name and its fields.
 fn command_text(alloc: Global, command: Command<'_>) -> Result<String, AllocError> {
     match command {
         Command::MapCreate {
@@ -64,7 +64,7 @@ fn command_text(alloc: Global, command: Command<'_>) -> Result<String, AllocErro
     }
 }
 
-/// The command of a frame, or why it has none.
+/// The command of the frame of hex digits, or why it has none, as text.
 pub fn parse_line(alloc: Global, digits: &str) -> Result<String, CaseError> {
     let frame = bytes_of(alloc, digits)?;
     if frame.len() < HEAD_LENGTH {

@@ -7,7 +7,7 @@ use command_frames::{Head, LONGEST_PAYLOAD, ReplyBuf, write_reply};
 use fd_table::FdTable;
 use std::alloc::{AllocError, Global};
 
-/// The numbers that are open, and the buffer for replies.
+/// A table of descriptors, each of which names a number, and the buffer for replies.
 #[derive(Drop)]
 pub struct CommandPlayer {
     alloc: Global,
@@ -25,7 +25,7 @@ impl CommandPlayer {
         })
     }
 
-    /// The bytes of a reply: a tenant, a command, a status and a payload.
+    /// The bytes of a reply, for the words of a line: a tenant, a command, a status, and the hex digits of the payload.
     fn reply(&mut self, rest: &str) -> Result<String, CaseError> {
         let (tenant, rest) = first_word(rest);
         let (command, rest) = first_word(rest);
@@ -42,7 +42,7 @@ impl CommandPlayer {
         Ok(shown(self.alloc, self.room.bytes())?)
     }
 
-    /// Opens a number.
+    /// Opens a number, and returns its descriptor as text; or that it is handed back, if no descriptor is free.
     fn place(&mut self, number: u32) -> Result<String, AllocError> {
         match self.numbers.place(number) {
             Ok(fd) => fd.to_string(self.alloc),
@@ -50,7 +50,7 @@ impl CommandPlayer {
         }
     }
 
-    /// What a descriptor names.
+    /// The number that a descriptor names, as text.
     fn get(&self, fd: u32) -> Result<String, AllocError> {
         match self.numbers.get(fd) {
             Some(number) => number.to_string(self.alloc),
@@ -58,7 +58,7 @@ impl CommandPlayer {
         }
     }
 
-    /// Closes a descriptor, and returns what it named.
+    /// Closes a descriptor, and returns the number that it named, as text.
     fn close(&mut self, fd: u32) -> Result<String, AllocError> {
         match self.numbers.close(fd) {
             Some(number) => number.to_string(self.alloc),

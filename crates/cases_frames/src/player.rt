@@ -27,7 +27,7 @@ const CLOSE: u16 = 256;
 /// A program type of PROG_LOAD: a socket filter.
 const SOCKET_FILTER: u32 = 1;
 
-/// The length of the context words in bytes.
+/// The length in bytes of the context words that a frame of PROG_TEST_RUN has: ten of the eleven, as the host writes the packet's length.
 const WORDS: usize = 40;
 
 /// A new host for this number of tenants.
@@ -39,7 +39,7 @@ pub fn new_host(alloc: Global, tenants: &str) -> Result<Host, CaseError> {
     Ok(Host::new(alloc, tenants, HashSeed::new(1, 2))?)
 }
 
-/// A frame of a tenant, with a number at the front of its body.
+/// A frame without its length field: the tenant, the command, a number at the front of the body, and the rest of the body.
 fn frame(
     alloc: Global,
     tenant: u16,
@@ -55,7 +55,7 @@ fn frame(
     Ok(frame)
 }
 
-/// Numbers of four bytes each.
+/// The bytes of decimal numbers, four of each, as the body of a frame has them.
 fn numbers(alloc: Global, words: &str) -> Result<Vec<u8>, CaseError> {
     let mut bytes = Vec::new(alloc);
     for word in words.split_whitespace() {
@@ -74,7 +74,7 @@ fn before(alloc: Global, front: &[u8], digits: &str) -> Result<Vec<u8>, CaseErro
     Ok(bytes)
 }
 
-/// The slots of a program's text.
+/// The bytes of the slots of a program, given as text in the notation of cases.
 fn slots_of(alloc: Global, text: &str) -> Result<Vec<u8>, CaseError> {
     let text = written(alloc, text)?;
     let program = assemble(alloc, text_of(&text)?)?;
@@ -99,7 +99,7 @@ impl HostPlayer {
         })
     }
 
-    /// The reply to a frame.
+    /// The reply to a frame, as hex digits.
     fn reply(&mut self, frame: &[u8]) -> Result<String, AllocError> {
         let mut reply = ReplyBuf::new(self.alloc)?;
         self.host.handle(frame, &mut reply);
@@ -112,7 +112,7 @@ impl HostPlayer {
         Ok(self.reply(&frame)?)
     }
 
-    /// The reply to a command: the words of its tenant and of the number at the front of its body, and the bytes after it.
+    /// The reply to a command, given as the words of its tenant and of the number at the front of its body, and the bytes after that.
     fn command(
         &mut self,
         tenant: &str,
@@ -125,7 +125,7 @@ impl HostPlayer {
         Ok(self.reply(&frame)?)
     }
 
-    /// The reply to a command on a descriptor: a tenant, the descriptor, and the bytes that follow it.
+    /// The reply to a command on a descriptor, for the words of a line: a tenant, the descriptor, and the bytes that follow it.
     fn on_descriptor(&mut self, command: u16, rest: &str) -> Result<String, CaseError> {
         let (tenant, rest) = first_word(rest);
         let (descriptor, digits) = first_word(rest);
@@ -133,7 +133,7 @@ impl HostPlayer {
         self.command(tenant, command, descriptor, &bytes)
     }
 
-    /// The reply to a new map: a tenant, and the five numbers of the body.
+    /// The reply to MAP_CREATE, for the words of a line: a tenant, and the five numbers of the body.
     fn create(&mut self, rest: &str) -> Result<String, CaseError> {
         let (tenant, rest) = first_word(rest);
         let (kind, sizes) = first_word(rest);
@@ -141,7 +141,7 @@ impl HostPlayer {
         self.command(tenant, MAP_CREATE, kind, &bytes)
     }
 
-    /// The reply to an update: a tenant, a descriptor, the flags, and the bytes of the key and the value.
+    /// The reply to an update, for the words of a line: a tenant, a descriptor, the flags, and the bytes of the key and the value.
     fn update(&mut self, rest: &str) -> Result<String, CaseError> {
         let (tenant, rest) = first_word(rest);
         let (descriptor, rest) = first_word(rest);
@@ -157,7 +157,7 @@ impl HostPlayer {
         self.reply(&frame)
     }
 
-    /// The reply to a load: a tenant, and the program's text.
+    /// The reply to a load, for the words of a line: a tenant, and the program's text.
     fn load(&mut self, rest: &str) -> Result<String, CaseError> {
         let (tenant, text) = first_word(rest);
         let tenant = tenant.parse()?;
@@ -165,7 +165,7 @@ impl HostPlayer {
         Ok(self.load_slots(tenant, &slots)?)
     }
 
-    /// The reply to a load: a tenant, and the bytes of the slots.
+    /// The reply to a load, for the words of a line: a tenant, and the bytes of the slots.
     fn load_digits(&mut self, rest: &str) -> Result<String, CaseError> {
         let (tenant, digits) = first_word(rest);
         let tenant = tenant.parse()?;
@@ -173,7 +173,7 @@ impl HostPlayer {
         Ok(self.load_slots(tenant, &slots)?)
     }
 
-    /// The reply to a test run: a tenant, a descriptor and a packet.
+    /// The reply to a test run, for the words of a line: a tenant, a descriptor and a packet. It has the context words that are set.
     fn run(&mut self, rest: &str) -> Result<String, CaseError> {
         let (tenant, rest) = first_word(rest);
         let (descriptor, packet) = first_word(rest);
@@ -211,7 +211,7 @@ impl HostPlayer {
         Ok(replies)
     }
 
-    /// The replies of the first round that differ from these, with its number.
+    /// The replies of the first round after round 0 that differ from `first`, those of round 0, with its number; `None` if none does.
     fn other_round(
         &mut self,
         lines: &str,
@@ -227,7 +227,7 @@ impl HostPlayer {
         Ok(None)
     }
 
-    /// The replies to lines that are played a number of times, if they are the same each time.
+    /// The replies to lines that are played a number of times, if they are the same each time; otherwise the first others.
     fn rounds(&mut self, rest: &str) -> Result<String, CaseError> {
         let (count, lines) = first_word(rest);
         let count: u32 = count.parse()?;

@@ -10,7 +10,7 @@ use std::alloc::{AllocError, Global};
 /// The room for the bytes of one call of a reader.
 const ROOM: usize = 4;
 
-/// How a stream ended: by the fault line of the program, if it ended with a fault.
+/// How a stream ended: `ok`, or the program's fault line, and how many frames had a reply.
 fn end_of(alloc: Global, end: Result<u32, ServeFault>) -> Result<String, AllocError> {
     match end {
         Ok(frames) => format!(in alloc; "ok {frames}"),
@@ -22,7 +22,7 @@ fn end_of(alloc: Global, end: Result<u32, ServeFault>) -> Result<String, AllocEr
     }
 }
 
-/// How a stream ended, and what was written.
+/// How a stream ended, and below it the hex digits of what was written.
 fn ended(alloc: Global, end: Result<u32, ServeFault>, output: &[u8]) -> Result<String, AllocError> {
     let end = end_of(alloc, end)?;
     let output = hex_groups(alloc, output, GROUP)?;
@@ -41,7 +41,7 @@ fn served(alloc: Global, host: &mut Host, limit: &str, input: &[u8]) -> Result<S
     Ok(ended(alloc, end, &writer.into_inner())?)
 }
 
-/// How `serve` ends, for a number of tenants, a limit and a stream's bytes.
+/// How `serve` ends in a new host, for the words of a line: a number of tenants, a limit of frames, and the stream's bytes.
 pub fn stream(alloc: Global, line: &str) -> Result<String, CaseError> {
     let (tenants, rest) = first_word(line);
     let (limit, digits) = first_word(rest);
@@ -50,14 +50,15 @@ pub fn stream(alloc: Global, line: &str) -> Result<String, CaseError> {
     served(alloc, &mut host, limit, &input)
 }
 
-/// The first bytes of those of hex digits.
+/// The first `count` bytes of those of hex digits.
 fn front(alloc: Global, count: &str, digits: &str) -> Result<Vec<u8>, CaseError> {
     let mut input = bytes_of(alloc, digits)?;
     input.truncate(count.parse()?);
     Ok(input)
 }
 
-/// How `serve` ends on a stream that is cut short, for a number of bytes and then the stream's bytes.
+/// How `serve` ends on a stream that is cut short, for the words of a line: a number of tenants, a limit of frames, how many bytes are
+/// left, and the stream's bytes.
 pub fn cut(alloc: Global, line: &str) -> Result<String, CaseError> {
     let (tenants, rest) = first_word(line);
     let (limit, rest) = first_word(rest);
@@ -86,7 +87,7 @@ pub fn relay(alloc: Global, digits: &str) -> Result<String, CaseError> {
     Ok(format!(in alloc; "{written} of {count} [{output}]")?)
 }
 
-/// The argument that a word of a line represents.
+/// The argument that a word of a line represents: `""` is the empty one.
 fn word_of(word: &str) -> &str {
     if word == "\"\"" { "" } else { word }
 }

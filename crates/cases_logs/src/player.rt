@@ -34,7 +34,7 @@ impl LogPlayer {
         Ok(text)
     }
 
-    /// How the program ends on these arguments and this input.
+    /// How the program `verifier_log` ends on the arguments and the input of a line, which are separated by `<`.
     fn run(&self, case: &str) -> Result<String, CaseError> {
         let (arguments, text) = input_of(case)?;
         let arguments: Vec<&str> = arguments.split_whitespace().collect(self.alloc)?;

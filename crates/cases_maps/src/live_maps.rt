@@ -79,7 +79,7 @@ impl LiveMapsPlayer {
         }
     }
 
-    /// The number of a map, which it has from here on.
+    /// The number of a map: the index of its key, which is appended if it is new.
     fn number_of(&mut self, map: MapKey) -> Result<usize, AllocError>
         ensures { self.new ≡ self.old }
     {
@@ -90,7 +90,8 @@ impl LiveMapsPlayer {
         Ok(self.keys.len() - 1)
     }
 
-    /// A new map: its shape, and the number of references that are added.
+    /// A new map, for the words of a line: its shape, and the number of references that are added. Returns its number, and the offset of
+    /// its first value in the part.
     fn create(&mut self, rest: &str) -> Result<String, CaseError> {
         let (shape, holds) = first_word(rest);
         let shape = shape_of(self.alloc, shape)?;
@@ -105,7 +106,7 @@ impl LiveMapsPlayer {
         }
     }
 
-    /// Drops a reference to a map.
+    /// Drops a reference to a map. Returns whether it is still live, as text.
     fn release(&mut self, number: &str) -> Result<String, CaseError> {
         let map = self.live_map(number)?;
         self.arena.memory_is_its_parts();
@@ -131,7 +132,7 @@ impl LiveMapsPlayer {
         Ok(format!(in self.alloc; "{kind:?} {key} {value} {entries}")?)
     }
 
-    /// The offset of the value of an element.
+    /// The offset in the part of the value of an element.
     fn offset(&self, map: MapKey, element: u32) -> Result<usize, CaseError>
         requires { IsSome (live_at self.now map) }
     {
@@ -141,7 +142,7 @@ impl LiveMapsPlayer {
         Ok(self.maps.value_at(map, element))
     }
 
-    /// The offset of a value: the map and the element.
+    /// The offset of a value, for the words of a line: the map and the element.
     fn at(&self, rest: &str) -> Result<String, CaseError> {
         let (number, element) = first_word(rest);
         let map = self.live_map(number)?;
@@ -149,7 +150,7 @@ impl LiveMapsPlayer {
         Ok(format!(in self.alloc; "at {offset}")?)
     }
 
-    /// The value of a key: the map and the key.
+    /// The value of a key, for the words of a line: the map and the key.
     fn find(&self, rest: &str) -> Result<String, CaseError> {
         let (number, digits) = first_word(rest);
         let map = self.live_map(number)?;
@@ -163,7 +164,7 @@ impl LiveMapsPlayer {
         Ok(hex_groups(self.alloc, value, GROUP)?)
     }
 
-    /// An update: the map, the flags, the key and the value.
+    /// An update, for the words of a line: the map, the flags, the key and the value. It claims an element, and writes the value there.
     fn claim(&mut self, rest: &str) -> Result<String, CaseError> {
         let (number, rest) = first_word(rest);
         let (flags, rest) = first_word(rest);
@@ -185,7 +186,7 @@ impl LiveMapsPlayer {
         }
     }
 
-    /// The removal of a key: the map and the key.
+    /// The removal of a key, for the words of a line: the map and the key.
     fn remove(&mut self, rest: &str) -> Result<String, CaseError> {
         let (number, digits) = first_word(rest);
         let map = self.live_map(number)?;
@@ -193,7 +194,7 @@ impl LiveMapsPlayer {
         Ok(done(self.alloc, self.maps.remove(map, &key), "removed")?)
     }
 
-    /// The key that follows a key: the map, and the key or nothing.
+    /// The key that follows a key, for the words of a line: the map, and the key or nothing.
     fn next(&self, rest: &str) -> Result<String, CaseError> {
         let (number, digits) = first_word(rest);
         let map = self.live_map(number)?;
@@ -214,7 +215,7 @@ impl LiveMapsPlayer {
         Ok(nothing(self.alloc))
     }
 
-    /// A test run: the map, the packet and the program's text.
+    /// The result of a test run, for the words of a line: the map, the packet and the program's text.
     fn run(&mut self, rest: &str) -> Result<String, CaseError> {
         let (number, rest) = first_word(rest);
         let (packet, text) = first_word(rest);

@@ -8,9 +8,10 @@ use arena::{Arena, BASE, Trace};
 use cases::{CaseError, first_word};
 use std::alloc::{AllocError, Global};
 
-/// The most parts of a memory, and the most bytes of a part.
+/// The most parts of a memory.
 const MOST_PARTS: usize = 16;
 
+/// The most bytes of a part.
 const LARGEST_PART: usize = 4096;
 
 /// An address: a number, or after `+` its distance from the first address.
@@ -67,7 +68,7 @@ impl MemoryPlayer {
         Ok(nothing(self.alloc))
     }
 
-    /// A load: the address and the size.
+    /// A load, for the words of a line: the address and the size.
     fn load(&self, rest: &str) -> Result<String, CaseError> {
         let (at, size) = first_word(rest);
         match self
@@ -79,7 +80,7 @@ impl MemoryPlayer {
         }
     }
 
-    /// A store: the address, the size and the number.
+    /// A store, for the words of a line: the address, the size and the number.
     fn store(&mut self, rest: &str) -> Result<String, CaseError> {
         let (at, rest) = first_word(rest);
         let (size, value) = first_word(rest);
@@ -88,7 +89,7 @@ impl MemoryPlayer {
         Ok(done_inside(self.alloc, outcome, "stored")?)
     }
 
-    /// A copy: the addresses of the target and of the source, and the length.
+    /// A copy, for the words of a line: the addresses of the target and of the source, and the length.
     fn copy(&mut self, rest: &str) -> Result<String, CaseError> {
         let (to, rest) = first_word(rest);
         let (from, length) = first_word(rest);
@@ -100,7 +101,7 @@ impl MemoryPlayer {
         Ok(done_inside(self.alloc, outcome, "copied")?)
     }
 
-    /// The bytes from an address on, of which each is loaded: the address, and how many.
+    /// The bytes from an address on, each loaded by itself, for the words of a line: the address, and how many.
     fn bytes(&self, rest: &str) -> Result<String, CaseError> {
         let (from, count) = first_word(rest);
         let from = address(from)?;

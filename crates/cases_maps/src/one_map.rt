@@ -8,7 +8,7 @@ use cases::{CaseError, bytes_of, bytes_of_size, first_word, shape_of};
 use seeded_hash::HashSeed;
 use std::alloc::Global;
 
-/// The element of a key of this size.
+/// The element of the key of hex digits, which has `size` bytes, as text.
 fn find<M: ValueMap>(alloc: Global, map: &M, size: u32, digits: &str) -> Result<String, CaseError>
     requires { size ≡ (M.keys map.now).shape.key_size }
 {
@@ -19,7 +19,7 @@ fn find<M: ValueMap>(alloc: Global, map: &M, size: u32, digits: &str) -> Result<
     }
 }
 
-/// A claim of an element: the flags, and a key of this size.
+/// A claim of an element, for the words of a line: the flags, and a key of `size` bytes.
 fn claim<M: ValueMap>(
     alloc: Global,
     map: &mut M,
@@ -34,7 +34,7 @@ fn claim<M: ValueMap>(
     Ok(done(alloc, map.claim(&key, flags), "claimed")?)
 }
 
-/// The removal of a key of this size.
+/// The removal of a key of `size` bytes.
 fn remove<M: ValueMap>(
     alloc: Global,
     map: &mut M,
@@ -47,7 +47,7 @@ fn remove<M: ValueMap>(
     Ok(done(alloc, map.remove(&key), "removed")?)
 }
 
-/// The key that follows one of this size, or none.
+/// The key that follows one of `size` bytes, or the first key if there are no hex digits.
 fn next<M: ValueMap>(alloc: Global, map: &M, size: u32, digits: &str) -> Result<String, CaseError>
     requires { size ≡ (M.keys map.now).shape.key_size }
 {

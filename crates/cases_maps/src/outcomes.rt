@@ -9,7 +9,7 @@ pub fn nothing(alloc: Global) -> String {
     String::new(alloc)
 }
 
-/// What was done, or the fault.
+/// `what` was done if the call succeeded, or the name of its fault.
 pub fn done<T: Drop>(
     alloc: Global,
     outcome: Result<T, MapFault>,
@@ -21,7 +21,7 @@ pub fn done<T: Drop>(
     }
 }
 
-/// What was done, or that an address is outside of the memory.
+/// `what` was done, or that an address is outside of the memory (`None`).
 pub fn done_inside(alloc: Global, outcome: Option<()>, what: &str) -> Result<String, AllocError> {
     match outcome {
         Some(()) => what.to_string(alloc),
@@ -34,7 +34,7 @@ pub fn fault_text(alloc: Global, fault: MapFault) -> Result<String, AllocError> 
     format!(in alloc; "{fault:?}")
 }
 
-/// The key of this size at the front of a buffer, or the fault.
+/// The hex digits of the key of `size` bytes that a call wrote to the front of a buffer, or the name of its fault.
 pub fn key_text(
     alloc: Global,
     outcome: Result<(), MapFault>,

@@ -18,7 +18,7 @@ use verifier::{Verified, laws, verify};
 /// The descriptor of the map.
 const DESCRIPTOR: u32 = 3;
 
-/// The program of a text, accepted with a map of this shape.
+/// The program of a text in the notation of cases, accepted with a map of this shape at `DESCRIPTOR`.
 fn accepted(alloc: Global, text: &str, shape: MapShape) -> Result<Verified, CaseError>
     ensures { IfOk result (λ program. (i : ℕ) → i < length (maps_of program.code)
         → shapes_in program (slice_index (maps_of program.code) i) ≡ Some shape) }
@@ -34,7 +34,8 @@ fn accepted(alloc: Global, text: &str, shape: MapShape) -> Result<Verified, Case
     Ok(verified)
 }
 
-/// How a program's text runs on this packet and zeros as the other words of the context, with this map. It has to load the map.
+/// The result of a program, given as text, on this packet and zeros as the other words of the context, with this map, which it has to
+/// load. The map's run is ended first, as a bound map has no element that is kept apart.
 pub fn run_text(
     alloc: Global,
     text: &str,

@@ -14,7 +14,7 @@ pub fn grouped(alloc: Global, bytes: &[u8]) -> Result<String, AllocError> {
     hex_groups(alloc, bytes, SLOT)
 }
 
-/// An instruction, the number of its slots, and its bytes as they are encoded.
+/// The text of an instruction, the number of its slots, and its bytes as they are encoded.
 fn encoded(alloc: Global, insn: &Insn, slots: usize) -> Result<String, AllocError> {
     let mut out = [0; 16];
     let length = encode(insn, &mut out);
@@ -22,7 +22,7 @@ fn encoded(alloc: Global, insn: &Insn, slots: usize) -> Result<String, AllocErro
     format!(in alloc; "{insn:?} in {slots}: {written}")
 }
 
-/// `codec`: the instruction at the front, and its bytes as they are encoded.
+/// `codec`: the instruction at the front of the bytes, the number of its slots, and its bytes as they are encoded.
 pub fn decoded(alloc: Global, text: &str) -> Result<String, CaseError> {
     let bytes = bytes_of(alloc, text)?;
     match &decode(&bytes) {
@@ -51,7 +51,7 @@ fn insns_of(alloc: Global, program: &Program) -> Result<Vec<Insn>, AllocError> {
     Ok(insns)
 }
 
-/// Appends what begins at a slot.
+/// Appends the instruction that begins at a slot, or that none does, after a semicolon if it is not the first slot.
 fn append_place(text: &mut String, program: &Program, slot: usize) -> Result<(), AllocError> {
     if slot != 0 {
         text.push_str("; ")?;
@@ -84,7 +84,7 @@ pub fn made_of_exits(alloc: Global, digits: &str) -> Result<String, CaseError> {
     Ok(answer)
 }
 
-/// Whether a slot of this opcode and zeros has no fault, or another one than its opcode.
+/// Whether a slot of this opcode and zeros is decoded, or has another fault than its opcode: then the opcode is an instruction's.
 fn is_known(opcode: u8) -> bool {
     let mut bytes = [0; 16];
     bytes[0] = opcode;

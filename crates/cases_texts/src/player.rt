@@ -13,6 +13,7 @@ pub struct TextPlayer {
 }
 
 impl TextPlayer {
+    /// A player, which has no state.
     pub fn new(alloc: Global) -> TextPlayer {
         TextPlayer { alloc }
     }

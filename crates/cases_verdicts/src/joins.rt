@@ -5,9 +5,10 @@ use interval::Range;
 use reg_kinds::{Facts, Kind, Slot, ValuePointer, join, join_into};
 use std::alloc::Global;
 
-/// The register and the stack slot of which something is known.
+/// The register of which something is known.
 const REGISTER: usize = 0;
 
+/// The stack slot of which something is known, the lowest one.
 const SLOT: usize = 0;
 
 /// The numbers `LO HI`.

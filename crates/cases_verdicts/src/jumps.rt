@@ -5,7 +5,8 @@ use std::alloc::{AllocError, Global};
 /// The number of jumps of a program of 4,096 slots, one in every second slot.
 const JUMPS: usize = 2047;
 
-/// The text of a program of 4,096 slots with a jump in every second one, which goes `ahead` slots ahead, or to the end.
+/// The text of a program of 4,096 slots with a jump in every second one: by `ahead` slots, or to the last slot if this is nearer. That slot
+/// has the instruction `end`.
 pub fn jumping(alloc: Global, ahead: usize, end: &str) -> Result<String, AllocError> {
     let mut lines = String::new(alloc);
     lines.push_str("r0 = *(u32 *)(r1 + 0)")?;

@@ -23,7 +23,7 @@ impl VerdictPlayer {
         }
     }
 
-    /// The program of a text, accepted.
+    /// The program of a text in the notation of cases, accepted with the open descriptors.
     fn accepted(&self, text: &str) -> Result<Verified, CaseError> {
         let text = written(self.alloc, text)?;
         let program = assemble(self.alloc, text_of(&text)?)?;
@@ -42,7 +42,7 @@ impl VerdictPlayer {
         self.verdict(whole.as_str())
     }
 
-    /// The verdict on a program of jumps, given `AHEAD END`.
+    /// The verdict on the program of `jumping`, for the words of a line: by how many slots its jumps go, and its last instruction.
     fn verdict_of_jumps(&self, text: &str) -> Result<String, CaseError> {
         let (ahead, end) = first_word(text);
         let whole = jumping(self.alloc, ahead.parse()?, end)?;

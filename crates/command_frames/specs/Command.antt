@@ -8,7 +8,7 @@ use Rattle.command_frames.specs.declared.command.BadFrame.TheVariants.{TooLong, 
 use Rattle.command_frames.specs.Frame.{head_length}
 use Rattle.words.specs.Context.{given_words}
 
--- key, value, slots and packet are lists of bytes
+-- a command with its fields: fd is a descriptor; key, value, slots and packet are lists of bytes
 pub data Command : Type 0 where
   map_create : (kind key_size value_size max_entries flags : ℕ) → Command
   map_lookup : (fd : ℕ) (key : List ℕ) → Command
@@ -21,52 +21,55 @@ pub data Command : Type 0 where
 
 -- ---- lengths in bytes
 
--- a word: a descriptor, a type or a size
+-- the length of a word: of a descriptor, a type or a size
 abbrev pub word_length : ℕ
 word_length = 4
 
--- the body of MAP_CREATE: five words
+-- the length of the body of MAP_CREATE: five words
 abbrev pub create_body : ℕ
 create_body = 20
 
--- the bytes before the key and the value of MAP_UPDATE: a descriptor and eight bytes of flags
+-- the length of what is before the key and the value of MAP_UPDATE: a descriptor and eight bytes
+-- of flags
 abbrev pub before_key_and_value : ℕ
 before_key_and_value = 12
 
--- the context words in a test run's body
+-- the length of the context words in a test run's body
 abbrev pub context_length : ℕ
 context_length = given_words * word_length
 
--- the bytes before the packet of a test run: a descriptor and the context
+-- the length of what is before the packet of a test run: a descriptor and the context
 abbrev pub before_packet : ℕ
 before_packet = word_length + context_length
 
--- the longest frame that is read
+-- the length of the longest frame that is read
 abbrev pub longest_frame : ℕ
 longest_frame = 131072
 
 -- ---- the body
 
--- the little-endian number in the four bytes, or the eight, at an offset of the body
+-- the little-endian number in the four bytes at an offset of the body
 abbrev pub word_behind : ℕ → List ℕ → ℕ
 word_behind at body = little_number 4 (drop at body)
 
+-- the little-endian number in the eight bytes at an offset of the body
 abbrev pub long_behind : ℕ → List ℕ → ℕ
 long_behind at body = little_number 8 (drop at body)
 
--- the first n words
+-- the numbers of the first n words of these bytes, four bytes each
 unfoldable pub words : ℕ → List ℕ → List ℕ
 words zero bytes = []
 words (suc n) bytes = little_number 4 bytes ∷ words n (drop 4 bytes)
 
--- the command if its body has exactly n bytes, or at least n
+-- the command if its body has exactly n bytes
 abbrev pub exactly : ℕ → List ℕ → Command → Result Command BadFrame
 exactly n body command = if length body == n then Ok command else Err Body
 
+-- the command if its body has n bytes or more
 abbrev pub at_least : ℕ → List ℕ → Command → Result Command BadFrame
 at_least n body command = if nat_le n (length body) then Ok command else Err Body
 
--- the command of number n with this body
+-- the command of number n with this body; the fault if there is none
 abbrev pub command_in : ℕ → List ℕ → Result Command BadFrame
 command_in n body =
     if n == 0 then exactly create_body body

@@ -9,7 +9,7 @@ use Rattle.command_frames.specs.declared.command.Head.{Head}
 abbrev pub framed : List ℕ → List ℕ
 framed frame = little_bytes 4 (length frame) ++ frame
 
--- its length fits in four bytes
+-- these bytes may be a frame: their length fits in four bytes
 abbrev pub IsFrame : List ℕ → Type 0
 IsFrame frame = length frame < 2 ^ 32
 
@@ -19,7 +19,7 @@ IsPartial bytes = (length bytes < 4) ⊎ (length bytes < 4 + little_number 4 byt
 
 -- ---- the head of a frame
 
--- the bytes of a head: a tenant and a command, two bytes each
+-- the length of a head, in bytes: a tenant and a command, two bytes each
 abbrev pub head_length : ℕ
 head_length = 4
 
@@ -34,14 +34,14 @@ head_of frame =
 abbrev pub owner : List ℕ → ℕ
 owner frame = if nat_lt (length frame) head_length then 65535 else little_number 2 frame
 
--- the number of its command, and 65535 if it is too short for a head
+-- the number of a frame's command, and 65535 if it is too short for a head
 abbrev pub command_number : List ℕ → ℕ
 command_number frame =
     if nat_lt (length frame) head_length then 65535 else little_number 2 (drop 2 frame)
 
 -- ---- the reply
 
--- the bytes between the length of a reply and its payload: tenant, command and status
+-- the number of bytes between the length of a reply and its payload: tenant, command and status
 abbrev pub reply_head : ℕ
 reply_head = 8
 
@@ -53,8 +53,8 @@ longest_payload = 4096
 abbrev pub longest_reply : ℕ
 longest_reply = 4 + reply_head + longest_payload
 
--- a reply: the length of what follows it, the tenant, the command and the status, and then the
--- payload
+-- the bytes of a reply before its payload: the length of what follows this length, the tenant, the
+-- command and the status
 abbrev pub front_bytes : ℕ → ℕ → ℤ → ℕ → List ℕ
 front_bytes tenant command status size =
     little_bytes 4 size
@@ -62,6 +62,7 @@ front_bytes tenant command status size =
     (little_bytes 2 tenant
     ++ (little_bytes 2 command ++ little_bytes 4 (cast_unsigned w32 status)))
 
+-- a reply: the bytes before its payload, and the payload
 abbrev pub reply_bytes : ℕ → ℕ → ℤ → List ℕ → List ℕ
 reply_bytes tenant command status payload =
     front_bytes tenant command status (reply_head + length payload) ++ payload

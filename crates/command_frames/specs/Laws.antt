@@ -12,18 +12,20 @@ pub record IsStream (bytes : List ℕ) (frames : List (List ℕ)) (rest : List �
   pub partial : IsPartial rest
   pub spelled : bytes ≡ flat_map framed frames ++ rest
 
--- all bytes are a stream, in exactly one way
+-- all bytes are a stream
 abbrev pub EachIsStream : Type 0
 EachIsStream =
     (bytes : List ℕ) → ((i : ℕ) → slice_index bytes i < 256)
     → (frames : List (List ℕ)) × (rest : List ℕ) × IsStream bytes frames rest
 
+-- bytes are a stream in one way at most: they determine its frames and its rest
 abbrev pub OneStream : Type 0
 OneStream =
     (bytes : List ℕ) (frames others : List (List ℕ)) (rest left : List ℕ)
     → IsStream bytes frames rest → IsStream bytes others left → (frames ≡ others) × (rest ≡ left)
 
--- whole frames in front of a stream are its first ones
+-- whole frames at the front of a stream's bytes are its first ones, and what follows them is a
+-- stream of the others
 abbrev pub FramesInFront : Type 0
 FramesInFront =
     (bytes : List ℕ) (first frames : List (List ℕ)) (left rest : List ℕ)
@@ -41,7 +43,7 @@ pub record IsReply (tenant command : ℕ) (status : ℤ) (payload : List ℕ) : 
   pub status_fits : FitsSigned w32 status
   pub short : length payload ≤ longest_payload
 
--- bytes begin with one reply at most
+-- bytes begin with one reply at most: they determine its fields and the bytes after it
 abbrev pub OneReplyInFront : Type 0
 OneReplyInFront =
     (tenant other command number : ℕ) (status sign : ℤ) (payload load rest left : List ℕ)

@@ -6,6 +6,7 @@ use Rattle.command_frames.specs.declared.command.Command.{Command as CodeCommand
 use Rattle.command_frames.specs.declared.command.Command.TheVariants as code
 use Rattle.command_frames.specs.Command.{Command, map_create, map_lookup, map_update, map_delete, map_next_key, prog_load, prog_test_run, close}
 
+-- the command that contracts see for one of the code: its borrowed bytes are lists
 abbrev pub shown_command : CodeCommand → Command
 shown_command (code.MapCreate kind key_size value_size max_entries flags) =
     map_create kind key_size value_size max_entries flags
@@ -17,5 +18,6 @@ shown_command (code.ProgLoad kind slots) = prog_load kind slots.now
 shown_command (code.ProgTestRun fd words packet) = prog_test_run fd words packet.now
 shown_command (code.Close fd) = close fd
 
+-- the result of parsing as contracts see it; a fault is itself
 abbrev pub shown_result : Result CodeCommand BadFrame → Result Command BadFrame
 shown_result r = result_map_both shown_command (λ e. e) r

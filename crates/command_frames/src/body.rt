@@ -13,16 +13,16 @@ use words::GIVEN_WORDS;
 /// The length of a word (a descriptor, a type or a size) in bytes.
 const WORD_LENGTH: usize = 4;
 
-/// The length of the body of MAP_CREATE: five words.
+/// The length of the body of MAP_CREATE in bytes: five words.
 const CREATE_BODY: usize = 20;
 
-/// The bytes before the key and the value of MAP_UPDATE: a descriptor and eight bytes of flags.
+/// The number of bytes before the key and the value of MAP_UPDATE: a descriptor and eight bytes of flags.
 const BEFORE_KEY_AND_VALUE: usize = 12;
 
-/// The length in bytes of the context words in the body of PROG_TEST_RUN.
+/// The length in bytes of the context words in the body of PROG_TEST_RUN: all but the first, which is the packet's length.
 const CONTEXT_LENGTH: usize = GIVEN_WORDS * WORD_LENGTH;
 
-/// The bytes before the packet of PROG_TEST_RUN: a descriptor and the context.
+/// The number of bytes before the packet of PROG_TEST_RUN: a descriptor and the context.
 const BEFORE_PACKET: usize = WORD_LENGTH + CONTEXT_LENGTH;
 
 /// The word at an offset in bytes, little-endian.
@@ -117,7 +117,7 @@ fn prog_load(body: &[u8]) -> Result<Command<'_>, BadFrame>
     })
 }
 
-/// Reads the words of the context, in order.
+/// Reads the words of the context, in order, without its first one, which is the packet's length.
 fn given_words(bytes: &[u8]) -> [u32; GIVEN_WORDS]
     requires { context_length ≤ length bytes.now }
     ensures { result ≡ words given_words bytes.now }

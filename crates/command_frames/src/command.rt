@@ -9,7 +9,8 @@ pub struct Head {
     pub command: u16,
 }
 
-/// A command with its fields, named as by bpf(2). No field is checked yet; byte fields are borrowed from the frame.
+/// A command with its fields, named as by bpf(2): `fd` is a descriptor, `kind` the type of the map or the program, and sizes are in bytes.
+/// No field is checked yet; byte fields are borrowed from the frame.
 #[derive(Clone, Copy, Debug)]
 pub enum Command<'a> {
     MapCreate {

@@ -12,7 +12,7 @@ pub fn one_stream()
     ensures { OneStream }
 {}
 
-/// Whole frames in front of a stream are its first ones, and what follows them is a stream.
+/// Whole frames at the front of a stream's bytes are its first ones, and what follows them is a stream of the others.
 pub fn frames_in_front()
     ensures { FramesInFront }
 {}

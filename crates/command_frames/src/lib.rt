@@ -6,7 +6,7 @@
 //! - The command of a frame, with its fields, is that of the table (`specs/Command.antt`, a definition by command number).
 //!   Otherwise the error is the first that applies: the frame is too long, no command has its number, its body has another
 //!   length: `parse`.
-//! - After that the buffer holds the bytes of the reply, whatever it held before: `write_reply`, `write_number`, `bytes` of
+//! - After a reply is written, the buffer holds its bytes, whatever it held before: `write_reply`, `write_number`, `bytes` of
 //!   `ReplyBuf`.
 //! - A reply has at most 4,108 bytes: `bound` of `bytes` and of `into_vec` of `ReplyBuf`.
 //! - Bytes split in exactly one way into a list of frames and a rest that is no whole frame; whole frames in front are the

@@ -8,13 +8,13 @@ use crate::command::Head;
 use std::alloc::{AllocError, Global};
 use std::marker::Model;
 
-/// The bytes between the length of a reply and its payload: tenant, command and status.
+/// The number of bytes between the length field of a reply and its payload: tenant, command and status.
 const REPLY_HEAD: usize = 8;
 
-/// The bytes before the payload.
+/// The number of bytes of a reply before its payload: the length field, tenant, command and status.
 const FRONT_LENGTH: usize = 4 + REPLY_HEAD;
 
-/// The length field of a reply whose payload is a number of four bytes.
+/// What the length field has in a reply whose payload is a number of four bytes: the bytes after this field.
 const NUMBER_LENGTH: u32 = REPLY_HEAD as u32 + 4;
 
 /// The length of the longest payload of a reply, in bytes.
@@ -99,7 +99,7 @@ impl ReplyBuf {
     }
 }
 
-/// The bytes of a reply before its payload: its length, the tenant, the command and the status.
+/// The bytes of a reply before its payload: `length`, which counts the bytes after it, the tenant, the command and the status.
 fn front(head: Head, status: i32, length: u32) -> [u8; FRONT_LENGTH]
     ensures { result ≡ front_bytes head.tenant head.command status length }
 {

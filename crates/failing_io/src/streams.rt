@@ -13,28 +13,28 @@ const LOAD_AND_RUN: [u8; 80] = [
     0, 0, 0, 0, 0, 0, 0, 0, 0, 0, 0, 0, 0, 0, 0, 0, 0, 0, 0, 0, 0, 0,
 ];
 
-/// The end of the first of these frames.
+/// The end of the first frame of `LOAD_AND_RUN`, the load, in bytes.
 const FIRST_FRAME: usize = 28;
 
-/// The replies to them: descriptor 3, and the result 1.
+/// The replies to the frames of `LOAD_AND_RUN`: descriptor 3, and the result 1.
 const REPLIES: [u8; 28] = [
     8, 0, 0, 0, 0, 0, 5, 0, 3, 0, 0, 0, 12, 0, 0, 0, 0, 0, 10, 0, 0, 0, 0, 0, 1, 0, 0, 0,
 ];
 
-/// The end of the first of the replies.
+/// The end of the first reply of `REPLIES`, in bytes.
 const FIRST_REPLY: usize = 12;
 
 /// A frame that is too short for a head.
 const SHORT_FRAME: [u8; 7] = [3, 0, 0, 0, 0xaa, 0xbb, 0xcc];
 
-/// The replies to five of them: EINVAL, to nobody.
+/// The replies to five times `SHORT_FRAME`: EINVAL, with the head of no tenant and no command.
 const SHORT_REPLIES: [u8; 60] = [
     8, 0, 0, 0, 255, 255, 255, 255, 234, 255, 255, 255, 8, 0, 0, 0, 255, 255, 255, 255, 234, 255,
     255, 255, 8, 0, 0, 0, 255, 255, 255, 255, 234, 255, 255, 255, 8, 0, 0, 0, 255, 255, 255, 255,
     234, 255, 255, 255, 8, 0, 0, 0, 255, 255, 255, 255, 234, 255, 255, 255,
 ];
 
-/// How a reader goes on after its bytes.
+/// What a reader does after its bytes: it gives none, fails, or gives them again.
 #[derive(Clone, Copy)]
 enum Then {
     Ends,
@@ -42,7 +42,7 @@ enum Then {
     BeginsAgain,
 }
 
-/// A reader that gives these bytes, at most `at_once` in a call, and then goes on as `then` says.
+/// A reader that gives `bytes`, at most `at_once` in a call, and after them does as `then` says. `rest` are those not given yet.
 #[derive(Drop)]
 struct Input<'a> {
     bytes: &'a [u8],
@@ -68,8 +68,8 @@ impl Read for Input<'_> {
     }
 }
 
-/// A writer with room for `room` bytes, which takes at most `at_once` in a call. Its flush may fail. It compares what it takes with the
-/// bytes that are expected.
+/// A writer with room for `room` more bytes, which takes at most `at_once` in a call. Its flush fails unless `flushes`. It compares what it
+/// takes with `expected`, the bytes that are still to come; `differs` if some were others.
 #[derive(Drop)]
 struct Output<'a> {
     room: usize,
@@ -99,7 +99,7 @@ impl Write for Output<'_> {
     }
 }
 
-/// The first `count` bytes.
+/// The first `count` bytes, or all if there are fewer.
 fn front(bytes: &[u8], count: usize) -> &[u8] {
     bytes.get(..count).unwrap_or(bytes)
 }
@@ -114,7 +114,7 @@ struct Stream<'a> {
     write_failures: u64,
 }
 
-/// Serves the stream, and asserts that it ends as it has to, with just the expected bytes written.
+/// Serves the stream, and asserts that it ends as it has to, with only the expected bytes written. `case` and `number` are the message.
 fn assert_ends(rt: &impl Abort, alloc: Global, case: &str, number: usize, stream: Stream<'_>) {
     let Stream {
         input,
@@ -161,7 +161,7 @@ fn stream_of<'a>(bytes: &'a [u8], then: Then, expected: &'a [u8]) -> Stream<'a> 
     }
 }
 
-/// How the first `length` bytes of a load and a run end, and how many bytes are written.
+/// How a stream of the first `length` bytes of `LOAD_AND_RUN` ends, and how many bytes are written.
 fn end_of_cut(length: usize) -> (Result<u32, ServeFault>, usize) {
     match length {
         0 => (Ok(0), 0),
@@ -172,6 +172,7 @@ fn end_of_cut(length: usize) -> (Result<u32, ServeFault>, usize) {
     }
 }
 
+/// Streams that are cut, of which a reader, a writer or a flush fails, that are read or written in pieces, or that have too many frames.
 #[test]
 fn streams_end_and_fail(rt: HostRuntime) {
     let alloc = rt.alloc();
@@ -227,7 +228,7 @@ fn streams_end_and_fail(rt: HostRuntime) {
     assert_ends(&rt, alloc, "no frame is allowed, bytes:", 1, byte);
 }
 
-/// A fault of this kind, after `frames` frames.
+/// The end of a stream with a fault of this kind, after `frames` frames had a reply.
 fn fault(kind: ServeFaultKind, frames: u32) -> Result<u32, ServeFault> {
     Err(ServeFault { kind, frames })
 }

@@ -11,10 +11,12 @@ abbrev pub most : ℕ
 most = 64
 
 module _ {A : Type 0} where
-  -- what is open at each index; a descriptor is 3 above its index
+  -- a table has what is open at each index, and a descriptor is 3 above its index: this one has
+  -- nothing
   abbrev pub nothing_open : List (Option A)
   nothing_open = replicate most None
 
+  -- the value inside; None if either option is None
   abbrev pub flattened : Option (Option A) → Option A
   flattened o = option_and_then (λ x. x) o
 
@@ -29,10 +31,11 @@ module _ {A : Type 0} where
   abbrev pub lowest : List (Option A) → Option ℕ
   lowest table = option_map (λ index. first_descriptor + index) (position is_none table)
 
+  -- the table with x open at descriptor fd
   abbrev pub with_open : List (Option A) → ℕ → A → List (Option A)
   with_open table fd x = slice_set table (fd - first_descriptor) (Some x)
 
-  -- fd is closed; the table is unchanged if it is not open
+  -- the table with descriptor fd closed; it is unchanged if fd is not open
   abbrev pub with_closed : List (Option A) → ℕ → List (Option A)
   with_closed table fd =
       if nat_lt fd first_descriptor then table else slice_set table (fd - first_descriptor) None

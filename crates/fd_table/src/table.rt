@@ -34,7 +34,7 @@ impl<T> Model for FdTable<T> {
     ghost invariant = { λ t. (vec_len t.entries ≡ most) × TellsTaken t.taken t.entries.items };
 }
 
-/// `MOST` free entries.
+/// `MOST` free entries. `AllocError`: out of memory.
 fn free_entries<T: Drop>(alloc: Global) -> Result<Vec<Option<T>>, AllocError>
     ensures { IfOk result (λ entries. entries.items ≡ nothing_open) }
 {
@@ -57,7 +57,7 @@ impl<T: Drop> FdTable<T> {
         })
     }
 
-    /// The index of the lowest free entry; `None` if all are taken.
+    /// The index of the lowest free entry, which is that of the lowest bit of `taken` that is not set; `None` if all are taken.
     fn free_index(&self) -> Option<usize>
         ensures value { result ≡ position is_none self.now }
         ensures bound { IfSome result (λ index. index < most) }

@@ -11,7 +11,7 @@ pub struct BoundProgram<'a> {
     pub program: &'a Verified,
     /// The handle of a live map for each descriptor that the program loads, in their order.
     pub bind: &'a [MapKey],
-    /// The number of the part of its tenant.
+    /// The number of its tenant, and so of the part in which it runs.
     pub tenant: usize,
 }
 
@@ -21,7 +21,7 @@ pub(crate) struct Given<'a> {
     pub(crate) program: &'a Verified,
     /// Its slots, with marks.
     pub(crate) slots: &'a [RawSlot],
-    /// The opcode or mark of the first slot.
+    /// The opcode or mark of the first slot, which is read once for all runs.
     pub(crate) first: usize,
     /// The maps that it loads.
     pub(crate) loaded: BoundMaps<'a>,

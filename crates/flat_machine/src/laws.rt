@@ -27,7 +27,8 @@ pub(crate) fn bytes_fit(bytes: &[u8])
     let _ = bytes.len();
 }
 
-/// The next instruction with these maps and this memory is also the next one if less of the two is known.
+/// If there is a next instruction with these maps and this memory, there is one of which only the maps are known, only the memory, or
+/// neither: each arm requires no more than its step reads.
 #[inline(always)]
 pub(crate) fn has_some_next(maps: BoundMaps, rest: &[RawSlot], registers: &Registers, arena: &Arena)
     requires { HasNext rest.now registers.now
@@ -41,7 +42,7 @@ pub(crate) fn has_some_next(maps: BoundMaps, rest: &[RawSlot], registers: &Regis
     let _ = arena;
 }
 
-/// If words and bytes represent a state, those after a step represent the state after the machine's step.
+/// If words and bytes represent a state, those after a step represent the state after the tagged machine's step, if it has one.
 fn steps_follow()
     ensures { StepsFollow }
 {
@@ -50,7 +51,7 @@ fn steps_follow()
     bpf_helpers::laws::stores_keep_simulation();
 }
 
-/// Each range that such a step accesses lies in the part of the run.
+/// If the tagged machine has a step, each range that the step on words and bytes accesses lies in the part of the run.
 fn steps_stay_inside()
     ensures { StepsStayInside }
 {

@@ -47,9 +47,9 @@
 //!   out of its place, and one thread serves all frames. It requests two ranges, one for the load and one for the store.
 //! - In a program that is built with its proofs, an `unreachable!()`, and so each unwrap, is still a comparison and a jump to a
 //!   trap, since the compiler does not see what was proved. So code that runs often has a `requires` and no arm for the rest, or
-//!   reads an element of an array that has none in that arm: a load of a map returns a word and no `Option`. If an `Option` passes through several inline
-//!   functions, the compiler of the proved program also keeps its tag and tests it again at the end: with an `Option` a look-up in an
-//!   array took 48 machine instructions, and 30 in a build without proofs. So measure the proved program.
+//!   reads an element of an array that has none in that arm: a load of a map returns a word and no `Option`. If an `Option` passes
+//!   through several inline functions, the compiler of the proved program also keeps its tag and tests it again at the end: with an
+//!   `Option` a look-up in an array took 48 machine instructions, and 30 in a build without proofs. So measure the proved program.
 //! - What an immediate or a register field names is compared by `<` or `>`, the most frequent value first: the atomic operation
 //!   (the addition), and what a load of two slots loads (an address in a value). Equalities with several constants would become
 //!   one switch, which the compiler tests in an order of its own. Each operation and each width of a byte order has code of its

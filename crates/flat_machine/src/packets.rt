@@ -17,7 +17,7 @@ use words::GIVEN_WORDS;
 /// The length of the longest packet of a run, in bytes.
 pub const LONGEST_PACKET: usize = 65_536;
 
-/// The highest bit of a length or an end. No slice has so many bytes.
+/// The highest bit of a word, 2^63. No slice has so many bytes, so an end of a packet that has it is outside.
 const HIGHEST_BIT: usize = 0x8000_0000_0000_0000;
 
 /// Why packets are refused.
@@ -37,6 +37,7 @@ pub enum PacketFault {
 pub struct Packets<'a> {
     pub(crate) contexts: &'a [[u32; GIVEN_WORDS]],
     pub(crate) bytes: &'a [u8],
+    /// For each packet, how many of the bytes are before its end.
     pub(crate) ends: &'a [usize],
 }
 
@@ -52,7 +53,7 @@ impl<'a> Model for Packets<'a> {
         ≡ None };
 }
 
-/// Whether there is one array of words for all packets, or one for each.
+/// Whether so many arrays of words of context are one for all packets, or one for each.
 #[inline(always)]
 fn are_enough(contexts: usize, packets: usize) -> bool
     ensures { result ≡ are_contexts contexts packets }
@@ -61,7 +62,7 @@ fn are_enough(contexts: usize, packets: usize) -> bool
 }
 
 /// Whether it is seen at once that packets with these ends are in order, in `many` bytes, and shorter than `LONGEST_PACKET`: the bits of
-/// all lengths and of all ends are collected, without a test for each packet. A negative length has the highest bit.
+/// all lengths and of all ends are collected, without a test for each packet. A negative length has the highest bit. `false` means nothing.
 #[inline(always)]
 fn are_plain(many: usize, ends: &[usize]) -> bool
     ensures { result ≡ true → packets_fault many 0 ends.now ≡ None }
@@ -77,7 +78,7 @@ fn are_plain(many: usize, ends: &[usize]) -> bool
     lengths < LONGEST_PACKET && reach < HIGHEST_BIT && start <= many
 }
 
-/// Why packets with these ends are refused, by tests of each in turn.
+/// Why packets with these ends, in `many` bytes, are refused, by tests of each in turn; `None` if they are not.
 #[cold]
 #[inline(never)]
 fn first_fault(many: usize, ends: &[usize]) -> Option<PacketFault>
@@ -96,7 +97,8 @@ fn first_fault(many: usize, ends: &[usize]) -> Option<PacketFault>
     None
 }
 
-/// Why packets with these ends are refused. Most are seen to be right at once; a packet of just `LONGEST_PACKET` bytes is not.
+/// Why packets with these ends, in `many` bytes, are refused; `None` if they are not. Most are seen to be right at once; a packet of just
+/// `LONGEST_PACKET` bytes is not.
 #[inline(always)]
 fn fault_of(many: usize, ends: &[usize]) -> Option<PacketFault>
     ensures { result ≡ packets_fault many 0 ends.now }

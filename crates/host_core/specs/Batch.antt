@@ -10,26 +10,28 @@ use Rattle.tenant.specs.Errno.{status_of}
 use Rattle.tenant.specs.State.{TenantState}
 use Rattle.host_core.specs.Handled.{Turn, frames_in, replies_in, HandlesInOrder}
 
--- a batch of a tenant that is served, and its state before and after it
+-- a batch of a tenant that is served, and its state before and after it: the results are written to
+-- the front of `room`, which gives `written`
 abbrev pub RunsFor : ℕ → Option TenantState → List BatchInput → List ℕ → List ℕ → Option TenantState
     → Type 0
 RunsFor fd None inputs room written after = ⊥
 RunsFor fd (Some s) inputs room written after =
     (last : TenantState) × RunsBatch fd s inputs room written last × (after ≡ Some last)
 
--- why a batch is rejected: its tenant is not served, or the error of the tenant
+-- why a batch of so many contexts, `many` bytes of packets with these ends, and room for `room`
+-- results is rejected: its tenant is not served, or the error of the tenant
 abbrev pub refusal_for : Option TenantState → ℕ → ℕ → ℕ → List ℕ → ℕ → Option Errno
 refusal_for None fd contexts many ends room = Some NotPermitted
 refusal_for (Some s) fd contexts many ends room =
     batch_refusal (named s.objects fd) contexts many ends room
 
--- n packets of a batch are allowed by a bound on executed instructions; the batch of a tenant that
--- is not served is rejected as a whole
+-- a bound on executed instructions allows the first n packets of a batch of so many; a batch of a
+-- tenant that is not served is not made shorter, and is rejected
 abbrev pub IsAllowedFor : Option TenantState → ℕ → ℕ → ℕ → ℕ → Type 0
 IsAllowedFor None fd bound packets n = n ≡ packets
 IsAllowedFor (Some s) fd bound packets n = IsAllowed (named s.objects fd) bound packets n
 
--- the status of a batch, as that of the frames: 0, or the negated error number
+-- the status of a batch: 0 if it is run, or the negated number of the error
 abbrev pub batch_status : Option Errno → ℤ
 batch_status None = pos 0
 batch_status (Some errno) = status_of errno

@@ -4,7 +4,8 @@ use Rattle.command_frames.specs.Frame.{owner}
 use Rattle.tenant.specs.State.{TenantState}
 use Rattle.tenant.specs.Alone.{MayReply, IsFault}
 
--- the states before and after one frame, with its reply
+-- A frame is handled: its reply and the next state of its tenant are those of the tenant's machine,
+-- every other tenant is unchanged, and no test run faults.
 pub record Handles (before : List TenantState) (frame reply : List ℕ)
     (after : List TenantState) : Type 0 where
   pub own : MayReply frame reply (slice_get before (owner frame)) (slice_get after (owner frame))
@@ -18,9 +19,11 @@ pub record Turn : Type 0 where
   pub reply : List ℕ
   pub states : List TenantState
 
+-- the frames of these turns, in order
 abbrev pub frames_in : List Turn → List (List ℕ)
 frames_in turns = map (λ turn. turn.frame) turns
 
+-- the replies of these turns, in order
 abbrev pub replies_in : List Turn → List (List ℕ)
 replies_in turns = map (λ turn. turn.reply) turns
 

@@ -46,7 +46,7 @@ EachIsToldAloneUntilRefused =
     → Noninterference before (frames_in (take n turns)) (replies_in (take n turns))
     (states_after before (take n turns))
 
--- The same by a tenant's own replies: if none of the replies to it is that memory was refused, it
+-- Noninterference by a tenant's own replies: if none of them is that memory was refused, the tenant
 -- gets exactly the replies of its own machine without refusals of memory. Whether its flag is set
 -- before does not matter, nor what is refused to others.
 abbrev pub NoninterferenceByReplies
@@ -55,8 +55,8 @@ NoninterferenceByReplies before frames replies after =
     (t : ℕ) → let own = replies_of t frames replies in NoneIsRefusedMemory own
     → IsToldAlone (slice_get before t) (frames_of t frames) own (slice_get after t)
 
--- This holds from any number of turns on, for any number of turns, from the states that the tenants
--- then have.
+-- In each stretch of turns, n after the first m, a tenant none of whose replies is that memory was
+-- refused gets exactly the replies of its own machine, from the state before the stretch.
 abbrev pub EachStretchIsToldAlone : Type 0
 EachStretchIsToldAlone =
     (before after : List TenantState) (turns : List Turn) (m n : ℕ)

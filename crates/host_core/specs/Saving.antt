@@ -29,7 +29,8 @@ pub record Records (frame reply : List ℕ) (before after : HostState) : Type 0 
       → slice_get after.births other ≡ slice_get before.births other
   pub count : length after.births ≡ length before.births
 
--- the frames of a part of a tenant, if it is served and has so many parts
+-- the frames of a part of a tenant, each with its length before it; None if the tenant is not
+-- served or has no such part
 abbrev pub saved_part : HostState → ℕ → ℕ → Option (List ℕ)
 saved_part host tenant part =
     option_and_then (λ s.
@@ -38,6 +39,7 @@ saved_part host tenant part =
 
 -- ---- calls one after another
 
+-- a host handles a frame, and the births of the frame's tenant are those after its command
 abbrev pub HandlesFrame : HostState → HostState → Type 0
 HandlesFrame before after =
     (frame : List ℕ)
@@ -45,6 +47,7 @@ HandlesFrame before after =
     × Handles before.states frame reply after.states
     × Records frame reply before after
 
+-- a host runs a program of a tenant on packets; no other state and no births change
 abbrev pub RunsPackets : HostState → HostState → Type 0
 RunsPackets before after =
     (tenant : ℕ) × (fd : ℕ) × (inputs : List BatchInput) × (room : List ℕ) × (written : List ℕ)
@@ -75,7 +78,7 @@ AreRestored host =
     × AllByRecursion (λ frame. owner frame ≡ tenant) frames
     × IsRestoredBy s frames
 
--- so they do after any of these calls on a new host
+-- after any of these calls on a new host, the parts of each tenant restore it
 abbrev pub TenantsAreRestored : Type 0
 TenantsAreRestored =
     (count : ℕ) (calls : List HostState) (host : HostState)

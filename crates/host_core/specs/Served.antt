@@ -62,7 +62,7 @@ stream_state source sink states reader writer = record {
   write_failures = sink.failures writer;
 }
 
--- no call failed in between
+-- no call of the reader or the writer failed between these states
 abbrev pub NoCallFailed : StreamState → StreamState → Type 0
 NoCallFailed old new =
     (new.read_failures ≡ old.read_failures) × (new.write_failures ≡ old.write_failures)
@@ -100,7 +100,8 @@ pub record ServesAlone (old new : StreamState) (count : ℕ) (rest : List ℕ) :
   pub alone : Noninterference old.states frames replies new.states
   pub no_fault : NoneFaults replies
 
--- one more frame got a reply, which was not written whole, or not flushed
+-- `count` replies were written whole, and then the one to one more frame, in part, or whole and not
+-- flushed
 abbrev pub CutsLastReply : StreamState → StreamState → ℕ → Type 0
 CutsLastReply old new count =
     (turns : List Turn) × (last : Turn) × (n : ℕ) × (length turns ≡ count)

@@ -11,6 +11,7 @@ unfoldable pub states_from : Memory → ℕ → List RecordedTenant → List Ten
 states_from m t [] = []
 states_from m t (k ∷ ks) = tenant_state (part_bytes m t) k ∷ states_from m (t + 1) ks
 
+-- the states of all tenants, by tenant number
 abbrev pub states_in : Memory → List RecordedTenant → List TenantState
 states_in m tenants = states_from m 0 tenants
 
@@ -19,9 +20,11 @@ pub record HostState : Type 0 where
   pub states : List TenantState
   pub births : List (List Birth)
 
+-- the births of the objects of each tenant, by tenant number
 abbrev pub births_in : List RecordedTenant → List (List Birth)
 births_in tenants = map (λ t. t.births) tenants
 
+-- the states and births of these tenants, whose values lie in this memory
 abbrev pub host_state : Memory → List RecordedTenant → HostState
 host_state m tenants = record { states = states_in m tenants; births = births_in tenants }
 

@@ -4,21 +4,23 @@ use Rattle.std.specs.Io.KnownBytes.{Consumes}
 use Rattle.std.specs.declared.result.Result.{Result}
 use Rattle.std.specs.declared.result.Result.TheVariants.{Ok, Err}
 
--- exactly these bytes were read from a reader
+-- exactly these bytes were read from a reader, if its bytes are known
 abbrev pub Takes : {R : Type 0} → (R → Option (List ℕ)) → R → R → List ℕ → Type 0
 Takes remaining old new bytes = Consumes (remaining old) (remaining new) bytes
 
 -- ---- how many calls failed
 
+-- 1 if a read failed, else 0
 abbrev pub read_failures : {E : Type 0} → Result ℕ E → ℕ
 read_failures (Ok n) = 0
 read_failures (Err e) = 1
 
--- a write that takes none of at least one byte counts as failed too
+-- 1 if a write failed, else 0; one that takes none of at least one byte counts as failed too
 abbrev pub write_failures : {E : Type 0} → Result ℕ E → List ℕ → ℕ
 write_failures (Ok n) bytes = if n == 0 && not (length bytes == 0) then 1 else 0
 write_failures (Err e) bytes = 1
 
+-- 1 if a flush failed, else 0
 abbrev pub flush_failures : {E T : Type 0} → Result T E → ℕ
 flush_failures (Ok x) = 0
 flush_failures (Err e) = 1

@@ -1,4 +1,5 @@
-//! What a caller can prove of a host and of a stream only from the contracts.
+//! What a caller can prove of a host and of a stream only from the contracts. Nothing calls these functions; their seeds and limits of
+//! frames are arbitrary.
 
 ghost use Rattle.std.specs.Prelude.{◌≡◌, ◌≤◌, ◌<◌, ◌-◌, ◌^◌, ℕ, List, [], ◌∷◌, replicate, slice_get, IfSome};
 ghost use Rattle.command_frames.specs.Frame.{owner};
@@ -52,8 +53,8 @@ fn serve_and_save<R: Source, W: Sink>(
     host.tenants_are_restored();
 }
 
-/// A tenant may go on after a reply of `NoMemory`: if the next one has another status, the reply to its next frame is exactly that of its own
-/// machine from the state after the first, whose flag is set.
+/// After a frame that may be refused memory, the next one, if the status of its reply is not `NoMemory`, gets exactly the reply of its
+/// tenant's own machine from the state between the two, even if the flag is set there.
 fn handle_after_a_refusal(host: &mut Host, refused: &[u8], next: &[u8], reply: &mut ReplyBuf)
     ensures { (first : List ℕ) × (between : List TenantState)
         × Handles host.old.states refused.now first between
@@ -65,14 +66,14 @@ fn handle_after_a_refusal(host: &mut Host, refused: &[u8], next: &[u8], reply: &
     host.handle(next, reply);
 }
 
-/// The limit on tenants is that of the definitions.
+/// The limit on tenants in the code is that of the definitions, `most_tenants`.
 fn tenants_of_the_largest_host() -> usize
     ensures { result ≡ most_tenants }
 {
     MOST_TENANTS
 }
 
-/// The limit on the frames of a call is that of the definitions.
+/// The limit on the frames of a call in the code is that of the definitions, `most_frames`.
 fn frames_of_the_longest_call() -> u32
     ensures { result ≡ most_frames }
 {

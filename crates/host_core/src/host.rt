@@ -22,7 +22,7 @@ use std::alloc::{AllocError, Global};
 use std::marker::Model;
 use tenant::{Batch, Errno, WorkingMemory, laws};
 
-/// The head of a reply to a frame that has none.
+/// The head of a reply to a frame of fewer than four bytes, which has none: 65535 for tenant and command.
 const NO_HEAD: Head = Head {
     tenant: u16::MAX,
     command: u16::MAX,
@@ -59,7 +59,7 @@ impl Model for Host {
         × AreReached (host_state h.arena h.tenants.items) };
 }
 
-/// `count` new tenants.
+/// `count` new tenants, the keys of whose hash maps will be hashed with this seed.
 fn new_tenants(
     alloc: Global,
     count: usize,
@@ -136,8 +136,8 @@ impl Host {
         self.tenants[tenant].handle(head, frame, tenant, arena, working, reply);
     }
 
-    /// The frames of one part of a save of `tenant`, each with its length before it; `None` after the last part, and for a tenant
-    /// that is not served.
+    /// The frames of part `part` of a save of `tenant`, from 0, each with its length before it; `None` after the last part, and for a
+    /// tenant that is not served.
     ///
     /// A new tenant of this number that is given the frames of all parts in their order, on this host or another one, then replies
     /// as this one does. Between two parts the tenant must not change; others may be served. A part creates one map or program, puts at
@@ -156,12 +156,12 @@ impl Host {
         kept.save_part(self.alloc, tenant as u16, part, self.arena.part(tenant))
     }
 
-    /// The parts of each tenant are frames, and a new tenant to which no memory is refused succeeds at each of them and then replies as
-    /// this one does, whatever calls this host had, and whatever memory was refused.
+    /// A law: the parts of each tenant are frames, and a new tenant to which no memory is refused succeeds at each of them and then
+    /// replies as this one does, whatever calls this host had, and whatever memory was refused.
     pub fn tenants_are_restored(&self)
         ensures { AreRestored self.now }
     {
-        // Each tenant has a history.
+        // For the proof only: by the invariant of the host each tenant has a history.
         let _ = &self.tenants;
         saving::laws::histories_are_restored();
         saving::laws::frames_have_owners();
@@ -169,8 +169,8 @@ impl Host {
     }
 
     /// Runs the program at a descriptor of `tenant` on many packets, one after another. The packets lie one after another in `bytes`,
-    /// and each ends at its number in `ends`. `contexts` has the ten words of context that all packets get, or those of each. The
-    /// result of each is written to `results`, whose rest is unchanged.
+    /// and `ends` has for each how many bytes are before its end. `contexts` has the ten words of context that all packets get, or those
+    /// of each. The results are written to the front of `results`, whose rest is unchanged.
     ///
     /// Results and states afterwards are those of the test-run frames of these packets in this order. The states of all other
     /// tenants are unchanged.

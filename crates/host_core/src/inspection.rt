@@ -15,7 +15,7 @@ use tagged_model::Named;
 use tenant::{Cost, Counts, Described};
 
 impl Host {
-    /// A tenant; `None` for a number that is not served.
+    /// The tenant of this number; `None` if it is not served.
     fn kept(&self, tenant: usize) -> Option<&SavableTenant>
         ensures { (part : List ℕ) × (slice_get self.now.states tenant
             ≡ option_map (λ kept. tenant_state part kept.now) result) }
@@ -23,8 +23,8 @@ impl Host {
         self.tenants.get(tenant)
     }
 
-    /// How much `tenant` has at this moment, and whether memory was ever refused to it. Nothing for a number that is not
-    /// served.
+    /// How much `tenant` has at this moment: its live maps, their keys and the bytes of their values, its open programs and all its open
+    /// descriptors; and whether memory was ever refused to it. All 0 for a number that is not served.
     pub fn counts(&self, tenant: usize) -> Counts
         ensures { result ≡ counts_if_served (slice_get self.now.states tenant) }
     {
@@ -34,7 +34,8 @@ impl Host {
         }
     }
 
-    /// What the descriptor `fd` of `tenant` names at this moment. A tenant that is not served has nothing open.
+    /// What the descriptor `fd` of `tenant` names at this moment: nothing, a map with its shape and its number of keys, or a program with
+    /// its number of slots. A tenant that is not served has nothing open.
     pub fn describe(&self, tenant: usize, fd: u32) -> Described
         ensures { result ≡ described_if_served (slice_get self.now.states tenant) fd }
     {
@@ -44,7 +45,8 @@ impl Host {
         }
     }
 
-    /// The cost of the program that the descriptor `fd` of `tenant` names; `None` if it names none, and for a number that is not served.
+    /// The cost of the program that the descriptor `fd` of `tenant` names, the most instructions and the most calls on its paths; `None` if
+    /// it names none, and for a number that is not served.
     pub fn program_cost(&self, tenant: usize, fd: u32) -> Option<Cost>
         ensures { HasCostAt (slice_get self.now.states tenant) fd result }
     {
@@ -55,13 +57,14 @@ impl Host {
     }
 
     /// The number of packets that a batch of `packets` may have, of the program at a descriptor of `tenant`, so that its runs execute at
-    /// most `bound` instructions by the cost of the program, as `Tenant::allowed_packets` counts: at least one, and all if the bound is 0.
-    /// All if the tenant is not served or the descriptor names no program: such a batch is rejected.
+    /// most `bound` instructions by the cost of the program, in which a call of a helper counts for more (`Tenant::allowed_packets`): at
+    /// least one, and all if the bound is 0. All if the tenant is not served or the descriptor names no program: such a batch is rejected.
     #[tactic(auto, using(crate::proofs::Allowed::no_bound_allows_all))]
     pub fn allowed_packets(&self, tenant: usize, fd: u32, bound: u64, packets: usize) -> usize
         ensures allowed { IsAllowedFor (slice_get self.now.states tenant) fd bound packets result }
         ensures few { result ≤ packets }
     {
+        // A batch without a bound: neither the tenant nor a cost is looked up, and nothing is multiplied or divided.
         if bound == 0 {
             return packets;
         }

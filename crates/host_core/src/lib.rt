@@ -27,8 +27,8 @@
 //! - Both also hold for a sequence of calls of `Host::handle` without a stream, and no test run faults: `calls_are_told_alone`.
 //! - `serve_new_host` promises the same of a stream that a new host serves, from the states of new tenants.
 //! - A caller can ask whether a tenant's flag is set: `refused`, `unrefused` of `Host::memory_was_refused`. How much a tenant has, what
-//!   a descriptor of it names, and all descriptors as the verifier sees them are what its state says: `Host::counts`,
-//!   `Host::describe`, `Host::targets`.
+//!   a descriptor of it names, what a program of it costs, and all descriptors as the verifier sees them are what its state says:
+//!   `Host::counts`, `Host::describe`, `Host::program_cost`, `Host::targets`.
 //! - Two streams that agree on a tenant's initial state and on its frames give it the same replies, if neither refuses memory
 //!   to it: `same_frames_same_replies`.
 //! - Two streams with the same frames have the same replies, and the same bytes are written, whatever hosts serve them, if each
@@ -63,6 +63,8 @@
 //!   states of the other tenants are unchanged: `runs`, `tenant` of `Host::run_packets`.
 //! - Or the batch is rejected before its first packet, with the first error that applies: the tenant is not served, or an error
 //!   of the tenant. Then nothing has changed: `refusal`, `unchanged` of `Host::run_packets`.
+//! - How many packets a bound on executed instructions allows a batch follows from the cost of the program: `allowed`, `few` of
+//!   `Host::allowed_packets`.
 //! - The runs of a batch are calls of `Host::handle` on the test-run frames of its packets. So what holds for a sequence of
 //!   calls holds if some of them are batches, and no run of a batch faults: `batch_is_its_calls`. These frames exist:
 //!   `test_runs_have_frames` of `saving`.
@@ -102,7 +104,7 @@
 //! - The host reads only the tenant of a frame. It rejects a frame without a head, or of a tenant that is not served (status
 //!   -1, whatever its length; the frame is still skipped as a whole). The tenant rejects a frame that is too long, has an
 //!   unknown command or a wrong body.
-//! - The reply to a frame that is too long depends only on its head, so the host keeps 131,073 bytes of it and skips the rest.
+//! - The reply to a frame that is too long depends only on its head, so the host keeps the head and skips the rest.
 //! - Every error of a reader or a writer ends the stream, an interruption too, and so does a write that accepts no byte.
 //! - Input is buffered; a reply is one write if the writer accepts it whole, and it is flushed before the next frame is read.
 //!   This is part of the contract: a `Sink` reports whether everything is flushed. The reader can fail in any call, so the

@@ -1,4 +1,6 @@
 //! Reading frames from a reader.
+//!
+//! Contracts require that fewer than 2^64 - 1 calls of the reader have failed before: they are counted in 64 bits.
 
 ghost use Rattle.std.specs.Prelude.{◌≡◌, ℕ, ◌+◌, ◌-◌, ◌<◌, ◌≤◌, ◌^◌, [], List, length, take, min, IfOk, IfErr, IfSome, IfNone, Ok, OnOk, OnErr};
 ghost use Rattle.std.specs.Io.KnownBytes.{IsAtEnd};
@@ -14,7 +16,7 @@ use byteorder::{ByteOrder, LittleEndian};
 use command_frames::LONGEST_FRAME;
 use std::alloc::{AllocError, Global};
 
-/// The most bytes that are kept of a frame: one more than the longest valid frame has.
+/// The length of the buffer for a frame: one byte more than the longest valid frame has, by which a longer one is rejected.
 pub(crate) const FRAME_BUFFER: usize = LONGEST_FRAME + 1;
 
 /// Reads until `buffer` is full or the input ends, and returns how many bytes were read. Fewer than 2^64 - 1 calls of the
@@ -78,7 +80,7 @@ fn read_length<S: Source>(reader: &mut S) -> Result<Option<u32>, ServeFaultKind>
     Ok(Some(number_in(&bytes)))
 }
 
-/// Reads and discards `count` bytes.
+/// Reads and discards `count` bytes. Each read overwrites the front of `scratch`, which is not empty.
 fn skip<S: Source>(reader: &mut S, scratch: &mut [u8], count: usize) -> Result<(), ServeFaultKind>
     requires failures { S.failures reader.old < 2 ^ 64 - 1 }
     requires scratch { 0 < length scratch.old }
@@ -99,7 +101,7 @@ fn skip<S: Source>(reader: &mut S, scratch: &mut [u8], count: usize) -> Result<(
     Ok(())
 }
 
-/// Reads `count` bytes into the front of `buffer`.
+/// Reads `count` bytes into the front of `buffer`, which has room for them. `Truncated` if the input ends before.
 fn read_whole<S: Source>(
     reader: &mut S,
     buffer: &mut [u8],
@@ -121,7 +123,8 @@ fn read_whole<S: Source>(
     Ok(())
 }
 
-/// Reads a frame of `total` bytes that is longer than `buffer`, which begins with the frame's head then.
+/// Reads a frame of `total` bytes that is longer than `buffer`, and keeps only its head, the first four bytes of `buffer`: what is skipped
+/// may overwrite the others, since the reply depends only on the head.
 fn read_long<S: Source>(
     reader: &mut S,
     buffer: &mut [u8],
@@ -143,7 +146,8 @@ fn read_long<S: Source>(
     Ok(())
 }
 
-/// Reads a frame of `total` bytes into the front of `buffer`, and returns how many bytes the buffer holds of it.
+/// Reads a frame of `total` bytes, and returns how long its front in `buffer` is: of a frame that is longer than the buffer, the length of
+/// the buffer, in which only the head is promised to be that of the frame.
 fn read_body<S: Source>(
     reader: &mut S,
     buffer: &mut [u8],
@@ -170,8 +174,8 @@ fn read_body<S: Source>(
     }
 }
 
-/// Reads a frame into the front of `buffer`, and returns how many bytes the buffer holds of it; `None` if the input ends
-/// before a frame.
+/// Reads a frame, with its length before it, and returns how long its front in `buffer` is; `None` if the input ends before a frame. In a
+/// buffer that a longer frame fills, only the head is promised to be that of the frame.
 pub(crate) fn read_frame<S: Source>(
     reader: &mut S,
     buffer: &mut [u8],

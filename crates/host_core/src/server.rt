@@ -1,4 +1,6 @@
 //! Serving a whole stream.
+//!
+//! Contracts require that fewer than 2^64 - 1 calls of the reader, and of the writer, have failed before: they are counted in 64 bits.
 
 ghost use Rattle.std.specs.Prelude.{◌≡◌, ℕ, ◌-◌, ◌<◌, ◌≤◌, ◌^◌, [], length, IfOk, IfErr, OnOk, OnErr, true, false};
 ghost use Rattle.std.specs.Prelude.{◌∷◌};
@@ -55,6 +57,7 @@ struct Buffers {
 }
 
 impl Buffers {
+    /// Allocates both buffers. `AllocError`: out of memory.
     fn new(alloc: Global) -> Result<Buffers, AllocError> {
         Ok(Buffers {
             frame: vec![in alloc; 0; FRAME_BUFFER]?,

@@ -100,6 +100,7 @@ impl<R: Read> Source for Counted<R> {
 
     ghost failures = { λ c. c.failures };
 
+    /// Reads from the reader of std, and counts the call if it fails.
     fn read(&mut self, buffer: &mut [u8]) -> io::Result<usize> {
         let outcome = self.inner.read(buffer);
         if outcome.is_err() {
@@ -116,6 +117,7 @@ impl<W: Write> Sink for Counted<W> {
 
     ghost failures = { λ c. c.failures };
 
+    /// Writes to the writer of std, and counts the call if it fails, or accepts none of at least one byte, which ends a stream too.
     fn write(&mut self, bytes: &[u8]) -> io::Result<usize> {
         self.is_flushed = false;
         let outcome = self.inner.write(bytes);
@@ -127,6 +129,7 @@ impl<W: Write> Sink for Counted<W> {
         outcome
     }
 
+    /// Flushes the writer of std, and counts the call if it fails.
     fn flush(&mut self) -> io::Result<()> {
         let outcome = self.inner.flush();
         match outcome {

@@ -1,6 +1,8 @@
 //! Decoding of a slot by the class of its opcode (RFC 9669, section 3.3). The class and the code determine the form of an instruction; a
-//! function for each form checks the fields and writes the instruction to `entry`, its element in the program's list of instructions. None
-//! of these instructions has a second slot, so each function returns `None` for it, and `read_slot` returns its result unchanged.
+//! function for each form checks the fields and writes the instruction into `entry`, its entry in the program's list of instructions (or a
+//! variable of `decode`). `wide` is the width: 64 bits if true, 32 if false.
+//!
+//! Each function returns the second slot of the instruction, as `read_slot` does. None of these instructions has one, so it is `None`.
 
 ghost use Rattle.std.specs.Prelude.{◌≡◌, ◌≢◌, ◌+◌, ◌*◌, ◌/◌, ◌%◌, ◌≤◌, [], ◌∷◌, None, Bool, true, IfSome, IfOk, IfErr, OnOk, IsTrue};
 ghost use Rattle.insn_set.specs.Slot.{fields};
@@ -23,7 +25,8 @@ use insn_set::{
 };
 use words::{AluOp, ByteOrder, Condition, ExtendedBits, KeptBits};
 
-/// Checks that the fields of a slot have values that its form allows, which is given, and that both registers exist.
+/// Checks the fields of a slot. `is_listed`: each has a value that the slot's form allows. The fault is `Reserved` if not, else `Register`
+/// if the number of one of its registers is above 10.
 #[inline(always)]
 #[tactic(auto, unfolding(crate::specs::inside::FirstFault::fault_in_form))]
 pub(crate) fn check_fields(is_listed: bool, slot: &RawSlot) -> Result<(), FaultKind>
@@ -42,7 +45,8 @@ pub(crate) fn check_fields(is_listed: bool, slot: &RawSlot) -> Result<(), FaultK
     Ok(())
 }
 
-/// Reads an operation on two operands. Of two operators with one opcode, the unsigned one is given.
+/// Reads an operation on two operands into `entry`; it has no second slot (`None`). `op` is the operator of the opcode at offset 0: another
+/// offset makes a division or a remainder signed, and is the number of bits from which a move extends the sign.
 #[inline(always)]
 fn read_operation(
     wide: bool,
@@ -91,7 +95,7 @@ fn read_operation(
     Ok(None)
 }
 
-/// Reads a negation.
+/// Reads a negation into `entry`; it has no second slot (`None`). The operand is the destination, so all other fields are zero.
 #[inline(always)]
 fn read_negation(wide: bool, entry: &mut Insn, slot: &RawSlot) -> Result<Option<RawSlot>, FaultKind>
     requires opcode { slot.now.opcode ≡ opcode_of (form.Neg wide) }
@@ -109,7 +113,7 @@ fn read_negation(wide: bool, entry: &mut Insn, slot: &RawSlot) -> Result<Option<
     Ok(None)
 }
 
-/// Reads a byte-order conversion.
+/// Reads a byte-order conversion into `entry`; it has no second slot (`None`). The immediate is the number of bits that it keeps.
 #[inline(always)]
 fn read_byte_order(
     how: ByteOrder,
@@ -138,7 +142,8 @@ fn read_byte_order(
     Ok(None)
 }
 
-/// Reads a negation or a byte-order conversion, whose codes no operator with two operands has.
+/// Reads a negation (code 8) or a byte-order conversion (code 13) into `entry`; it has no second slot (`None`). No operator with two
+/// operands has these codes; the fault of another one is `Opcode`.
 fn read_one_operand(
     wide: bool,
     entry: &mut Insn,
@@ -161,7 +166,7 @@ fn read_one_operand(
     }
 }
 
-/// Reads an instruction of class ALU or ALU64 (RFC 9669, section 4.1).
+/// Reads an instruction of class ALU64 (`wide`) or ALU into `entry` (RFC 9669, section 4.1); it has no second slot (`None`).
 #[inline(always)]
 pub(crate) fn read_alu(
     wide: bool,
@@ -182,7 +187,7 @@ pub(crate) fn read_alu(
     }
 }
 
-/// Reads a jump that is taken if a condition holds.
+/// Reads a jump that is taken if a condition holds into `entry`; it has no second slot (`None`). `wide` is the width of the comparison.
 #[inline(always)]
 fn read_branch(
     wide: bool,
@@ -208,7 +213,7 @@ fn read_branch(
     Ok(None)
 }
 
-/// Reads a jump of class JMP.
+/// Reads a jump of class JMP without a condition, whose distance is the offset, into `entry`; it has no second slot (`None`).
 fn read_goto(entry: &mut Insn, slot: &RawSlot) -> Result<Option<RawSlot>, FaultKind>
     requires opcode { slot.now.opcode ≡ opcode_of form.Ja }
     ensures value { OnOk result (IsInsn entry.new) }
@@ -223,7 +228,7 @@ fn read_goto(entry: &mut Insn, slot: &RawSlot) -> Result<Option<RawSlot>, FaultK
     Ok(None)
 }
 
-/// Reads a jump of class JMP32.
+/// Reads a jump of class JMP32 without a condition, whose distance is the immediate, into `entry`; it has no second slot (`None`).
 fn read_goto_far(entry: &mut Insn, slot: &RawSlot) -> Result<Option<RawSlot>, FaultKind>
     requires opcode { slot.now.opcode ≡ opcode_of form.Jal }
     ensures value { OnOk result (IsInsn entry.new) }
@@ -238,7 +243,7 @@ fn read_goto_far(entry: &mut Insn, slot: &RawSlot) -> Result<Option<RawSlot>, Fa
     Ok(None)
 }
 
-/// Reads a call of a helper into `entry`: the constant of the slot is the helper's number. Its registers and its offset have to be 0.
+/// Reads a call of a helper into `entry`; it has no second slot (`None`). The immediate is the helper's number; the other fields are zero.
 fn read_call(entry: &mut Insn, slot: &RawSlot) -> Result<Option<RawSlot>, FaultKind>
     requires opcode { slot.now.opcode ≡ opcode_of form.Call }
     ensures value { OnOk result (IsInsn entry.new) }
@@ -253,7 +258,7 @@ fn read_call(entry: &mut Insn, slot: &RawSlot) -> Result<Option<RawSlot>, FaultK
     Ok(None)
 }
 
-/// Reads the exit.
+/// Reads the exit into `entry`; it has no second slot (`None`). All fields but the opcode are zero.
 fn read_exit(entry: &mut Insn, slot: &RawSlot) -> Result<Option<RawSlot>, FaultKind>
     requires opcode { slot.now.opcode ≡ opcode_of form.Exit }
     ensures value { OnOk result (IsInsn entry.new) }
@@ -269,7 +274,8 @@ fn read_exit(entry: &mut Insn, slot: &RawSlot) -> Result<Option<RawSlot>, FaultK
     Ok(None)
 }
 
-/// Reads a jump without a condition, a call or the exit, whose codes no condition has.
+/// Reads a jump without a condition (code 0), a call (code 8) or the exit (code 9) into `entry`; it has no second slot (`None`). No
+/// condition has these codes; the fault of another one is `Opcode`. `wide` is class JMP, which has all three; JMP32 has only the jump.
 fn read_unconditional(
     wide: bool,
     entry: &mut Insn,
@@ -292,7 +298,7 @@ fn read_unconditional(
     }
 }
 
-/// Reads an instruction of class JMP or JMP32 (RFC 9669, section 4.3).
+/// Reads an instruction of class JMP (`wide`) or JMP32 into `entry` (RFC 9669, section 4.3); it has no second slot (`None`).
 #[inline(always)]
 pub(crate) fn read_jump(
     wide: bool,
@@ -316,7 +322,7 @@ pub(crate) fn read_jump(
     }
 }
 
-/// Reads a load (RFC 9669, sections 5.1 and 5.2).
+/// Reads a load, of class LDX, into `entry` (RFC 9669, sections 5.1 and 5.2); it has no second slot (`None`).
 #[inline(always)]
 pub(crate) fn read_load(entry: &mut Insn, slot: &RawSlot) -> Result<Option<RawSlot>, FaultKind>
     ensures value { OnOk result (IsInsn entry.new) }
@@ -338,7 +344,8 @@ pub(crate) fn read_load(entry: &mut Insn, slot: &RawSlot) -> Result<Option<RawSl
     Ok(None)
 }
 
-/// Reads a store (RFC 9669, section 5.1).
+/// Reads a store of a constant (class ST, `SourceBit::Imm`) or of a register (class STX) into `entry` (RFC 9669, section 5.1); it has no
+/// second slot (`None`). The mode, the upper three bits of the opcode, is MEM, which is 3.
 #[inline(always)]
 pub(crate) fn read_store(
     source: SourceBit,
@@ -364,7 +371,7 @@ pub(crate) fn read_store(
     Ok(None)
 }
 
-/// Reads an atomic operation (RFC 9669, section 5.3).
+/// Reads an atomic operation into `entry` (RFC 9669, section 5.3); it has no second slot (`None`). The immediate selects the operation.
 fn read_atomic(
     size: AtomicSize,
     entry: &mut Insn,
@@ -391,7 +398,8 @@ fn read_atomic(
     Ok(None)
 }
 
-/// Reads an atomic operation or a store of a register.
+/// Reads an instruction of class STX into `entry`, an atomic operation on four bytes (opcode 0xc3) or eight (0xdb), or a store of a
+/// register; it has no second slot (`None`).
 #[inline(always)]
 pub(crate) fn read_register_store(
     entry: &mut Insn,

@@ -48,6 +48,7 @@ impl From<AllocError> for CodecFault {
 
     ghost from_gives = { λ _ e. e ≡ memory_fault };
 
+    /// Out of memory, which is reported at slot 0.
     fn from(_e: AllocError) -> CodecFault {
         CodecFault {
             slot: 0,
@@ -61,6 +62,7 @@ impl<T: Drop> From<AllocFailed<T>> for CodecFault {
 
     ghost from_gives = { λ _ e. e ≡ memory_fault };
 
+    /// Out of memory, which is reported at slot 0.
     fn from(_e: AllocFailed<T>) -> CodecFault {
         CodecFault {
             slot: 0,

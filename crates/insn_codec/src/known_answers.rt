@@ -9,7 +9,7 @@ use crate::{
 };
 use std::alloc::Global;
 
-/// A wide load of a number.
+/// A wide load of a number into register 2.
 fn wide(value: u64) -> Insn
     ensures { result ≡ Insn.Const 2 value }
 {
@@ -17,12 +17,15 @@ fn wide(value: u64) -> Insn
     Insn::Const { dst, value }
 }
 
+/// The kinds of faults have the numbers 1 to 8.
 fn kinds_of_faults() {
     let (first, last) = (FaultKind::Opcode.number(), FaultKind::Memory.number());
     prove!(first == 1);
     prove!(last == 8);
 }
 
+/// The exit is written in 8 bytes, and the bytes after them are unchanged. A wide load of 0xffff_ffff_0000_0007 is written in 16: the low
+/// half of the number begins at byte 4, and the high half ends at byte 15.
 #[tactic(auto, unfolding(insn_set::specs::Spelling::spelling))]
 fn written_instructions() {
     let mut out = [0x55; 16];
@@ -36,6 +39,7 @@ fn written_instructions() {
     prove!(out[15] == 0xff);
 }
 
+/// The bytes of an exit are decoded as the exit, of one slot.
 fn read_instruction() {
     let found = decode(&[0x95, 0, 0, 0, 0, 0, 0, 0]);
     let is_exit = found == Ok((Insn::Exit, 1));
@@ -52,6 +56,8 @@ fn kind_at_front(bytes: &[u8]) -> Option<FaultKind>
     }
 }
 
+/// The fault of an exit with an immediate is `Reserved`, that of a move to register 11 `Register`, and that of the first half of a wide
+/// load `SecondSlot`.
 fn kinds_at_front() {
     let number_in_exit = kind_at_front(&[0x95, 0, 0, 0, 1, 0, 0, 0]);
     let is_reserved = number_in_exit == Some(FaultKind::Reserved);
@@ -64,6 +70,7 @@ fn kinds_at_front() {
     prove!(is_second_slot);
 }
 
+/// In a program of a wide load and an exit, instructions begin at slots 0 and 2, and none at slot 1 or past the end.
 #[tactic(auto, unfolding(insn_set::specs::Program::begins_at))]
 fn places_of_a_program(alloc: Global) -> Result<(), CodecFault> {
     let program = Program::new(alloc, &[wide(7), Insn::Exit])?;
@@ -78,6 +85,7 @@ fn places_of_a_program(alloc: Global) -> Result<(), CodecFault> {
     Ok(())
 }
 
+/// The slots for a run of a wide load have the low half of its number in the first one, and the high half in the second.
 fn spelled_program(alloc: Global) -> Result<(), CodecFault> {
     let program = Program::new(alloc, &[wide(0x7_0000_0009), Insn::Exit])?;
     let run_slots = program.run_slots();
@@ -88,6 +96,7 @@ fn spelled_program(alloc: Global) -> Result<(), CodecFault> {
     Ok(())
 }
 
+/// Of the eight bytes of an exit a program of one slot is read. The memory for it may be refused.
 fn read_program_of_an_exit(alloc: Global) -> Result<(), CodecFault> {
     let program = read_program(alloc, &[0x95, 0, 0, 0, 0, 0, 0, 0])?;
     let slots = program.slots();
@@ -95,6 +104,7 @@ fn read_program_of_an_exit(alloc: Global) -> Result<(), CodecFault> {
     Ok(())
 }
 
+/// A program of a wide load and an exit is written in 24 bytes, and the opcode of the exit is byte 16.
 #[tactic(auto, unfolding(insn_set::specs::Spelling::spelling))]
 fn written_program(alloc: Global) -> Result<(), CodecFault> {
     let program = Program::new(alloc, &[wide(7), Insn::Exit])?;

@@ -11,7 +11,7 @@ ghost use Rattle.insn_set.specs.Operator.{alu_number, alu_offset};
 use insn_set::{Operand, RawSlot, Reg};
 use words::{AccessSize, AluOp};
 
-/// Which of the two operand fields is used: the source bit (RFC 9669, section 4).
+/// Which field has the second operand, the immediate or the source register: the source bit, 0 or 1 (RFC 9669, section 4).
 #[derive(Clone, Copy, Debug, PartialEq, Eq)]
 pub enum SourceBit {
     Imm,
@@ -34,7 +34,7 @@ impl SourceBit {
         }
     }
 
-    /// Whether the unused operand field is zero.
+    /// Whether the operand field that is not used is zero.
     pub(crate) fn lists_operand(self, slot: &RawSlot) -> bool
         ensures { result ≡ one_operand self (fields slot.now) }
     {
@@ -44,7 +44,7 @@ impl SourceBit {
         }
     }
 
-    /// The second operand of a slot.
+    /// The second operand of a slot; `src` is the register of its source field.
     pub(crate) fn operand(self, slot: &RawSlot, src: Reg) -> Operand
         requires listed { IsTrue (one_operand self (fields slot.now)) }
         requires src { (fields slot.now).src ≡ src }
@@ -61,14 +61,16 @@ impl SourceBit {
     }
 }
 
-/// Whether an opcode of this operator, which is not a signed one, allows this offset.
+/// Whether an instruction with the opcode of this operator may have this offset (RFC 9669, section 4.1). Of two operators with one opcode,
+/// `op` is the unsigned one.
 pub(crate) fn lists_offset(op: AluOp, wide: bool, source: SourceBit, offset: u16) -> bool
     ensures { result ≡ offset_listed wide op source offset }
 {
     offset == 0 || lists_other_offset(op, wide, source, offset)
 }
 
-/// Whether an opcode of this operator, which is not a signed one, allows this offset, which is not 0.
+/// Whether an instruction with the opcode of this operator may have this offset, which is not 0: 1 is for a signed division or remainder,
+/// and 8, 16 or 32 are the bits from which a move extends the sign.
 fn lists_other_offset(op: AluOp, wide: bool, source: SourceBit, offset: u16) -> bool
     requires { offset ≢ 0 }
     ensures { result ≡ offset_listed wide op source offset }
@@ -80,7 +82,7 @@ fn lists_other_offset(op: AluOp, wide: bool, source: SourceBit, offset: u16) -> 
     }
 }
 
-/// The signed operator with the opcode of this one, which allows offset 1.
+/// The signed operator that shares the opcode of this one, a division or a remainder: at offset 1 it is meant.
 pub(crate) fn signed_form(op: AluOp) -> AluOp
     requires { IsTrue (offset_listed false op source_variant.Imm 1) }
     ensures number { alu_number result ≡ alu_number op }

@@ -1,4 +1,4 @@
-//! Decoding of bytes.
+//! Decoding of bytes. An instruction is read into `entry`, its entry in the program's list of instructions, or a variable of `decode`.
 
 ghost use Rattle.std.specs.Prelude.{List, ℕ, ◌≡◌, ◌≢◌, ◌≤◌, ◌%◌, [], ◌∷◌, length, map, IfOk, OnOk, IfErr, IsErrAnd, Ok, Some, None, IsTrue};
 ghost use Rattle.std.specs.Option.{option_to_list};
@@ -18,8 +18,9 @@ use crate::fault::{CodecFault, FaultKind};
 use crate::opcode::{SourceBit, lists_second};
 use insn_set::{Insn, RawSlot, Reg};
 
-/// Reads a wide instruction into `entry` (RFC 9669, section 5.4). Its first slot is `slot`, with the destination `dst`, and its second is at
-/// the front of `rest`. Returns the second slot; `Err` with the kind of the fault if it is missing or wrong.
+/// Reads a wide instruction into `entry` (RFC 9669, section 5.4). `slot` is its first slot, whose fields are checked, `dst` the register in
+/// its destination field, and `rest` the bytes after it. Returns the second slot, which is at the front of `rest`; `SecondSlot` if it is
+/// missing or wrong. The source field is 0 for a number of 64 bits, 1 for a map, and 2 for an address in the first value of a map.
 fn read_wide(entry: &mut Insn, slot: &RawSlot, dst: Reg, rest: &[u8]) -> Result<RawSlot, FaultKind>
     requires opcode { slot.now.opcode ≡ 0x18 }
     requires listed { IsTrue (listed Wide (fields slot.now)) }
@@ -55,8 +56,8 @@ fn read_wide(entry: &mut Insn, slot: &RawSlot, dst: Reg, rest: &[u8]) -> Result<
     Ok(next)
 }
 
-/// Reads an instruction of class LD, which is a wide load, into an entry, with the bytes after its first slot, and returns its second
-/// slot.
+/// Reads an instruction of class LD into `entry`: a wide load, whose opcode is 0x18. `slot` is its first slot, and `rest` the bytes after
+/// that. Returns its second slot.
 #[tactic(auto, unfolding(crate::specs::inside::Form::form_at))]
 fn read_class_ld(
     entry: &mut Insn,
@@ -79,7 +80,8 @@ fn read_class_ld(
     Ok(Some(next))
 }
 
-/// Reads the instruction of a first slot into an entry, with the bytes after that slot, and returns its second slot, if it is wide.
+/// Reads the instruction whose first slot is `slot` into `entry`, by its class, the opcode's low three bits (RFC 9669, section 3.3). `rest`
+/// are the bytes after that slot. Returns its second slot if it is wide, else `None`.
 #[inline(always)]
 #[tactic(auto, unfolding(crate::specs::inside::Form::form_at))]
 fn read_slot(entry: &mut Insn, slot: &RawSlot, rest: &[u8]) -> Result<Option<RawSlot>, FaultKind>
@@ -102,8 +104,8 @@ fn read_slot(entry: &mut Insn, slot: &RawSlot, rest: &[u8]) -> Result<Option<Raw
     }
 }
 
-/// Reads the instruction at the front of the bytes, whose first slot is given, into an entry: in place, since an instruction is as
-/// large as two slots. Returns whether it is wide.
+/// Reads the instruction at the front of the bytes into `entry`: without a copy, since an instruction is as large as two slots. `first` is the
+/// slot in their first eight bytes. Returns whether the instruction is wide.
 #[inline(always)]
 #[tactic(auto, unfolding(crate::specs::inside::FirstFault::first_fault))]
 pub(crate) fn read_from(entry: &mut Insn, first: &RawSlot, bytes: &[u8]) -> Result<bool, FaultKind>
@@ -118,7 +120,7 @@ pub(crate) fn read_from(entry: &mut Insn, first: &RawSlot, bytes: &[u8]) -> Resu
     Ok(second.is_some())
 }
 
-/// Reads the instruction at the front of the bytes into an entry.
+/// Reads the instruction at the front of the bytes into `entry`. The fault of fewer than eight bytes is `Ragged`.
 #[tactic(auto, unfolding(crate::specs::inside::FirstFault::first_fault))]
 fn read_front(entry: &mut Insn, bytes: &[u8]) -> Result<(), FaultKind>
     ensures found { OnOk result (IsInsn entry.new × Begins entry.new bytes.now) }

@@ -65,6 +65,7 @@ fn imm_field(operand: Operand) -> u32
     }
 }
 
+/// The class ALU64 (`wide`) or ALU (RFC 9669, section 3.3).
 fn arithmetic_class(wide: bool) -> u8
     ensures value { result ≡ alu_class wide }
     ensures bound { result < 8 }
@@ -72,6 +73,7 @@ fn arithmetic_class(wide: bool) -> u8
     if wide { 7 } else { 4 }
 }
 
+/// The class JMP (`wide`: 64 bits are compared) or JMP32 (RFC 9669, section 3.3).
 fn jumping_class(wide: bool) -> u8
     ensures value { result ≡ jump_class wide }
     ensures bound { result < 8 }
@@ -79,6 +81,7 @@ fn jumping_class(wide: bool) -> u8
     if wide { 5 } else { 6 }
 }
 
+/// The opcode of arithmetic or of a jump: four bits of code, the source bit, three bits of class (RFC 9669, section 4).
 fn opcode(code: u8, source: u8, class: u8) -> u8
     requires code { code < 16 }
     requires source { source ≤ 1 }
@@ -88,6 +91,7 @@ fn opcode(code: u8, source: u8, class: u8) -> u8
     16 * code + 8 * source + class
 }
 
+/// The opcode of a load, a store or an atomic operation: three bits of mode, two of size, three of class (RFC 9669, section 5).
 fn sized_opcode(mode: u8, size: AccessSize, class: u8) -> u8
     requires mode { mode ≤ 6 }
     requires class { class < 8 }
@@ -111,7 +115,8 @@ fn raw_slot(opcode: u8, dst: u8, src: u8, offset: u16, imm: u32) -> RawSlot
     }
 }
 
-/// The first slot of an instruction.
+/// The first slot of an instruction. `raw_slot` takes the opcode, the destination, the source, the offset and the immediate, of which those
+/// that the instruction does not use are 0.
 fn first(insn: &Insn) -> RawSlot
     ensures { fields result ≡ first_slot insn.now }
 {
@@ -203,7 +208,7 @@ fn first(insn: &Insn) -> RawSlot
     }
 }
 
-/// The second slot of an instruction, if it is wide.
+/// The second slot of an instruction, if it is wide: all fields are 0, except for the immediate (RFC 9669, section 5.4).
 fn second(insn: &Insn) -> Option<RawSlot>
     ensures { second_slot insn.now ≡ map fields (option_to_list result) }
 {

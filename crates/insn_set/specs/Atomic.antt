@@ -12,31 +12,32 @@ use Rattle.insn_set.specs.declared.atomic.AtomicSize.TheVariants as size
 use Rattle.insn_set.specs.declared.atomic.AtomicOp.{AtomicOp}
 use Rattle.insn_set.specs.declared.atomic.AtomicOp.TheVariants as atomic
 
--- its immediate: its arithmetic code, shifted as in an opcode
+-- the immediate of an atomic operation: its arithmetic code, shifted as in an opcode
 abbrev pub atomic_number : AtomicOp → ℕ
 atomic_number atomic.Add = 0x00
 atomic_number atomic.Or = 0x40
 atomic_number atomic.And = 0x50
 atomic_number atomic.Xor = 0xa0
 
--- its symbol in a line of text, that of the operator on registers
+-- the symbol of an atomic operation in a line of text, that of the operator on registers
 abbrev pub atomic_symbol : AtomicOp → List ℕ
 atomic_symbol atomic.Add = codes "+="
 atomic_symbol atomic.Or = codes "|="
 atomic_symbol atomic.And = codes "&="
 atomic_symbol atomic.Xor = codes "^="
 
+-- the operator that combines the bytes in memory with the register
 abbrev pub atomic_operator : AtomicOp → Operator
 atomic_operator atomic.Add = Binary Add
 atomic_operator atomic.Or = Binary Or
 atomic_operator atomic.And = Binary And
 atomic_operator atomic.Xor = Binary Xor
 
--- the access size of its load and store
+-- the access size of the load and the store of an atomic operation
 abbrev pub access_size : AtomicSize → AccessSize
 access_size size.Word = Word
 access_size size.Double = Double
 
--- whether it works on 64 bits
+-- whether an atomic operation of this size works on 64 bits
 abbrev pub is_wide_atomic : AtomicSize → Bool
 is_wide_atomic z = is_double (access_size z)

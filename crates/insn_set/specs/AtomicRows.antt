@@ -10,8 +10,10 @@ use Rattle.insn_set.specs.Table.{Row, by_number, by_symbol}
 abbrev pub atomic_rows : List (Row AtomicOp)
 atomic_rows = map (λ row. (row.0, row.1, row.2.now)) OPERATIONS
 
+-- the atomic operation with this immediate, if there is one
 abbrev pub atomic_by_number : ℕ → Option AtomicOp
 atomic_by_number n = by_number atomic_rows n
 
+-- the atomic operation with this symbol, if there is one
 abbrev pub atomic_by_symbol : List ℕ → Option AtomicOp
 atomic_by_symbol s = by_symbol atomic_rows s

@@ -4,6 +4,7 @@ use Rattle.std.specs.Prelude.{ℕ, List, codes}
 use Rattle.words.specs.declared.operator.Condition.{Condition}
 use Rattle.words.specs.declared.operator.Condition.TheVariants.{Equal, Above, AboveOrEqual, CommonBit, NotEqual, SignedAbove, SignedAboveOrEqual, Below, BelowOrEqual, SignedBelow, SignedBelowOrEqual}
 
+-- the code of a condition, the upper four bits of a jump's opcode
 abbrev pub condition_number : Condition → ℕ
 condition_number Equal = 1
 condition_number Above = 2
@@ -17,7 +18,7 @@ condition_number BelowOrEqual = 11
 condition_number SignedBelow = 12
 condition_number SignedBelowOrEqual = 13
 
--- in a line of text
+-- the symbol of a condition in a line of text
 abbrev pub condition_symbol : Condition → List ℕ
 condition_symbol Equal = codes "=="
 condition_symbol Above = codes ">"

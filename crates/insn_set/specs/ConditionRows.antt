@@ -10,8 +10,10 @@ use Rattle.insn_set.specs.Table.{Row, by_number, by_symbol}
 abbrev pub condition_rows : List (Row Condition)
 condition_rows = map (λ row. (row.0, row.1, row.2.now)) CONDITIONS
 
+-- the condition with this code, if there is one
 abbrev pub condition_by_number : ℕ → Option Condition
 condition_by_number n = by_number condition_rows n
 
+-- the condition with this symbol, if there is one
 abbrev pub condition_by_symbol : List ℕ → Option Condition
 condition_by_symbol s = by_symbol condition_rows s

@@ -11,6 +11,7 @@ use Rattle.insn_set.specs.Table.{named}
 abbrev pub orders : List (List ℕ × (ByteOrder × KeptBits))
 orders = map (λ row. (row.0.now, row.1)) ORDERS
 
+-- the byte-order conversion with this name, and the number of bits that it keeps, if there is one
 abbrev pub order_by_name : List ℕ → Option (ByteOrder × KeptBits)
 order_by_name n = named orders n
 
@@ -18,5 +19,6 @@ order_by_name n = named orders n
 abbrev pub extensions : List (List ℕ × ExtendedBits)
 extensions = map (λ row. (row.0.now, row.1)) EXTENSIONS
 
+-- the number of bits of the sign extension with this name, if there is one
 abbrev pub narrow_by_name : List ℕ → Option ExtendedBits
 narrow_by_name n = named extensions n

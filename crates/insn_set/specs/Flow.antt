@@ -17,62 +17,71 @@ natural (negsuc n) = None
 
 -- ---- the targets of the edges
 
--- the next instruction
+-- the slot of the next instruction, for an instruction at this slot
 abbrev pub falls_to : Insn → ℕ → ℕ
 falls_to i at = at + length (slots i)
 
+-- the distance of the jump, in slots from the next one; 0 if there is no jump
 abbrev pub offset_by : Successors → ℤ
 offset_by Next = pos 0
 offset_by (Jump off) = off
 offset_by (NextOrJump off) = off
 offset_by Nothing = pos 0
 
+-- the distance of an instruction's jump, in slots from the next one; 0 if it has none
 abbrev pub jump_offset : Insn → ℤ
 jump_offset i = offset_by (profile i).successors
 
--- the slot at the jump's distance from the next one; None below slot 0
+-- the slot at the distance of an instruction's jump from the slot after it, for an instruction at
+-- this slot; None below slot 0
 abbrev pub jumps_to : Insn → ℕ → Option ℕ
 jumps_to i at = natural (pos (at + 1) +ℤ jump_offset i)
 
--- control may pass to the next instruction
+-- whether control may pass to the next instruction
 abbrev pub falls_by : Successors → Bool
 falls_by Next = true
 falls_by (Jump off) = false
 falls_by (NextOrJump off) = true
 falls_by Nothing = false
 
+-- whether control may pass from this instruction to the next one
 abbrev pub falls : Insn → Bool
 falls i = falls_by (profile i).successors
 
--- control may pass to a jump's target
+-- whether control may pass to a jump's target
 abbrev pub jumps_by : Successors → Bool
 jumps_by Next = false
 jumps_by (Jump off) = true
 jumps_by (NextOrJump off) = true
 jumps_by Nothing = false
 
+-- whether control may pass from this instruction to a jump's target
 abbrev pub jumps : Insn → Bool
 jumps i = jumps_by (profile i).successors
 
--- the target of the jump; None if there is no jump, or the target is below slot 0
+-- the slot to which an instruction at this slot jumps; None if there is no jump, or the target is
+-- below slot 0
 abbrev pub target_by : Successors → ℕ → Option ℕ
 target_by next at = if jumps_by next then natural (pos (at + 1) +ℤ offset_by next) else None
 
+-- the slot to which this instruction jumps from this slot; None if it has no jump, or the target is
+-- below slot 0
 abbrev pub jump_target : Insn → ℕ → Option ℕ
 jump_target i at = target_by (profile i).successors at
 
 -- ---- what it writes and names
 
--- the register that it writes, if any
+-- the register that an instruction writes, if any
 abbrev pub written_register : Insn → Option ℕ
 written_register i = (profile i).written
 
--- the descriptor of the map that it loads, or of which it loads a value, if any
+-- the descriptor of the map that is named, itself or by its first value, if any
 abbrev pub descriptor_by : Reference → Option ℕ
 descriptor_by names.Nothing = None
 descriptor_by (names.Helper id) = None
 descriptor_by (names.Map fd) = Some fd
 descriptor_by (names.Value fd off) = Some fd
 
+-- the descriptor of the map that an instruction names, itself or by its first value, if any
 abbrev pub descriptor : Insn → Option ℕ
 descriptor i = descriptor_by (profile i).reference

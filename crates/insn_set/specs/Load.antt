@@ -4,11 +4,12 @@ use Rattle.words.specs.declared.stack.AccessSize.{AccessSize}
 use Rattle.words.specs.declared.stack.AccessSize.TheVariants as size
 use Rattle.insn_set.specs.Numbers.{load_mode, memory_opcode}
 
--- whether it extends the sign, and its size
+-- the opcode of a load, by whether it extends the sign and its size
 abbrev pub load_opcode : Bool → AccessSize → ℕ
 load_opcode signed s = memory_opcode (load_mode signed) s 1
 
--- in a line of text: of an access that extends the sign, or of another
+-- the name of a size in a line of text: of an access that extends the sign, or of another. No load
+-- has the size s64, but each size has a name
 abbrev pub size_name : Bool → AccessSize → List ℕ
 size_name false size.Byte = codes "u8"
 size_name false size.Half = codes "u16"

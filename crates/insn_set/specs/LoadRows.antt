@@ -9,8 +9,11 @@ use Rattle.insn_set.specs.Table.{Row, by_number, by_symbol}
 abbrev pub load_rows : List (Row (Bool × AccessSize))
 load_rows = map (λ row. (row.0, row.1, row.2.now)) LOADS
 
+-- whether the load with this opcode extends the sign, and its size; None if no load has it
 abbrev pub load_by_opcode : ℕ → Option (Bool × AccessSize)
 load_by_opcode n = by_number load_rows n
 
+-- whether an access of the size with this name extends the sign, and the size; None if no load has
+-- the name
 abbrev pub size_by_name : List ℕ → Option (Bool × AccessSize)
 size_by_name s = by_symbol load_rows s

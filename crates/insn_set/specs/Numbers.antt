@@ -11,30 +11,30 @@ use Rattle.words.specs.declared.stack.AccessSize.TheVariants as size
 abbrev pub opcode : ℕ → ℕ → ℕ → ℕ
 opcode code source class = 16 * code + 8 * source + class
 
--- section 3.3: ALU64 or ALU
+-- section 3.3: ALU64, on 64 bits, or ALU, on 32
 abbrev pub alu_class : Bool → ℕ
 alu_class true = 7
 alu_class false = 4
 
--- section 3.3: JMP or JMP32
+-- section 3.3: JMP, which compares 64 bits, or JMP32
 abbrev pub jump_class : Bool → ℕ
 jump_class true = 5
 jump_class false = 6
 
--- section 5, the sizes
+-- section 5: the code of a size in an opcode, two bits
 abbrev pub size_number : AccessSize → ℕ
 size_number size.Word = 0
 size_number size.Half = 1
 size_number size.Byte = 2
 size_number size.Double = 3
 
--- section 4.2: class ALU with source 0 or 1, and class ALU64
+-- section 4.2: the opcode of a byte-order conversion: class ALU with source bit 0 or 1, and ALU64
 abbrev pub end_opcode : ByteOrder → ℕ
 end_opcode Little = opcode 13 0 4
 end_opcode Big = opcode 13 1 4
 end_opcode Swap = opcode 13 0 7
 
--- section 5: the modes MEM and MEMSX
+-- section 5: the mode of a load, MEM, or MEMSX if it extends the sign
 abbrev pub load_mode : Bool → ℕ
 load_mode false = 3
 load_mode true = 4
@@ -43,9 +43,10 @@ load_mode true = 4
 abbrev pub memory_opcode : ℕ → AccessSize → ℕ → ℕ
 memory_opcode mode s class = 32 * mode + 8 * size_number s + class
 
--- section 3.1: the bits of a signed field
+-- section 3.1: the 16 bits of a signed offset
 abbrev pub offset_bits : ℤ → ℕ
 offset_bits z = cast_unsigned w16 z
 
+-- section 3.1: the 32 bits of a signed immediate
 abbrev pub imm_bits : ℤ → ℕ
 imm_bits z = cast_unsigned w32 z

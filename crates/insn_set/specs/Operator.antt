@@ -4,6 +4,7 @@ use Rattle.std.specs.Prelude.{ℕ, List, codes}
 use Rattle.words.specs.declared.operator.AluOp.{AluOp}
 use Rattle.words.specs.declared.operator.AluOp.TheVariants.{Add, Sub, Mul, Div, SignedDiv, Or, And, ShiftLeft, ShiftRight, Mod, SignedMod, Xor, Mov, SignedShiftRight}
 
+-- the code of an operator, the upper four bits of its opcode; a signed one has the unsigned one's
 abbrev pub alu_number : AluOp → ℕ
 alu_number Add = 0
 alu_number Sub = 1
@@ -20,13 +21,13 @@ alu_number Xor = 10
 alu_number Mov = 11
 alu_number SignedShiftRight = 12
 
--- division and remainder are signed at offset 1
+-- the offset in the slot of an operator: division and remainder are signed at offset 1
 abbrev pub alu_offset : AluOp → ℕ
 alu_offset SignedDiv = 1
 alu_offset SignedMod = 1
 alu_offset _ = 0
 
--- in a line of text
+-- the symbol of an operator in a line of text
 abbrev pub alu_symbol : AluOp → List ℕ
 alu_symbol Add = codes "+="
 alu_symbol Sub = codes "-="

@@ -9,9 +9,10 @@ use Rattle.insn_set.specs.Table.{Row, by_number, by_symbol}
 abbrev pub alu_rows : List (Row AluOp)
 alu_rows = map (λ row. (row.0, row.1, row.2.now)) OPERATORS
 
--- the first with the code: of two, the unsigned one
+-- the first operator with this code: of two, the unsigned one
 abbrev pub alu_by_number : ℕ → Option AluOp
 alu_by_number n = by_number alu_rows n
 
+-- the operator with this symbol, if there is one
 abbrev pub alu_by_symbol : List ℕ → Option AluOp
 alu_by_symbol s = by_symbol alu_rows s

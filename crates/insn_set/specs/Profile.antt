@@ -14,8 +14,8 @@ use Rattle.insn_set.specs.declared.profile.Reference.{Reference}
 use Rattle.insn_set.specs.declared.profile.Reference.TheVariants as names
 use Rattle.insn_set.specs.declared.profile.Profile.{Profile}
 
--- the registers of its first and its second operand, the register that it writes, its successors,
--- what it names, and the number of its slots
+-- the row of an instruction: the registers of its first and its second operand, if it reads them,
+-- the register that it writes, its successors, what it names, and the number of its slots
 abbrev pub row : Option ℕ → Option ℕ → Option ℕ → Successors → Reference → ℕ → Profile
 row first second written successors reference slots =
     record {
@@ -49,12 +49,13 @@ stored_register (loads size signed dst) = None
 stored_register (stores size src) = register_of src
 stored_register (changes size op src) = Some src
 
--- the register that it writes
+-- the register that an access writes: only a load has one
 abbrev pub loaded_register : Access → Option ℕ
 loaded_register (loads size signed dst) = Some dst
 loaded_register (stores size src) = None
 loaded_register (changes size op src) = None
 
+-- the row of an instruction, by what it does (`view`)
 abbrev pub profile_of : View → Profile
 profile_of (binary wide op dst src) =
     row (first_operand op dst) (register_of src) (Some dst) to.Next names.Nothing 1
@@ -68,5 +69,6 @@ profile_of (wide_load dst value) = row None None (Some dst) to.Next (reference_o
 profile_of (call id) = row None None None to.Next (names.Helper id) 1
 profile_of exit = row (Some 0) None None to.Nothing names.Nothing 1
 
+-- the row of an instruction
 abbrev pub profile : Insn → Profile
 profile i = profile_of (view i)

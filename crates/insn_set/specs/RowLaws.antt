@@ -33,17 +33,21 @@ use Rattle.insn_set.specs.TableLaws.{found_number, found_symbol, number_of, symb
 
 -- ---- atomic operations
 
+-- an atomic operation is found by its immediate
 pub atomic_number_again : (op : AtomicOp) → atomic_by_number (atomic_number op) ≡ Some op
 atomic_number_again Add = refl
 atomic_number_again _ = refl
 
+-- an atomic operation is found by its symbol
 pub atomic_symbol_again : (op : AtomicOp) → atomic_by_symbol (atomic_symbol op) ≡ Some op
 atomic_symbol_again Add = refl
 atomic_symbol_again _ = refl
 
+-- an atomic operation that is found by an immediate has it
 pub atomic_number_is : (n : ℕ) (op : AtomicOp) → atomic_by_number n ≡ Some op → atomic_number op ≡ n
 atomic_number_is n op e = number_of atomic_number atomic_rows n op refl e
 
+-- an atomic operation that is found by a symbol has it
 pub atomic_symbol_is : (s : List ℕ) (op : AtomicOp)
     → atomic_by_symbol s ≡ Some op
     → atomic_symbol op ≡ s
@@ -51,19 +55,23 @@ atomic_symbol_is s op e = symbol_of atomic_symbol atomic_rows s op refl e
 
 -- ---- conditions
 
+-- a condition is found by its code
 pub condition_number_again : (c : Condition) → condition_by_number (condition_number c) ≡ Some c
 condition_number_again Equal = refl
 condition_number_again _ = refl
 
+-- a condition is found by its symbol
 pub condition_symbol_again : (c : Condition) → condition_by_symbol (condition_symbol c) ≡ Some c
 condition_symbol_again Equal = refl
 condition_symbol_again _ = refl
 
+-- a condition that is found by a code has it
 pub condition_number_is : (n : ℕ) (c : Condition)
     → condition_by_number n ≡ Some c
     → condition_number c ≡ n
 condition_number_is n c e = number_of condition_number condition_rows n c refl e
 
+-- a condition that is found by a symbol has it
 pub condition_symbol_is : (s : List ℕ) (c : Condition)
     → condition_by_symbol s ≡ Some c
     → condition_symbol c ≡ s
@@ -71,28 +79,33 @@ condition_symbol_is s c e = symbol_of condition_symbol condition_rows s c refl e
 
 -- ---- operators: of two with one code, the unsigned one is found
 
--- the operator with the same code and offset 0
+-- the operator with the same code as this one, and offset 0
 abbrev pub unsigned_of : AluOp → AluOp
 unsigned_of op.SignedDiv = op.Div
 unsigned_of op.SignedMod = op.Mod
 unsigned_of o = o
 
+-- by the code of an operator, the unsigned operator with this code is found
 pub alu_number_again : (o : AluOp) → alu_by_number (alu_number o) ≡ Some (unsigned_of o)
 alu_number_again op.Add = refl
 alu_number_again _ = refl
 
+-- an operator is found by its symbol
 pub alu_symbol_again : (o : AluOp) → alu_by_symbol (alu_symbol o) ≡ Some o
 alu_symbol_again op.Add = refl
 alu_symbol_again _ = refl
 
+-- an operator that is found by a code has it
 pub alu_number_is : (n : ℕ) (o : AluOp) → alu_by_number n ≡ Some o → alu_number o ≡ n
 alu_number_is n o e = number_of alu_number alu_rows n o refl e
 
+-- an operator that is found by a symbol has it
 pub alu_symbol_is : (s : List ℕ) (o : AluOp) → alu_by_symbol s ≡ Some o → alu_symbol o ≡ s
 alu_symbol_is s o e = symbol_of alu_symbol alu_rows s o refl e
 
 -- ---- loads: a double word has no sign extension
 
+-- a load is found by its opcode
 pub load_opcode_again : (signed : Bool) (s : AccessSize)
     → IsTrue (not (signed && is_double s))
     → load_by_opcode (load_opcode signed s) ≡ Some (signed, s)
@@ -100,6 +113,7 @@ load_opcode_again true Double h = absurd (false≢true h)
 load_opcode_again false Byte h = refl
 load_opcode_again _ _ h = refl
 
+-- the size of a load is found by its name
 pub size_name_again : (signed : Bool) (s : AccessSize)
     → IsTrue (not (signed && is_double s))
     → size_by_name (size_name signed s) ≡ Some (signed, s)
@@ -107,21 +121,25 @@ size_name_again true Double h = absurd (false≢true h)
 size_name_again false Byte h = refl
 size_name_again _ _ h = refl
 
+-- a load that is found by an opcode has it
 pub load_opcode_is : (n : ℕ) (l : Bool × AccessSize)
     → load_by_opcode n ≡ Some l
     → load_opcode l.0 l.1 ≡ n
 load_opcode_is n l e = number_of (λ l. load_opcode l.0 l.1) load_rows n l refl e
 
+-- a load that is found by an opcode is no double word with sign extension
 pub load_listed : (n : ℕ) (l : Bool × AccessSize)
     → load_by_opcode n ≡ Some l
     → IsTrue (not (l.0 && is_double l.1))
 load_listed n l e = found_number (λ l _. not (l.0 && is_double l.1)) load_rows n l refl e
 
+-- a size that is found by a name is no double word with sign extension
 pub size_listed : (s : List ℕ) (l : Bool × AccessSize)
     → size_by_name s ≡ Some l
     → IsTrue (not (l.0 && is_double l.1))
 size_listed s l e = found_symbol (λ l _. not (l.0 && is_double l.1)) load_rows s l refl e
 
+-- a size that is found by a name has it
 pub size_name_is : (s : List ℕ) (l : Bool × AccessSize)
     → size_by_name s ≡ Some l
     → size_name l.0 l.1 ≡ s
@@ -129,6 +147,7 @@ size_name_is s l e = symbol_of (λ l. size_name l.0 l.1) load_rows s l refl e
 
 -- ---- byte-order conversions and sign extensions
 
+-- a byte-order conversion is found by its name
 pub order_name_again : (how : ByteOrder) (b : KeptBits)
     → order_by_name (order_name how b) ≡ Some (how, b)
 order_name_again Little Bits16 = refl
@@ -136,14 +155,17 @@ order_name_again Big Bits16 = refl
 order_name_again Swap Bits16 = refl
 order_name_again _ _ = refl
 
+-- a byte-order conversion that is found by a name has it
 pub order_name_is : (s : List ℕ) (o : ByteOrder × KeptBits)
     → order_by_name s ≡ Some o
     → order_name o.0 o.1 ≡ s
 order_name_is s o e = name_of (λ o. order_name o.0 o.1) orders s o refl e
 
+-- a sign extension is found by its name
 pub narrow_name_again : (b : ExtendedBits) → narrow_by_name (narrow_name b) ≡ Some b
 narrow_name_again narrow.Bits8 = refl
 narrow_name_again _ = refl
 
+-- a sign extension that is found by a name has it
 pub narrow_name_is : (s : List ℕ) (b : ExtendedBits) → narrow_by_name s ≡ Some b → narrow_name b ≡ s
 narrow_name_is s b e = name_of narrow_name extensions s b refl e

@@ -3,7 +3,7 @@ use Rattle.std.specs.Prelude.{Bool, true, false}
 use Rattle.words.specs.declared.operator.ExtendedBits.{ExtendedBits}
 use Rattle.words.specs.declared.operator.ExtendedBits.TheVariants.{Bits8, Bits16, Bits32}
 
--- fewer than 32 bits
+-- whether these are fewer than 32 bits
 abbrev pub is_short : ExtendedBits → Bool
 is_short Bits8 = true
 is_short Bits16 = true

@@ -17,14 +17,17 @@ use Rattle.words.specs.Operate.{extended_bits, kept_bits}
 
 -- ---- the second operand, section 4: the source bit, and the field that it selects
 
+-- 0 for a constant, 1 for a register
 abbrev pub source_bit : Operand → ℕ
 source_bit (Imm n) = 0
 source_bit (Reg r) = 1
 
+-- the source register's field, which is 0 with a constant: section 3.1
 abbrev pub src_field : Operand → ℕ
 src_field (Imm n) = 0
 src_field (Reg r) = r
 
+-- the immediate, which is 0 with a register: section 3.1
 abbrev pub imm_field : Operand → ℕ
 imm_field (Imm n) = imm_bits n
 imm_field (Reg r) = 0
@@ -32,7 +35,9 @@ imm_field (Reg r) = 0
 -- ---- the grammar: one case for each form, section 4 (arithmetic, jumps) and section 5 (loads,
 -- stores, atomic operations)
 
--- the first slot
+-- the first slot: its opcode is of a code, the source bit and a class (`opcode`), or of a mode, a
+-- size and a class (`memory_opcode`); then the destination, the source, the offset and the
+-- immediate, of which those that are not used are 0
 abbrev pub first : Insn → SlotFields
 first (Alu wide op dst src) =
     slot (opcode (alu_number op) (source_bit src) (alu_class wide)) dst (src_field src)
@@ -65,6 +70,7 @@ second (MapFd dst fd) = slot 0 0 0 0 0 ∷ []
 second (MapValue dst fd off) = slot 0 0 0 0 off ∷ []
 second _ = []
 
+-- its one or two slots
 abbrev pub slots : Insn → List SlotFields
 slots i = first i ∷ second i
 
@@ -72,17 +78,19 @@ slots i = first i ∷ second i
 abbrev pub is_wide : Insn → Bool
 is_wide i = length (slots i) == 2
 
--- its bytes
+-- its bytes: eight, or sixteen if it is wide
 unfoldable pub spelling : Insn → List ℕ
 spelling i = flat_map slot_bytes (slots i)
 
 -- ---- the values of the type: numbers in the ranges of their fields, section 3.1
 
--- with registers from 0 to `top`: there are eleven, and a field of four bits has room for sixteen
+-- the operand fits its field, with registers from 0 to `top`: there are eleven (top 10), and a
+-- field of four bits has room for sixteen (top 15)
 abbrev pub IsOperandUpTo : ℕ → Operand → Type 0
 IsOperandUpTo top (Imm n) = FitsSigned w32 n
 IsOperandUpTo top (Reg r) = r ≤ top
 
+-- the numbers of an instruction fit their fields, with registers from 0 to `top`
 abbrev pub IsInsnUpTo : ℕ → Insn → Type 0
 IsInsnUpTo top (Alu wide op dst src) = (dst ≤ top) × IsOperandUpTo top src
 IsInsnUpTo top (Movsx m) = (m.dst ≤ top) × (m.src ≤ top)
@@ -101,10 +109,11 @@ IsInsnUpTo top (Const dst value) = (dst ≤ top) × (value < 2 ^ 64)
 IsInsnUpTo top (MapFd dst fd) = (dst ≤ top) × FitsSigned w32 fd
 IsInsnUpTo top (MapValue dst fd off) = (dst ≤ top) × FitsSigned w32 fd × (off < 2 ^ 32)
 
--- with the registers that exist: 0 to 10, section 3.1
+-- the operand fits its field, with the registers that exist: 0 to 10, section 3.1
 abbrev pub IsOperand : Operand → Type 0
 IsOperand o = IsOperandUpTo 10 o
 
+-- the numbers of an instruction fit their fields, with the registers that exist
 abbrev pub IsInsn : Insn → Type 0
 IsInsn i = IsInsnUpTo 10 i
 

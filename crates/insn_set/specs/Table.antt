@@ -9,26 +9,26 @@ use Rattle.std.specs.Borrow.{Bor}
 abbrev pub Row : Type 0 → Type 0
 Row A = A × ℕ × List ℕ
 
--- the rows of a table of the code
+-- the rows of a table of the code, whose symbols are borrowed text
 abbrev pub shown : {A : Type 0} → List (A × ℕ × Bor (List ℕ)) → List (Row A)
 shown rows = map (λ row. (row.0, row.1, row.2.now)) rows
 
--- the value of the first row with this number
+-- the value of the first row with this number; None if there is no such row
 abbrev pub by_number : {A : Type 0} → List (Row A) → ℕ → Option A
 by_number [] n = None
 by_number (row ∷ rows) n = if row.1 == n then Some row.0 else by_number rows n
 
--- the value of the first row with this symbol
+-- the value of the first row with this symbol; None if there is no such row
 abbrev pub by_symbol : {A : Type 0} → List (Row A) → List ℕ → Option A
 by_symbol [] s = None
 by_symbol (row ∷ rows) s = if bytes_eq s row.2 then Some row.0 else by_symbol rows s
 
 -- ---- only with names
 
--- the rows of a table of the code
+-- the rows of a table of the code that has only names, which are borrowed text
 abbrev pub names : {A : Type 0} → List (Bor (List ℕ) × A) → List (List ℕ × A)
 names rows = map (λ row. (row.0.now, row.1)) rows
 
--- the value of the first row with this name
+-- the value of the first row with this name; None if there is no such row
 abbrev pub named : {A : Type 0} → List (List ℕ × A) → List ℕ → Option A
 named table n = lookup (λ m. bytes_eq n m) table

@@ -8,6 +8,7 @@ use Rattle.std.proofs.lemmas.Bool.{and_parts, eqb-true}
 use Rattle.std.proofs.lemmas.Slice.Eq.{bytes_eq-Decides}
 use Rattle.insn_set.specs.Table.{Row, by_number, by_symbol, named}
 
+-- if each row's value and number pass a test, so does a value that is found by its number
 pub found_number : {A : Type 0} (test : A → ℕ → Bool) (rows : List (Row A)) (n : ℕ) (v : A)
     → list_all (λ row. test row.0 row.1) rows ≡ true
     → by_number rows n ≡ Some v
@@ -21,6 +22,7 @@ found_number test (row ∷ rows) n v all e =
       | false ↦ λ _ e. found_number test rows n v more e
     ] refl e
 
+-- if each row has its value's number, the value that is found by a number has this number
 pub number_of : {A : Type 0} (number : A → ℕ) (rows : List (Row A)) (n : ℕ) (v : A)
     → list_all (λ row. eqb (number row.0) row.1) rows ≡ true
     → by_number rows n ≡ Some v
@@ -28,9 +30,11 @@ pub number_of : {A : Type 0} (number : A → ℕ) (rows : List (Row A)) (n : ℕ
 number_of number rows n v all e =
     eqb-true (number v) n (found_number (λ v n. eqb (number v) n) rows n v all e)
 
+-- lists that the test of equality accepts are equal
 is_eq : (x y : List ℕ) → bytes_eq x y ≡ true → x ≡ y
 is_eq x y e = (bytes_eq-Decides x y).0 e
 
+-- if each row's value and symbol pass a test, so does a value that is found by its symbol
 pub found_symbol : {A : Type 0} (test : A → List ℕ → Bool) (rows : List (Row A)) (s : List ℕ)
     (v : A)
     → list_all (λ row. test row.0 row.2) rows ≡ true
@@ -46,6 +50,7 @@ found_symbol test (row ∷ rows) s v all e =
       | false ↦ λ _ e. found_symbol test rows s v more e
     ] refl e
 
+-- if each row has its value's symbol, the value that is found by a symbol has this symbol
 pub symbol_of : {A : Type 0} (symbol : A → List ℕ) (rows : List (Row A)) (s : List ℕ) (v : A)
     → list_all (λ row. bytes_eq (symbol row.0) row.2) rows ≡ true
     → by_symbol rows s ≡ Some v
@@ -53,6 +58,7 @@ pub symbol_of : {A : Type 0} (symbol : A → List ℕ) (rows : List (Row A)) (s 
 symbol_of symbol rows s v all e =
     is_eq (symbol v) s (found_symbol (λ v s. bytes_eq (symbol v) s) rows s v all e)
 
+-- if each row's name and value pass a test, so does a value that is found by its name
 pub found_named : {A : Type 0} (test : List ℕ → A → Bool) (table : List (List ℕ × A)) (n : List ℕ)
     (v : A)
     → list_all (λ row. test row.0 row.1) table ≡ true
@@ -68,6 +74,7 @@ found_named test (row ∷ table) n v all e =
       | false ↦ λ _ e. found_named test table n v more e
     ] refl e
 
+-- if each row has its value's name, the value that is found by a name has this name
 pub name_of : {A : Type 0} (name : A → List ℕ) (table : List (List ℕ × A)) (n : List ℕ) (v : A)
     → list_all (λ row. bytes_eq (name row.1) row.0) table ≡ true
     → named table n ≡ Some v

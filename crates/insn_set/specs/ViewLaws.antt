@@ -13,6 +13,7 @@ pub profile_slots : (i : Insn) → (profile i).slots ≡ length (slots i)
 profile_slots (Alu wide op dst src) = refl
 profile_slots _ = refl
 
+-- what an instruction in range does has its numbers in range
 pub view_is : (i : Insn) → IsInsn i → IsView (view i)
 view_is (Const dst value) h = h.1
 view_is _ h = tt

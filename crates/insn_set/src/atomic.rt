@@ -33,7 +33,7 @@ impl AtomicOp {
     ghost use Rattle.insn_set.specs.Atomic.{atomic_number, atomic_symbol};
     ghost use Rattle.insn_set.specs.AtomicRows.{atomic_by_number, atomic_by_symbol};
 
-    /// Its immediate.
+    /// The immediate by which a slot names the operation: 0x00, 0x40, 0x50 or 0xa0.
     #[inline(always)]
     pub fn number(self) -> u32
         ensures { result ≡ atomic_number self }
@@ -49,7 +49,7 @@ impl AtomicOp {
         by_number(&OPERATIONS, number)
     }
 
-    /// Its symbol in a line of text.
+    /// The symbol of the operation in a line of text.
     pub fn symbol(self) -> &'static str
         ensures { result.now ≡ atomic_symbol self }
     {
@@ -68,7 +68,7 @@ impl AtomicOp {
 impl AtomicSize {
     ghost use Rattle.insn_set.specs.Atomic.{access_size, is_wide_atomic};
 
-    /// The access size of its load and of its store.
+    /// The access size of the operation's load and of its store.
     #[inline(always)]
     pub fn access(self) -> AccessSize
         ensures { result ≡ access_size self }
@@ -79,7 +79,7 @@ impl AtomicSize {
         }
     }
 
-    /// Whether it works on 64 bits.
+    /// Whether the operation works on 64 bits.
     #[inline(always)]
     pub fn is_wide(self) -> bool
         ensures { result ≡ is_wide_atomic self }

@@ -22,7 +22,8 @@ const CONDITIONS: [(Condition, u32, &str); 11] = [
     (Condition::CommonBit, 4, "&"),
 ];
 
-/// The condition of each code, by the code: a look-up without a search. It is proved to agree with `CONDITIONS`.
+/// The condition of each code, 0 to 15; `None` for a code that no condition has. A look-up in it needs no search. It is proved to agree
+/// with `CONDITIONS`.
 const CONDITIONS_BY_CODE: [Option<Condition>; 16] = [
     None,
     Some(Condition::Equal),
@@ -42,7 +43,7 @@ const CONDITIONS_BY_CODE: [Option<Condition>; 16] = [
     None,
 ];
 
-/// The code of a condition.
+/// The code of a condition, the upper four bits of a jump's opcode.
 pub fn condition_number(condition: Condition) -> u8
     ensures value { result ≡ condition_number condition }
     ensures bound { result ≤ 13 }

@@ -7,7 +7,8 @@ ghost use Rattle.insn_set.specs.ConversionRows.{order_by_name, narrow_by_name};
 use crate::table::named;
 use words::{ByteOrder, ExtendedBits, KeptBits};
 
-/// The name that a line of text has for each byte-order conversion, in the order of the two enums.
+/// The name that a line of text has for each byte-order conversion, in the order of the two enums, so that it is found by their numbers:
+/// three rows for each `ByteOrder`.
 const ORDERS: [(&str, (ByteOrder, KeptBits)); 9] = [
     ("le16", (ByteOrder::Little, KeptBits::Bits16)),
     ("le32", (ByteOrder::Little, KeptBits::Bits32)),
@@ -20,14 +21,14 @@ const ORDERS: [(&str, (ByteOrder, KeptBits)); 9] = [
     ("bswap64", (ByteOrder::Swap, KeptBits::Bits64)),
 ];
 
-/// The name that a line of text has for each sign extension, in the order of the enum.
+/// The name that a line of text has for each sign extension, in the order of the enum, so that it is found by its number.
 const EXTENSIONS: [(&str, ExtendedBits); 3] = [
     ("s8", ExtendedBits::Bits8),
     ("s16", ExtendedBits::Bits16),
     ("s32", ExtendedBits::Bits32),
 ];
 
-/// The name of a byte-order conversion in a line of text.
+/// The name of a byte-order conversion, of which `bits` low bits are kept, in a line of text.
 pub fn order_name(how: ByteOrder, bits: KeptBits) -> &'static str
     ensures { result.now ≡ order_name how bits }
 {

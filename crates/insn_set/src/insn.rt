@@ -55,7 +55,7 @@ pub enum Operand {
     Reg(Reg),
 }
 
-/// A move with sign extension (RFC 9669, section 4.1). Only the wide one may start from 32 bits.
+/// A move with sign extension, from `bits` to 64 bits (`wide`) or 32 (RFC 9669, section 4.1). Only the wide one may start from 32 bits.
 ///
 /// It is a struct of its own, as is `Load`, because enum variants have no ghost fields to state such restrictions.
 #[derive(Clone, Copy, Debug, PartialEq, Eq)]
@@ -67,7 +67,8 @@ pub struct Movsx {
     pub ghost listed: { IsTrue (wide || is_short bits) },
 }
 
-/// A load from the address `src` plus `off` (RFC 9669, sections 5.1 and 5.2). A double word has no sign extension.
+/// A load into `dst` from the address in `src` plus `off` bytes, with sign extension if `signed` (RFC 9669, sections 5.1 and 5.2). A double
+/// word has none.
 #[derive(Clone, Copy, Debug, PartialEq, Eq)]
 pub struct Load {
     pub size: AccessSize,
@@ -78,7 +79,7 @@ pub struct Load {
     pub ghost listed: { IsTrue (not (signed && is_double size)) },
 }
 
-/// An instruction, of one slot or two. Each value of the type has a spelling.
+/// An instruction, of one slot or two. Each value of the type has a spelling. `wide`: it works on 64 bits, else on 32.
 #[derive(Clone, Copy, Debug, PartialEq, Eq)]
 pub enum Insn {
     /// `dst = dst op src`, or `dst = src` for a move (RFC 9669, section 4.1).
@@ -101,15 +102,15 @@ pub enum Insn {
         bits: KeptBits,
         dst: Reg,
     },
-    /// A jump of class JMP; its distance counts slots from the next one (RFC 9669, section 4.3).
+    /// A jump of class JMP; its distance `off` counts slots from the next one (RFC 9669, section 4.3).
     Ja {
         off: i16,
     },
-    /// A jump of class JMP32, whose distance has 32 bits (RFC 9669, section 4.3).
+    /// A jump of class JMP32, whose distance `off`, in slots from the next one, has 32 bits (RFC 9669, section 4.3).
     Jal {
         off: i32,
     },
-    /// A jump that is taken if the condition holds for `dst` and `src` (RFC 9669, section 4.3).
+    /// A jump by `off` slots from the next one, taken if the condition holds for `dst` and `src` (RFC 9669, section 4.3).
     Jump {
         wide: bool,
         cond: Condition,
@@ -125,14 +126,14 @@ pub enum Insn {
     Exit,
     /// A load from memory (RFC 9669, sections 5.1 and 5.2).
     Load(Load),
-    /// A store of `src` to the address `dst` plus `off` (RFC 9669, section 5.1).
+    /// A store of `src` to the address in `dst` plus `off` bytes (RFC 9669, section 5.1).
     Store {
         size: AccessSize,
         dst: Reg,
         src: Operand,
         off: i16,
     },
-    /// An atomic operation on the bytes at `dst` plus `off`, with `src` as second operand (RFC 9669, section 5.3).
+    /// An atomic operation on the bytes at the address in `dst` plus `off` bytes, with `src` as second operand (RFC 9669, section 5.3).
     Atomic {
         size: AtomicSize,
         op: AtomicOp,
@@ -163,14 +164,14 @@ impl Insn {
     ghost use Rattle.std.specs.Prelude.{length};
     ghost use Rattle.insn_set.specs.Spelling.{slots, is_wide, IsInsn};
 
-    /// Whether it takes two slots (RFC 9669, section 3.2).
+    /// Whether the instruction takes two slots (RFC 9669, section 3.2).
     pub fn is_wide(&self) -> bool
         ensures { result ≡ is_wide self.now }
     {
         self.profile().slots == 2
     }
 
-    /// The number of its slots: one, or two for a wide instruction.
+    /// The number of the instruction's slots: one, or two if it is wide.
     pub fn slots(&self) -> usize
         ensures count { result ≡ length (slots self.now) }
         ensures some { 1 ≤ result }
@@ -233,12 +234,14 @@ impl Insn {
     }
 }
 
+/// A law: a `u64` is below 2^64. `in_range` of `Insn` uses it, and nothing is done when it runs.
 fn word_in_range(value: u64)
     ensures { value < 2 ^ 64 }
 {
     let _ = value;
 }
 
+/// A law: a `u32` is below 2^32. `in_range` of `Insn` uses it, and nothing is done when it runs.
 fn offset_in_range(offset: u32)
     ensures { offset < 2 ^ 32 }
 {
@@ -248,6 +251,7 @@ fn offset_in_range(offset: u32)
 impl Operand {
     ghost use Rattle.insn_set.specs.Spelling.{IsOperand};
 
+    /// A law: the number of the operand's register, if it is one, is 0 to 10, which `number` shows. Nothing is done when it runs.
     fn in_range(self)
         ensures { IsOperand self }
     {

@@ -5,17 +5,22 @@ ghost use Rattle.insn_set.specs.Program.{most_slots};
 
 use crate::{Insn, MAX_SLOTS, RawSlot, Reg};
 
+/// An instruction takes 16 bytes, so indexing by slot is one shift and one load.
 const _: () = prove!(size_of::<Insn>() == 16);
 
+/// An optional instruction takes 24 bytes, eight more than an instruction.
 const _: () = prove!(size_of::<Option<Insn>>() == 24);
 
+/// A raw slot takes the eight bytes in which it is spelled.
 const _: () = prove!(size_of::<RawSlot>() == 8);
 
+/// The number of a register is the one that it is made of.
 fn registers() {
     let number = Reg::new(10).number();
     prove!(number == 10);
 }
 
+/// A wide load of a number takes two slots, the exit one.
 fn slots_of_instructions() {
     let (dst, value) = (Reg::new(2), 7);
     let (wide, exit) = (Insn::Const { dst, value }, Insn::Exit);

@@ -26,7 +26,8 @@ const OPERATORS: [(AluOp, u32, &str); 14] = [
     (AluOp::SignedShiftRight, 12, "s>>="),
 ];
 
-/// The operator of each code with offset 0, by the code: a look-up without a search. It is proved to agree with `OPERATORS`.
+/// The operator of each code, 0 to 15, at offset 0; `None` for a code that no operator has. A look-up in it needs no search. It is proved
+/// to agree with `OPERATORS`.
 const OPERATORS_BY_CODE: [Option<AluOp>; 16] = [
     Some(AluOp::Add),
     Some(AluOp::Sub),
@@ -46,7 +47,7 @@ const OPERATORS_BY_CODE: [Option<AluOp>; 16] = [
     None,
 ];
 
-/// The code of an operator.
+/// The code of an operator, the upper four bits of its opcode.
 pub fn alu_number(op: AluOp) -> u8
     ensures value { result ≡ alu_number op }
     ensures bound { result ≤ 12 }
@@ -54,7 +55,7 @@ pub fn alu_number(op: AluOp) -> u8
     OPERATORS[op as usize].1 as u8
 }
 
-/// The offset of an operator: 1 for signed division and remainder, else 0.
+/// The offset field that selects an operator among those of its code: 1 for signed division and remainder, else 0.
 pub fn alu_offset(op: AluOp) -> u16
     ensures { result ≡ alu_offset op }
 {
@@ -64,7 +65,7 @@ pub fn alu_offset(op: AluOp) -> u16
     }
 }
 
-/// The operator with this code and offset 0, if there is one.
+/// The operator with this code at offset 0, the unsigned one of two; `None` if no operator has it.
 pub fn alu_by_number(number: u8) -> Option<AluOp>
     ensures value { result ≡ alu_by_number number }
     ensures inverse { IfSome result (λ op. alu_number op ≡ number) }

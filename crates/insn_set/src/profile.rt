@@ -51,7 +51,7 @@ pub struct Profile {
     pub slots: usize,
 }
 
-/// A row of the table.
+/// A row of the table, from its fields in their order.
 #[inline(always)]
 fn row(
     first_read: Option<Reg>,
@@ -73,7 +73,7 @@ fn row(
     }
 }
 
-/// The register of an operand, if it is one.
+/// The register of a second operand; `None` if it is a constant.
 #[inline(always)]
 fn register_of(operand: Operand) -> Option<Reg>
     ensures { result ≡ register_of operand }
@@ -84,7 +84,8 @@ fn register_of(operand: Operand) -> Option<Reg>
     }
 }
 
-/// The first operand of an operation, if it reads one: a move does not (RFC 9669, section 4.1).
+/// The register of an operation's first operand, which is its destination; `None` for a move, which does not read it (RFC 9669, section
+/// 4.1).
 #[inline(always)]
 fn first_operand(op: AluOp, dst: Reg) -> Option<Reg>
     ensures { result ≡ first_operand op dst }
@@ -222,7 +223,7 @@ impl Successors {
         }
     }
 
-    /// The target of the jump of an instruction at `slot`; `None` if there is no jump, or the target is below slot 0.
+    /// The slot to which an instruction at `slot` may jump; `None` if there is no jump, or the target is below slot 0.
     #[inline(always)]
     pub fn target(self, slot: usize) -> Option<usize>
         requires { slot ≤ MAX_SLOTS }
@@ -239,7 +240,7 @@ impl Successors {
 impl Reference {
     ghost use Rattle.insn_set.specs.Flow.{descriptor_by};
 
-    /// The descriptor of the map, if the instruction names one or a value of one.
+    /// The descriptor of the map that is named, itself or by its first value; `None` if none is.
     #[inline(always)]
     pub fn descriptor(self) -> Option<u32>
         ensures { result ≡ descriptor_by self }

@@ -2,8 +2,8 @@
 
 ghost use Rattle.std.specs.Prelude.{◌≡◌, ◌≤◌, ◌<◌, ◌==◌, ◌&&◌, length, IfSome, IfNone};
 
-/// The fields of a slot, as bits: no field is read as signed here. The two register numbers have four bits each. Definitions are in
-/// these terms; the code keeps a [`RawSlot`].
+/// The fields of a slot, as bits: no field is read as signed here. The two register numbers have four bits each. Only definitions use this
+/// type; the code keeps a [`RawSlot`].
 #[derive(Clone, Copy, Debug, PartialEq, Eq)]
 pub struct SlotFields {
     pub opcode: u8,
@@ -38,6 +38,7 @@ impl RawSlot {
         Some(RawSlot::in_front(bytes))
     }
 
+    /// The slot in the first eight bytes, of which there are enough.
     #[inline(always)]
     #[tactic(auto, unfolding(crate::specs::Slot::slot_of))]
     fn in_front(bytes: &[u8]) -> RawSlot

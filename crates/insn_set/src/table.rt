@@ -1,9 +1,9 @@
-//! Tables: a row for each value of a family, with its number and its symbol, or only with its name.
+//! Tables: a row for each value of a family (operators, conditions, loads), with its number and its symbol, or only with its name.
 
 ghost use Rattle.std.specs.Prelude.{◌≡◌};
 ghost use Rattle.insn_set.specs.Table.{shown, by_number, by_symbol, names, named};
 
-/// The value of the first row with this number.
+/// The value of the first row with this number; `None` if there is no such row.
 #[inline(always)]
 pub(crate) fn by_number<T: Copy>(rows: &[(T, u32, &str)], number: u32) -> Option<T>
     ensures { result ≡ by_number (shown rows.now) number }
@@ -16,7 +16,7 @@ pub(crate) fn by_number<T: Copy>(rows: &[(T, u32, &str)], number: u32) -> Option
     None
 }
 
-/// The value of the first row with this symbol.
+/// The value of the first row with this symbol; `None` if there is no such row.
 pub(crate) fn by_symbol<T: Copy>(rows: &[(T, u32, &str)], symbol: &str) -> Option<T>
     ensures { result ≡ by_symbol (shown rows.now) symbol.now }
 {
@@ -28,7 +28,7 @@ pub(crate) fn by_symbol<T: Copy>(rows: &[(T, u32, &str)], symbol: &str) -> Optio
     None
 }
 
-/// The value of the first row with this name.
+/// The value of the first row with this name; `None` if there is no such row.
 pub fn named<T: Copy>(rows: &[(&str, T)], name: &str) -> Option<T>
     ensures { result ≡ named (names rows.now) name.now }
 {

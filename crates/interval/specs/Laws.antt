@@ -13,7 +13,7 @@ use Rattle.interval.specs.Refine.{RangePair, refined, IsPairOn}
 abbrev pub IsOfWords : Range → Type 0
 IsOfWords r = r.hi < 2 ^ 64
 
--- the result of two members is a member of the table's range
+-- the result on n bits of two members is a member of the table's range
 abbrev pub ResultsAreMembers : ℕ → Type 0
 ResultsAreMembers n =
     (op : Operator) (a b : Range) (x y : ℕ)
@@ -28,7 +28,7 @@ abbrev pub ResultsAreWords : ℕ → Type 0
 ResultsAreWords n =
     (op : Operator) (a b : Range) → IsOfWords a → IsOfWords b → IsOfWords (range_of n op a b)
 
--- two members that take an edge are members of the ranges on it
+-- two members that take an edge of a comparison on n bits are members of the ranges on it
 abbrev pub EdgesKeepMembers : ℕ → Type 0
 EdgesKeepMembers n =
     (condition : Condition) (a b : Range) (x y : ℕ)
@@ -39,11 +39,12 @@ EdgesKeepMembers n =
     (IsTrue (compares n condition x y) → IsPairOn (refined n condition a b).0 x y)
     × (IsFalse (compares n condition x y) → IsPairOn (refined n condition a b).1 x y)
 
+-- the ranges on an edge are ranges of words, if it can be taken
 abbrev pub IsPairOfWords : Option RangePair → Type 0
 IsPairOfWords None = Unit {0}
 IsPairOfWords (Some p) = IsOfWords p.0 × IsOfWords p.1
 
--- the ranges on both edges are ranges of words
+-- the ranges on both edges of a comparison of ranges of words are ranges of words
 abbrev pub EdgesAreWords : ℕ → Type 0
 EdgesAreWords n =
     (condition : Condition) (a b : Range)
@@ -65,8 +66,10 @@ HullIsLeast =
     → ((x : ℕ) → IsMember x b → IsMember x c) →
     (x : ℕ) → IsMember x (hull a b) → IsMember x c
 
+-- the hull is commutative
 abbrev pub HullCommutes : Type 0
 HullCommutes = (a b : Range) → hull a b ≡ hull b a
 
+-- the hull is associative
 abbrev pub HullAssociates : Type 0
 HullAssociates = (a b c : Range) → hull (hull a b) c ≡ hull a (hull b c)

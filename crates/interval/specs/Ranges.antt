@@ -16,6 +16,7 @@ span lo hi = record { lo = lo; hi = max lo hi; ordered = at_most_max lo hi }
 abbrev pub constant : ℕ → Range
 constant v = record { lo = v; hi = v; ordered = at_most_itself v }
 
+-- whether there is exactly one member
 abbrev pub is_constant : Range → Bool
 is_constant r = r.lo == r.hi
 

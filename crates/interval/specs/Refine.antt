@@ -8,10 +8,11 @@ use Rattle.words.specs.declared.operator.Condition.{Condition}
 use Rattle.words.specs.declared.operator.Condition.TheVariants.{Equal, NotEqual, Above, AboveOrEqual, Below, BelowOrEqual, SignedAbove, SignedAboveOrEqual, SignedBelow, SignedBelowOrEqual, CommonBit}
 use Rattle.interval.specs.Ranges.{span, is_constant, IsMember}
 
--- the ranges of both operands
+-- the ranges of the first and the second operand
 abbrev pub RangePair : Type 0
 RangePair = Range × Range
 
+-- the ranges on an edge with the operands swapped: a below b is b above a
 abbrev pub swapped : Option RangePair → Option RangePair
 swapped None = None
 swapped (Some p) = Some (p.1, p.0)
@@ -25,35 +26,44 @@ except r v =
 
 -- ---- one refinement for each comparison
 
+-- the edge on which the operands are equal: both are in the intersection of the ranges
 abbrev pub where_equal : Range → Range → Option RangePair
 where_equal a b =
     let lo = max a.lo b.lo in
     let hi = min a.hi b.hi in
     if nat_le lo hi then Some (span lo hi, span lo hi) else None
 
+-- the edge on which the operands differ: if one is one number, the range of the other loses it at
+-- its ends
 abbrev pub where_different : Range → Range → Option RangePair
 where_different a b =
     if is_constant b then option_map (λ r. (r, b)) (except a b.lo) else
     (if is_constant a then option_map (λ r. (a, r)) (except b a.lo) else Some (a, b))
 
+-- the edge on which the first operand is above the second
 abbrev pub where_above : Range → Range → Option RangePair
 where_above a b =
     if nat_le a.hi b.lo
     then None
     else Some (span (max a.lo (b.lo + 1)) a.hi, span b.lo (min b.hi (a.hi - 1)))
 
+-- the edge on which the first operand is at most the second
 abbrev pub where_at_most : Range → Range → Option RangePair
 where_at_most a b =
     if nat_lt b.hi a.lo then None else Some (span a.lo (min a.hi b.hi), span (max a.lo b.lo) b.hi)
 
 -- ---- both edges: if the comparison holds, and if it fails
 
+-- the ranges on the edge on which the comparison holds, and on the one on which it fails
 abbrev pub EdgePairs : Type 0
 EdgePairs = Option RangePair × Option RangePair
 
+-- on both edges the operands keep their ranges
 abbrev pub unchanged : Range → Range → EdgePairs
 unchanged a b = (Some (a, b), Some (a, b))
 
+-- the ranges on both edges, for operands of the width of the comparison: signed comparisons and the
+-- test of a common bit refine nothing
 abbrev pub edges : Condition → Range → Range → EdgePairs
 edges Equal a b = (where_equal a b, where_different a b)
 edges NotEqual a b = (where_different a b, where_equal a b)

@@ -12,6 +12,7 @@ use Rattle.interval.specs.Ranges.{span, constant, is_constant, full}
 
 -- ---- one row for each operator, on operands below 2 ^ n
 
+-- the sums of members, modulo 2 ^ n: exact if none wraps or all do, else all numbers
 abbrev pub sum_range : ℕ → Range → Range → Range
 sum_range n a b =
     if nat_lt (a.hi + b.hi) (2 ^ n) then span (a.lo + b.lo) (a.hi + b.hi) else
@@ -19,21 +20,28 @@ sum_range n a b =
     then span (a.lo + b.lo - 2 ^ n) (a.hi + b.hi - 2 ^ n)
     else full n)
 
+-- the differences of members, modulo 2 ^ n: exact if none wraps or all do, else all numbers
 abbrev pub difference_range : ℕ → Range → Range → Range
 difference_range n a b =
     if nat_le b.hi a.lo then span (a.lo - b.hi) (a.hi - b.lo) else
     (if nat_lt a.hi b.lo then span (a.lo + 2 ^ n - b.hi) (a.hi + 2 ^ n - b.lo) else full n)
 
+-- the products of members, modulo 2 ^ n: all numbers if the greatest wraps
 abbrev pub product_range : ℕ → Range → Range → Range
 product_range n a b =
     if nat_lt (a.hi * b.hi) (2 ^ n) then span (a.lo * b.lo) (a.hi * b.hi) else full n
 
+-- the unsigned quotients of members: from 0 to the greatest dividend if the divisor may be 0, since
+-- a quotient by 0 is 0
 abbrev pub quotient_range : Range → Range → Range
 quotient_range a b = if nat_le 1 b.lo then span (a.lo / b.hi) (a.hi / b.lo) else span 0 a.hi
 
+-- the unsigned remainders of members: below the greatest divisor if no divisor is 0; a remainder by
+-- 0 is the dividend
 abbrev pub remainder_range : Range → Range → Range
 remainder_range a b = if nat_le 1 b.lo then span 0 (min a.hi (b.hi - 1)) else span 0 a.hi
 
+-- bitwise and of members: from 0 to the lesser high end
 abbrev pub and_range : Range → Range → Range
 and_range a b = span 0 (min a.hi b.hi)
 
@@ -45,30 +53,43 @@ binary_digits v = 64 - leading_zeros w64 v
 abbrev pub digits_end : Range → Range → ℕ
 digits_end a b = 2 ^ binary_digits (max a.hi b.hi) - 1
 
+-- bitwise or of members: at least each low end, with no more binary digits than the greater high
+-- end
 abbrev pub or_range : Range → Range → Range
 or_range a b = span (max a.lo b.lo) (digits_end a b)
 
+-- bitwise exclusive or of members: from 0, with no more binary digits than the greater high end
 abbrev pub xor_range : Range → Range → Range
 xor_range a b = span 0 (digits_end a b)
 
+-- the members of a times 2 ^ k; all numbers if the greatest times 2 ^ k is not below 2 ^ n
 abbrev pub scaled_range : ℕ → Range → ℕ → Range
 scaled_range n a k =
     if nat_lt (a.hi * 2 ^ k) (2 ^ n) then span (a.lo * 2 ^ k) (a.hi * 2 ^ k) else full n
 
+-- the members of a shifted left by members of b: all numbers unless b is one number and no member
+-- loses a bit
 abbrev pub shift_left_range : ℕ → Range → Range → Range
 shift_left_range n a b = if is_constant b then scaled_range n a (b.lo % n) else full n
 
+-- the members of a shifted right by members of b, without sign: from 0 to the greatest one if b is
+-- not one number
 abbrev pub shift_right_range : ℕ → Range → Range → Range
 shift_right_range n a b =
     if is_constant b then span (a.lo / 2 ^ (b.lo % n)) (a.hi / 2 ^ (b.lo % n)) else span 0 a.hi
 
+-- the members of a shifted right by members of b, with the sign bit copied: all numbers if a sign
+-- bit may be 1
 abbrev pub signed_shift_right_range : ℕ → Range → Range → Range
 signed_shift_right_range n a b =
     if nat_lt a.hi (2 ^ (n - 1)) then shift_right_range n a b else full n
 
+-- the members of b extended by the sign of their low k bits: themselves if all fit into these bits
+-- with sign bit 0, else all numbers
 abbrev pub sign_extend_range : ℕ → ℕ → Range → Range
 sign_extend_range n k b = if nat_lt b.hi (2 ^ (k - 1)) then b else full n
 
+-- the results of an operator of two operands on n bits, by the ends of their ranges
 abbrev pub alu_range : ℕ → AluOp → Range → Range → Range
 alu_range n Add a b = sum_range n a b
 alu_range n Sub a b = difference_range n a b
@@ -85,6 +106,7 @@ alu_range n Xor a b = xor_range a b
 alu_range n Mov a b = b
 alu_range n SignedShiftRight a b = signed_shift_right_range n a b
 
+-- the results of an operator on n bits, by the ends of its operands' ranges
 abbrev pub general_range : ℕ → Operator → Range → Range → Range
 general_range n (Binary op) a b = alu_range n op a b
 general_range n Neg a b = full n
@@ -98,13 +120,15 @@ abbrev pub are_alu_constants : AluOp → Range → Range → Bool
 are_alu_constants Mov a b = is_constant b
 are_alu_constants op a b = is_constant a && is_constant b
 
+-- each operand that the operator reads is one number
 abbrev pub are_constants : Operator → Range → Range → Bool
 are_constants (Binary op) a b = are_alu_constants op a b
 are_constants Neg a b = is_constant a
 are_constants (SignExtend from) a b = is_constant b
 are_constants (End how kept) a b = is_constant a
 
--- constant operands give a constant result
+-- the range of the results on n bits, for operands of as many bits as the operator reads: constants
+-- give a constant
 abbrev pub result_range : ℕ → Operator → Range → Range → Range
 result_range n op a b =
     if are_constants op a b then constant (combined n op a.lo b.lo) else general_range n op a b
@@ -115,9 +139,12 @@ abbrev pub range_modulo : ℕ → Range → Range
 range_modulo n r =
     if nat_lt r.hi (2 ^ n) then r else (if is_constant r then constant (r.lo % 2 ^ n) else full n)
 
+-- the range of what an operation on n bits reads of the members: their low n bits, or whole words
 abbrev pub operand_range : ℕ → Range → Range
 operand_range n r = if nat_lt n 64 then range_modulo n r else r
 
+-- the range of the results of an operator on n bits, for words in the ranges a and b; a byte-order
+-- conversion reads 64 bits, whatever n
 abbrev pub range_of : ℕ → Operator → Range → Range → Range
 range_of n op a b =
     result_range n op (operand_range (bits_read n op) a) (operand_range (bits_read n op) b)

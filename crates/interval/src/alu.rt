@@ -1,4 +1,4 @@
-//! The range of an operator's results.
+//! The range of an operator's results, for operands in two ranges. `wide` is the width of an operation: 64 bits if true, 32 if false.
 
 ghost use Rattle.std.specs.Prelude.{◌≡◌, ℕ, ◌<◌, ◌^◌};
 ghost use Rattle.words.specs.declared.operator.Operator.TheVariants.{Binary};
@@ -13,7 +13,7 @@ use crate::range::{Range, greatest};
 use crate::shifts::{shift_left, shift_right, sign_extend, signed_shift_right};
 use words::{AluOp, KeptBits, Operator, words32, words64};
 
-/// The range of the results of `op` on 64 bits, as the table of ranges gives it: it includes the result of every two members.
+/// The range of the results of `op` on 64 bits, as the table of ranges (`range_of`) gives it: it includes the result of every two members.
 /// An operand that `op` does not read is ignored.
 #[inline(always)]
 pub fn alu64(op: Operator, a: Range, b: Range) -> Range
@@ -26,7 +26,8 @@ pub fn alu64(op: Operator, a: Range, b: Range) -> Range
     }
 }
 
-/// The range on 64 bits of an operator with two operands. Most are, and have one dispatch.
+/// The range of the results of an operator of two operands on 64 bits. Most operators are such, so they have a function of their own, with
+/// one dispatch.
 fn binary64(op: AluOp, a: Range, b: Range) -> Range
     ensures exact { result ≡ range_of 64 (Binary op) a b }
     ensures sound { (x y : ℕ) → IsMember x a → IsMember y b
@@ -39,7 +40,7 @@ fn binary64(op: AluOp, a: Range, b: Range) -> Range
     }
 }
 
-/// The range on 64 bits of any operator.
+/// The range of the results of any operator on 64 bits.
 fn any64(op: Operator, a: Range, b: Range) -> Range
     ensures exact { result ≡ range_of 64 op a b }
     ensures sound { (x y : ℕ) → IsMember x a → IsMember y b → IsMember (operate 64 op x y) result }
@@ -51,8 +52,9 @@ fn any64(op: Operator, a: Range, b: Range) -> Range
     }
 }
 
-/// The range of the results of `op` on 32 bits, like `alu64` on 64. An operand that may be 2^32 or more is truncated first.
-/// A byte-order conversion reads all 64 bits of its operand, so its range is that on 64 bits.
+/// The range of the results of `op` on 32 bits, as the table of ranges (`range_of`) gives it: it includes the result of every two members.
+/// An operand that may be 2^32 or more is truncated first. A byte-order conversion reads all 64 bits of its operand, so its range is that
+/// on 64 bits.
 pub fn alu32(op: Operator, a: Range, b: Range) -> Range
     ensures exact { result ≡ range_of 32 op a b }
     ensures sound { (x y : ℕ) → IsMember x a → IsMember y b → IsMember (operate 32 op x y) result }
@@ -94,7 +96,7 @@ fn are_constants(op: Operator, a: Range, b: Range) -> bool
     }
 }
 
-/// The same for an operator with two operands: a move only reads the second.
+/// Whether each operand that `op`, an operator of two operands, reads is a constant: a move only reads the second.
 fn are_alu_constants(op: AluOp, a: Range, b: Range) -> bool
     ensures { result ≡ are_alu_constants op a b }
 {
@@ -104,7 +106,8 @@ fn are_alu_constants(op: AluOp, a: Range, b: Range) -> bool
     }
 }
 
-/// The range of the results if the operands are not all constants.
+/// The range of the results of an operator on 64 bits (`wide`) or 32, for operands of that width. If they are constants, callers compute
+/// the result instead.
 fn general_range(wide: bool, op: Operator, a: Range, b: Range) -> Range
     requires first { a.hi < 2 ^ width wide }
     requires second { b.hi < 2 ^ width wide }
@@ -118,7 +121,8 @@ fn general_range(wide: bool, op: Operator, a: Range, b: Range) -> Range
     }
 }
 
-/// The range of the results of an operator with two operands.
+/// The range of the results of an operator of two operands on 64 bits (`wide`) or 32, for first operands in `a` and second ones in `b`, of
+/// that width. Signed divisions and remainders give all numbers. If both operands are constants, callers compute the result instead.
 fn alu_range(wide: bool, op: AluOp, a: Range, b: Range) -> Range
     requires first { a.hi < 2 ^ width wide }
     requires second { b.hi < 2 ^ width wide }

@@ -1,4 +1,5 @@
-//! The ranges of sums, differences, products, quotients and remainders.
+//! The ranges of sums, differences, products, and unsigned quotients and remainders, on 64 bits (`wide`) or 32, for first operands in `a`
+//! and second ones in `b`. A number wraps if it is reduced modulo 2^64 or 2^32.
 
 ghost use Rattle.std.specs.Prelude.{◌≡◌, ◌<◌, ◌^◌};
 ghost use Rattle.words.specs.Widths.{width};
@@ -6,7 +7,7 @@ ghost use Rattle.interval.specs.Table.{sum_range, difference_range, product_rang
 
 use crate::range::{Range, greatest};
 
-/// The sums of members: exact unless some wrap and some do not.
+/// The range of the sums of members, modulo 2^64 (`wide`) or 2^32: exact if none wraps or all do, else all numbers.
 pub(crate) fn sum(wide: bool, a: Range, b: Range) -> Range
     requires first { a.hi < 2 ^ width wide }
     requires second { b.hi < 2 ^ width wide }
@@ -22,7 +23,7 @@ pub(crate) fn sum(wide: bool, a: Range, b: Range) -> Range
     }
 }
 
-/// The differences of members: exact unless some wrap and some do not.
+/// The range of the differences of members, modulo 2^64 (`wide`) or 2^32: exact if none wraps or all do, else all numbers.
 pub(crate) fn difference(wide: bool, a: Range, b: Range) -> Range
     requires first { a.hi < 2 ^ width wide }
     requires second { b.hi < 2 ^ width wide }
@@ -38,7 +39,7 @@ pub(crate) fn difference(wide: bool, a: Range, b: Range) -> Range
     }
 }
 
-/// The products of members; all numbers if the greatest wraps.
+/// The range of the products of members, modulo 2^64 (`wide`) or 2^32: all numbers if the greatest wraps.
 pub(crate) fn product(wide: bool, a: Range, b: Range) -> Range
     requires first { a.hi < 2 ^ width wide }
     requires second { b.hi < 2 ^ width wide }
@@ -50,7 +51,7 @@ pub(crate) fn product(wide: bool, a: Range, b: Range) -> Range
     }
 }
 
-/// The quotients of members: from 0 to the greatest dividend if the divisor may be 0.
+/// The range of the unsigned quotients of members: from 0 to the greatest dividend if the divisor may be 0, since a quotient by 0 is 0.
 pub(crate) fn quotient(a: Range, b: Range) -> Range
     ensures { result ≡ quotient_range a b }
 {
@@ -61,7 +62,8 @@ pub(crate) fn quotient(a: Range, b: Range) -> Range
     }
 }
 
-/// The remainders of members: from 0 to the greatest dividend, and below the greatest divisor if no divisor is 0.
+/// The range of the unsigned remainders of members: from 0 to the greatest dividend, and below the greatest divisor if no divisor is 0. A
+/// remainder by 0 is the dividend.
 pub(crate) fn remainder(a: Range, b: Range) -> Range
     ensures { result ≡ remainder_range a b }
 {

@@ -5,28 +5,28 @@ ghost use Rattle.interval.specs.Table.{and_range, or_range, xor_range, digits_en
 
 use crate::range::Range;
 
-/// Bitwise AND: from 0 to the lesser of the greatest members.
+/// The range of the bitwise AND of members: from 0 to the lesser of the greatest members.
 pub(crate) fn and(a: Range, b: Range) -> Range
     ensures { result ≡ and_range a b }
 {
     Range::new(0, a.hi.min(b.hi))
 }
 
-/// Bitwise OR: at least the least member of each range, with no more binary digits than the greatest member.
+/// The range of the bitwise OR of members: at least the least member of each range, with no more binary digits than the greatest member.
 pub(crate) fn or(a: Range, b: Range) -> Range
     ensures { result ≡ or_range a b }
 {
     Range::new(a.lo.max(b.lo), digits_end(a, b))
 }
 
-/// Bitwise XOR: from 0, with no more binary digits than the greatest member.
+/// The range of the bitwise XOR of members: from 0, with no more binary digits than the greatest member.
 pub(crate) fn exclusive_or(a: Range, b: Range) -> Range
     ensures { result ≡ xor_range a b }
 {
     Range::new(0, digits_end(a, b))
 }
 
-/// The greatest number with as many binary digits as the greatest member.
+/// The greatest number with as many binary digits as the greatest member of both ranges, so that no OR or XOR of members is above it.
 fn digits_end(a: Range, b: Range) -> u64
     ensures value { result ≡ digits_end a b }
     ensures first { a.hi ≤ result }

@@ -9,7 +9,7 @@ ghost use Rattle.interval.specs.Refine.{except, where_equal, where_different, wh
 use crate::range::{Range, greatest};
 use words::Condition;
 
-/// The ranges of both operands on an edge; `None` if the edge can't be taken.
+/// The ranges of the first and the second operand on an edge; `None`: no two members take it.
 pub type Edge = Option<(Range, Range)>;
 
 /// Refines the ranges of both operands of a conditional jump, on the edge that jumps and on the one that falls through.
@@ -42,7 +42,7 @@ pub fn refine(condition: Condition, wide: bool, a: Range, b: Range) -> (Edge, Ed
     }
 }
 
-/// The edge with its operands swapped.
+/// The edge with its operands swapped: `a` below `b` is `b` above `a`.
 fn swapped(edge: Edge) -> Edge
     ensures { result ≡ swapped edge }
 {

@@ -1,4 +1,4 @@
-//! The hull of two ranges.
+//! The hull of two ranges, their join.
 
 ghost use Rattle.std.specs.Prelude.{◌≡◌};
 ghost use Rattle.interval.specs.Ranges.{hull};

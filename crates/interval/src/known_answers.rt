@@ -3,6 +3,7 @@
 use crate::{Range, alu32, alu64, hull, refine};
 use words::{AluOp, Condition, Operator};
 
+/// The sums of 0 to 7 and 250 to 255 are 250 to 262; those of 2^32 - 1 and 1 to 2, on 32 bits, all wrap to 0 to 1.
 fn ranges_of_sums() {
     let sum = alu64(
         Operator::Binary(AluOp::Add),
@@ -20,12 +21,15 @@ fn ranges_of_sums() {
     prove!(wrapped.hi == 1);
 }
 
+/// The hull of 1 to 4 and 3 to 9 is 1 to 9.
 fn range_of_both() {
     let both = hull(Range::new(1, 4), Range::new(3, 9));
     prove!(both.lo == 1);
     prove!(both.hi == 9);
 }
 
+/// If 0 to 255 is compared with 7, it is 8 to 255 on the edge on which it is above, and 0 to 7 on the other one. If 0 is compared with 1,
+/// the edge on which they are equal can't be taken.
 fn edges_of_a_jump() {
     let (above, at_most) = refine(
         Condition::Above,

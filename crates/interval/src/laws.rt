@@ -2,31 +2,31 @@
 
 ghost use Rattle.interval.specs.Laws.{ResultsAreMembers, ResultsAreWords, EdgesKeepMembers, EdgesAreWords, HullHoldsBoth, HullIsLeast, HullCommutes, HullAssociates};
 
-/// The result of two members is a member of the range that the table gives.
+/// A law: the result of two members is a member of the range that the table of ranges (`range_of`) gives.
 pub fn results_are_members()
     ensures wide { ResultsAreMembers 64 }
     ensures narrow { ResultsAreMembers 32 }
 {}
 
-/// The range that the table gives for ranges of words is a range of words.
+/// A law: the range that the table of ranges (`range_of`) gives for ranges of words is a range of words.
 pub fn results_are_words()
     ensures wide { ResultsAreWords 64 }
     ensures narrow { ResultsAreWords 32 }
 {}
 
-/// Two members that take an edge are members of the ranges on it.
+/// A law: two members that take an edge are members of the ranges on it.
 pub fn edges_keep_members()
     ensures wide { EdgesKeepMembers 64 }
     ensures narrow { EdgesKeepMembers 32 }
 {}
 
-/// The ranges on both edges of a comparison of ranges of words are ranges of words.
+/// A law: the ranges on both edges of a comparison of ranges of words are ranges of words.
 pub fn edges_are_words()
     ensures wide { EdgesAreWords 64 }
     ensures narrow { EdgesAreWords 32 }
 {}
 
-/// The hull is a join: it is the least range that includes the members of both, and it is commutative and associative.
+/// A law: the hull is a join: it is the least range that includes the members of both, and it is commutative and associative.
 pub fn hull_is_a_join()
     ensures holds_both { HullHoldsBoth }
     ensures least { HullIsLeast }

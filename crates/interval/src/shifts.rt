@@ -1,4 +1,4 @@
-//! The ranges of shifts and of sign extensions.
+//! The ranges of shifts and of sign extensions, on 64 bits (`wide`) or 32.
 
 ghost use Rattle.std.specs.Prelude.{◌≡◌, ◌<◌, ◌^◌, ◌%◌};
 ghost use Rattle.words.specs.Widths.{width};
@@ -8,7 +8,7 @@ ghost use Rattle.interval.specs.Table.{scaled_range, shift_left_range, shift_rig
 use crate::range::{Range, greatest};
 use words::ExtendedBits;
 
-/// The shift count: `by` modulo the number of bits.
+/// The number of bits by which a shift by `by` shifts: modulo 64 (`wide`) or 32 (RFC 9669, section 4.1).
 fn places(wide: bool, by: u64) -> u64
     ensures value { result ≡ by % width wide }
     ensures bound { result < 64 }
@@ -16,7 +16,7 @@ fn places(wide: bool, by: u64) -> u64
     if wide { by % 64 } else { by % 32 }
 }
 
-/// The members shifted left by `places`; all numbers if the greatest loses a bit.
+/// The range of the members of `a` shifted left by `places` bits; all numbers if the greatest loses a bit.
 fn scaled(wide: bool, a: Range, places: u64) -> Range
     requires first { a.hi < 2 ^ width wide }
     requires bound { places < 64 }
@@ -29,7 +29,7 @@ fn scaled(wide: bool, a: Range, places: u64) -> Range
     }
 }
 
-/// The range of left shifts: all numbers unless the count is constant and no member loses a bit.
+/// The range of the members of `a` shifted left by members of `b`: all numbers unless `b` is a constant and no member loses a bit.
 pub(crate) fn shift_left(wide: bool, a: Range, b: Range) -> Range
     requires { a.hi < 2 ^ width wide }
     ensures { result ≡ shift_left_range (width wide) a b }
@@ -41,7 +41,7 @@ pub(crate) fn shift_left(wide: bool, a: Range, b: Range) -> Range
     }
 }
 
-/// The range of logical right shifts: from 0 to the greatest member if the count is not constant.
+/// The range of the members of `a` shifted right by members of `b`, without sign: from 0 to the greatest one if `b` is no constant.
 pub(crate) fn shift_right(wide: bool, a: Range, b: Range) -> Range
     ensures { result ≡ shift_right_range (width wide) a b }
 {
@@ -53,7 +53,8 @@ pub(crate) fn shift_right(wide: bool, a: Range, b: Range) -> Range
     }
 }
 
-/// The range of arithmetic right shifts: that of logical ones if all sign bits are 0, else all numbers.
+/// The range of the members of `a` shifted right by members of `b`, with the sign bit copied: all numbers if a sign bit may be 1 (the
+/// greatest member is above half of `greatest`), else that of shifts without sign.
 pub(crate) fn signed_shift_right(wide: bool, a: Range, b: Range) -> Range
     ensures { result ≡ signed_shift_right_range (width wide) a b }
 {
@@ -64,7 +65,8 @@ pub(crate) fn signed_shift_right(wide: bool, a: Range, b: Range) -> Range
     }
 }
 
-/// The range of sign extensions from `from` bits: the members themselves if all fit with sign bit 0, else all numbers.
+/// The range of the members of `b` extended by the sign of their low `from` bits: the members themselves if all fit into these bits with
+/// sign bit 0 (at most `positive`), else all numbers.
 pub(crate) fn sign_extend(wide: bool, from: ExtendedBits, b: Range) -> Range
     ensures { result ≡ sign_extend_range (width wide) (extended_bits from) b }
 {

@@ -39,6 +39,7 @@ IsUnsafe code named known fault =
     × IsFirstFault (safety_fault (shapes_of code named) code) fault.slot fault.reason
     × IsKnownBelow (fault.slot + 1) code named known
 
+-- a program rejected with this fault, for its shape or for its safety, and what is known of it
 abbrev pub IsRefusedWith : List Insn → List Named → List KnownFacts → VerifyFault → Type 0
 IsRefusedWith code named known fault =
     IsMisshapen code named known fault ⊎ IsUnsafe code named known fault

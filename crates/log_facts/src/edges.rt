@@ -11,15 +11,16 @@ use transfer::{Flow, apply, set_ranges};
 pub struct Edges {
     /// Whether a run may take the falling edge.
     pub falls: bool,
-    /// The facts on it.
+    /// The facts on the falling edge, if `falls`.
     pub falling: Facts,
     /// Whether a run may take the jumping edge.
     pub jumps: bool,
-    /// The facts on it.
+    /// The facts on the jumping edge, if `jumps`.
     pub jumping: Facts,
 }
 
-/// Sets the ranges of both operands on an edge of a comparison. Returns whether a run may take it.
+/// Sets the ranges of both operands of a comparison in the facts on one of its edges; `None` if no run takes the edge. Returns whether
+/// one may.
 fn refine(facts: &mut Facts, dst: Reg, src: &Operand, ranges: Option<(Range, Range)>) -> bool {
     match ranges {
         Some(ranges) => {
@@ -41,7 +42,8 @@ impl Edges {
         }
     }
 
-    /// Refines the facts after an instruction, which are in both buffers, by the flow out of it.
+    /// Sets which edges out of an instruction a run may take, by its flow, and refines the facts on them: both buffers have those after
+    /// the instruction.
     fn take(&mut self, flow: &Flow) {
         (self.falls, self.jumps) = match *flow {
             Flow::Ends => (false, false),

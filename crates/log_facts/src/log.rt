@@ -26,7 +26,7 @@ pub enum LogStyle {
 pub struct Log {
     /// Its lines, or the graph.
     pub text: String,
-    /// The verdict.
+    /// Whether the program is accepted.
     pub is_accepted: bool,
     /// The facts from which its lines are written: those before each instruction that a run may reach, in order. Of a program that
     /// is rejected for its safety, those up to the rejected instruction; of one that is rejected for its shape, none.

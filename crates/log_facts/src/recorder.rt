@@ -39,6 +39,7 @@ impl Watcher for Recorder {
 
     ghost told = { λ r. Some (facts_by_slot r.known.items) };
 
+    /// Appends the facts before the instruction at `slot`.
     fn before(&mut self, slot: usize, facts: &Facts) -> Result<(), AllocError> {
         let facts = *facts;
         self.known.push(KnownFacts { slot, facts })?;

@@ -8,7 +8,7 @@ use std::alloc::AllocError;
 use std::fmt::Write;
 use verifier::{Cost, Refusal, VerifyFault};
 
-/// Whether a reason concerns a program's shape, and not its safety.
+/// Whether a reason concerns a program's shape, and not its safety: these are the numbers 1 to 9.
 pub fn is_of_shape(reason: Reason) -> bool {
     reason.number() < 20
 }

@@ -4,14 +4,14 @@ use crate::steps::Step;
 use insn_codec::{Insn, MAX_SLOTS, Program, Successors};
 use std::alloc::{AllocError, Global};
 
-/// The edge of a jump. Edges are ordered by their targets.
+/// The edge of a jump, by the slots of its target and of the jump. Edges are ordered by their targets.
 #[derive(Clone, Copy, PartialEq, Eq, PartialOrd, Ord)]
 pub(crate) struct JumpEdge {
     pub to: usize,
     pub from: usize,
 }
 
-/// The target of the jump at a slot; `None` if there is no jump.
+/// The target of the jump at a slot; `None` if no jump begins there, or its target is below slot 0.
 pub(crate) fn target_at(program: &Program, slot: usize) -> Option<usize> {
     let insn = program.get(slot)?;
     if slot > MAX_SLOTS {
@@ -39,7 +39,7 @@ pub(crate) fn live_jumps(
     Ok(jumps)
 }
 
-/// Whether an instruction ends a basic block.
+/// Whether an instruction ends a basic block: a jump or an exit does.
 fn ends_block(insn: &Insn) -> bool {
     insn.profile().successors != Successors::Next
 }

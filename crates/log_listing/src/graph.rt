@@ -28,7 +28,7 @@ enum Edge<'a> {
     Dead,
 }
 
-/// What is known of an edge from the pass.
+/// What is known of an edge. `told` is what is new on it, or `None` if the pass has not found that a run may take it.
 fn edge_of<'a>(story: &Story<'_>, told: Option<&'a String>) -> Edge<'a> {
     match told {
         Some(text) => Edge::Taken(text.as_str()),
@@ -44,11 +44,11 @@ struct Block {
     first: usize,
     /// Whether a run may reach it.
     is_reached: bool,
-    /// Whether its last instruction is rejected.
+    /// Whether an instruction of it is rejected.
     is_refused: bool,
 }
 
-/// Writes the style of an edge, and its label.
+/// Writes the style of an edge and its label: `name`, which is `taken`, `not taken` or empty, and what is new on it.
 fn write_style(text: &mut String, name: &str, edge: Edge<'_>) -> Result<(), AllocError> {
     match edge {
         Edge::Dead => write!(text, " [{UNREACHED}]"),
@@ -58,7 +58,7 @@ fn write_style(text: &mut String, name: &str, edge: Edge<'_>) -> Result<(), Allo
     }
 }
 
-/// Writes an edge.
+/// Writes the edge between the blocks whose first slots are `from` and `to`.
 fn write_edge(
     text: &mut String,
     from: usize,
@@ -71,7 +71,8 @@ fn write_edge(
     text.push_str(";\n")
 }
 
-/// Writes the edges out of a block, those of its last instruction.
+/// Writes the edges out of the block with the first slot `first`: those of its last instruction, which is at `slot`. `step` is `None` if
+/// the pass did not reach this instruction, or an instruction of the block is rejected.
 fn write_edges(
     text: &mut String,
     story: &Story<'_>,
@@ -113,8 +114,9 @@ fn write_label(text: &mut String, lines: &str) -> Result<(), AllocError> {
 struct Graph<'a> {
     alloc: Global,
     story: &'a Story<'a>,
-    /// Why the program is rejected, if it is, and that in words.
+    /// Why the program is rejected, if it is.
     fault: Option<VerifyFault>,
+    /// The fault in words.
     why: &'a str,
     /// For each slot whether a block begins there.
     starts: &'a [bool],
@@ -139,7 +141,7 @@ impl<'a> Graph<'a> {
         Some(step)
     }
 
-    /// Writes the beginning of a block.
+    /// Writes the beginning of the block at `slot`, up to its label, and makes it the block that is being written.
     fn begin(
         &mut self,
         text: &mut String,
@@ -167,7 +169,7 @@ impl<'a> Graph<'a> {
         }
     }
 
-    /// Writes the end of a block.
+    /// Writes the end of the block: the end of its label, and its style.
     fn end(&self, text: &mut String) -> Result<(), AllocError> {
         text.push_str("\"")?;
         if self.block.is_refused {
@@ -178,7 +180,7 @@ impl<'a> Graph<'a> {
         text.push_str("];\n")
     }
 
-    /// Writes the instruction at a slot into the label.
+    /// Writes the instruction at a slot into the label of the block, and the verdict if it is rejected.
     fn write_line(
         &mut self,
         text: &mut String,
@@ -191,7 +193,8 @@ impl<'a> Graph<'a> {
         self.write_fault(text, slot)
     }
 
-    /// Writes the instruction at a slot, and the beginning and the end of a block there.
+    /// Writes the instruction at a slot; before it the beginning of a block, if one begins there, and after it the block's end and its
+    /// edges, if it ends there.
     fn write_slot(
         &mut self,
         text: &mut String,

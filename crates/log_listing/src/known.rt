@@ -1,4 +1,6 @@
 //! Facts as text: what is known of registers and of the stack, as far as it differs from earlier facts.
+//!
+//! `start` is the offset in the text at which the notes begin: each but the first one follows a semicolon.
 
 ghost use Rattle.std.specs.Prelude.{◌<◌};
 
@@ -61,7 +63,7 @@ fn write_lost_registers(
     }
 }
 
-/// The mask of the bytes of a slot that are newly written.
+/// The mask of the bytes of a stack slot that are newly written; bit 0 is the lowest.
 fn written(old: Slot, new: Slot) -> u8 {
     match (old, new) {
         (Slot::Bytes(before), Slot::Bytes(after)) => after & !before,
@@ -70,7 +72,7 @@ fn written(old: Slot, new: Slot) -> u8 {
     }
 }
 
-/// The mask of the bytes of a slot that are not readable any more.
+/// The mask of the bytes of a stack slot that are not readable any more; bit 0 is the lowest.
 fn lost(old: Slot, new: Slot) -> u8 {
     match (old, new) {
         (Slot::Bytes(before), Slot::Bytes(after)) => before & !after,
@@ -79,14 +81,14 @@ fn lost(old: Slot, new: Slot) -> u8 {
     }
 }
 
-/// The offset of a slot's lowest byte from the stack's upper end.
+/// The offset of a stack slot's lowest byte from the stack's upper end.
 fn lowest_byte(index: usize) -> i64
     requires { index < STACK_SLOTS }
 {
     8 * index as i64 - 8 * STACK_SLOTS as i64
 }
 
-/// Consecutive bytes of the stack that are still to be written into the text.
+/// Consecutive bytes of the stack that are still to be written into the text, by their offsets from the stack's upper end.
 #[derive(Drop)]
 struct Row {
     /// The offset in the text at which notes begin.
@@ -98,7 +100,7 @@ struct Row {
 }
 
 impl Row {
-    /// Writes the bytes, and that they are written or lost.
+    /// Writes the bytes as a note, and `what` is new of them: that they are `written` or `lost`.
     fn write(&self, text: &mut String, what: &str) -> Result<(), AllocError> {
         if self.first == self.end {
             return Ok(());
@@ -112,7 +114,7 @@ impl Row {
         }
     }
 
-    /// Adds one more byte. If it does not follow the others, they are written first.
+    /// Adds one more byte. If it does not follow the others, they are written first, with `what` is new of them.
     fn take(&mut self, text: &mut String, what: &str, byte: i64) -> Result<(), AllocError> {
         if byte != self.end {
             self.write(text, what)?;
@@ -122,7 +124,7 @@ impl Row {
         Ok(())
     }
 
-    /// Adds the bytes of a slot that are in a mask.
+    /// Adds the bytes of stack slot `index` that are in a mask, whose bit 0 is the lowest byte.
     fn take_slot(
         &mut self,
         text: &mut String,

@@ -28,10 +28,11 @@ pub(crate) struct Story<'a> {
 /// How far the lines have been written.
 #[derive(Drop)]
 struct Cursor {
-    /// The indexes of the next step and of the next jump.
+    /// The index of the next step.
     step: usize,
+    /// The index of the next jump.
     jump: usize,
-    /// The instruction before, if a run may fall through from it.
+    /// The slot of the instruction before, if a run may fall through from it.
     falls_from: Option<usize>,
 }
 
@@ -62,7 +63,7 @@ fn write_note(text: &mut String, line: Line, note: &str) -> Result<(), AllocErro
     text.push_str(note)
 }
 
-/// Writes the instructions from which control comes, if one of them is a jump.
+/// Writes the slots of the instructions from which control comes to `slot`, if one of them is a jump. Moves the cursor past these jumps.
 fn write_sources(
     text: &mut String,
     line: Line,
@@ -114,7 +115,7 @@ fn write_edges(
     }
 }
 
-/// Writes the notes on an instruction that a run may reach.
+/// Writes the notes on an instruction that a run may reach, and sets in the cursor whether a run may fall through from it.
 fn write_step(
     text: &mut String,
     line: Line,
@@ -159,7 +160,7 @@ fn write_notes(
     }
 }
 
-/// Writes the line of an instruction.
+/// Writes the line of the instruction at `slot`, with its notes.
 fn write_line(
     text: &mut String,
     story: &Story<'_>,

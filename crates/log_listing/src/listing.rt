@@ -13,7 +13,7 @@ use std::alloc::{AllocError, Global};
 use tagged_model::Named;
 use verifier::{Cost, VerifyFault};
 
-/// The lines of the instructions up to the rejected one, and the verdict.
+/// The lines of the instructions, up to the rejected one if there is one, and the verdict with `why` after it.
 fn lines_of(
     alloc: Global,
     story: &Story<'_>,

@@ -7,11 +7,11 @@ use reg_kinds::Facts;
 use std::alloc::{AllocError, Global};
 use tagged_model::Named;
 
-/// An instruction that a run may reach.
+/// An instruction that a run may reach, with the texts of its notes.
 #[derive(Drop)]
 pub(crate) struct Step {
     pub slot: usize,
-    /// What is known before it.
+    /// What is new before it, or all that is known (`is_whole` of `steps_of`).
     pub known: String,
     /// What is new on the edge to the next instruction, if a run may take it.
     pub falling: Option<String>,
@@ -30,14 +30,14 @@ struct StepMaker<'a> {
 }
 
 impl StepMaker<'_> {
-    /// What is new in facts.
+    /// What is known by `new` and not by `old`, and what is not known any more, as text.
     fn news(&self, old: &Facts, new: &Facts) -> Result<String, AllocError> {
         let mut text = String::new(self.alloc);
         write_known(&mut text, 0, old, new)?;
         Ok(text)
     }
 
-    /// What is new in the facts on an edge, if a run may take it.
+    /// What is new in the facts on an edge; `None` if no run takes it (`taken`).
     fn edge(&self, old: &Facts, taken: bool, new: &Facts) -> Result<Option<String>, AllocError> {
         if taken {
             Ok(Some(self.news(old, new)?))
@@ -46,7 +46,7 @@ impl StepMaker<'_> {
         }
     }
 
-    /// Adds the edges of a conditional jump.
+    /// Adds to `step` what is new on the edges of a conditional jump, before which these are the facts.
     fn branch(&mut self, step: &mut Step, insn: &Insn, facts: &Facts) -> Result<(), AllocError> {
         self.edges.leave(facts, self.named, step.slot, insn);
         let Edges {
@@ -60,7 +60,7 @@ impl StepMaker<'_> {
         Ok(())
     }
 
-    /// Adds the edges of an instruction.
+    /// Adds to `step` the edges out of its instruction. Only on those of a conditional jump something is new; others have the empty text.
     fn leave(&mut self, step: &mut Step, insn: &Insn, facts: &Facts) -> Result<(), AllocError> {
         match insn.profile().successors {
             Successors::Next => step.falling = Some(String::new(self.alloc)),

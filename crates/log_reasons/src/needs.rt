@@ -14,7 +14,8 @@ use std::alloc::{AllocError, Global};
 use tagged_model::Named;
 use verifier::VerifyFault;
 
-/// A rejected program, with what is known before each instruction that the pass reached, and the facts before the last of them.
+/// A rejected program, if descriptors name the objects of `named`; with what is known before each instruction that the pass reached, and
+/// the facts before the last of them, the rejected one. Of a program that is rejected for its shape nothing is known.
 #[derive(Clone, Copy)]
 pub(crate) struct RefusedProgram<'a> {
     pub alloc: Global,
@@ -25,7 +26,7 @@ pub(crate) struct RefusedProgram<'a> {
     pub facts: &'a Facts,
 }
 
-/// Writes what was known at an instruction, against what it needs.
+/// Writes what was known at the rejected instruction, against what it needs.
 fn write_need(
     text: &mut String,
     refusal: &RefusedProgram<'_>,

@@ -19,7 +19,7 @@ pub(crate) enum Wanted {
     Stack { first: i64, last: i64 },
 }
 
-/// Whether a byte of the stack is written, by its offset from the upper end.
+/// Whether a byte of the stack is written, by its offset from the upper end. False outside the stack.
 pub(crate) fn is_written(facts: &Facts, byte: i64) -> bool {
     let Ok(byte_index) = usize::try_from(byte.saturating_add(8 * STACK_SLOTS as i64)) else {
         return false;
@@ -34,7 +34,7 @@ pub(crate) fn is_written(facts: &Facts, byte: i64) -> bool {
 }
 
 impl Wanted {
-    /// Whether the facts have it.
+    /// Whether the value is readable by these facts.
     fn is_in(self, facts: &Facts) -> bool {
         match self {
             Wanted::Register(register) => kind_of(facts, register) != Kind::Unreadable,
@@ -50,7 +50,7 @@ impl Wanted {
     }
 }
 
-/// Why something is missing before an instruction.
+/// Why the value that an instruction needs is missing before it or an earlier one.
 #[derive(Clone, Copy)]
 enum Cause {
     /// It was never written.
@@ -63,12 +63,12 @@ enum Cause {
     Joined(usize),
 }
 
-/// Whether it is present on the edges to a slot.
+/// Whether the value is present on the edges to a slot, as far as they are known.
 #[derive(Clone, Copy)]
 struct Arrival {
-    /// Whether it is present on some edge.
+    /// Whether the value is present on some edge.
     is_there: bool,
-    /// The source of the first edge on which it is missing, and why.
+    /// The slot from which the first edge leads on which the value is missing, and why it is.
     lack: Option<(usize, Cause)>,
 }
 
@@ -78,13 +78,14 @@ struct Finder<'a> {
     program: &'a Program,
     named: &'a [Named],
     wanted: Wanted,
+    /// By slot, what is known of the edges to it.
     arrivals: Vec<Arrival>,
-    /// Why it is missing before the last instruction.
+    /// Why the value is missing before the last instruction that was followed; `None` if it is present.
     cause: Option<Cause>,
 }
 
 impl Finder<'_> {
-    /// Why it is missing before an instruction, if it is.
+    /// Why the value is missing before the instruction at `slot`, by the edges to it; `None` if it is present.
     fn cause_at(&self, slot: usize, facts: &Facts) -> Option<Cause> {
         if self.wanted.is_in(facts) {
             return None;
@@ -106,7 +107,8 @@ impl Finder<'_> {
         }
     }
 
-    /// Notes whether it is present on an edge.
+    /// Notes whether the value is present on an edge, on which these are the facts. If it is missing there and was present before the
+    /// instruction at `from`, this one destroys it.
     fn arrive(&mut self, from: usize, to: usize, facts: &Facts) {
         let is_there = self.wanted.is_in(facts);
         let cause = self.cause.unwrap_or(Cause::Taken(from));
@@ -119,7 +121,7 @@ impl Finder<'_> {
         }
     }
 
-    /// Notes whether it is present on the edges out of an instruction.
+    /// Notes whether the value is present on the edges out of an instruction, before which these are the facts.
     fn leave(&mut self, slot: usize, insn: &Insn, facts: &Facts) {
         let mut edges = Edges::none(facts);
         edges.leave(facts, self.named, slot, insn);
@@ -134,7 +136,7 @@ impl Finder<'_> {
         }
     }
 
-    /// Follows it through an instruction, before which these are the facts.
+    /// Follows the value through the instruction at `slot`, before which these are the facts.
     fn follow(&mut self, slot: usize, facts: &Facts) {
         self.cause = self.cause_at(slot, facts);
         if let Some(insn) = self.program.get(slot) {
@@ -143,7 +145,7 @@ impl Finder<'_> {
     }
 }
 
-/// The arrivals before the pass: it is missing at program entry, and no edge is known yet.
+/// The arrivals before the pass, by slot: the value is missing at program entry, and no edge is known yet.
 fn first_arrivals(alloc: Global, slots: usize) -> Result<Vec<Arrival>, AllocError> {
     let nothing = Arrival {
         is_there: false,
@@ -156,7 +158,7 @@ fn first_arrivals(alloc: Global, slots: usize) -> Result<Vec<Arrival>, AllocErro
     Ok(arrivals)
 }
 
-/// Why something is missing before the rejected instruction.
+/// Why a value is missing before the rejected instruction, the last that the pass reached; `None` if it is not.
 fn cause_of(refusal: &RefusedProgram<'_>, wanted: Wanted) -> Result<Option<Cause>, AllocError> {
     let (alloc, program, named) = (refusal.alloc, refusal.program, refusal.named);
     let mut finder = Finder {
@@ -172,7 +174,7 @@ fn cause_of(refusal: &RefusedProgram<'_>, wanted: Wanted) -> Result<Option<Cause
     Ok(finder.cause)
 }
 
-/// The verbs of what is missing: of one thing or of several.
+/// The verbs of a sentence on what is missing, in the singular or in the plural.
 #[derive(Clone, Copy)]
 struct Verbs {
     was: &'static str,
@@ -180,7 +182,7 @@ struct Verbs {
     holds: &'static str,
 }
 
-/// The verbs of what an instruction needs.
+/// The verbs for what is missing: a register is one, stack bytes are several.
 fn verbs_of(wanted: Wanted) -> Verbs {
     match wanted {
         Wanted::Register(_) => Verbs {
@@ -196,7 +198,7 @@ fn verbs_of(wanted: Wanted) -> Verbs {
     }
 }
 
-/// Writes why something is missing before the rejected instruction.
+/// Writes why a register or stack bytes may not be read before the rejected instruction, as a sentence without its subject.
 pub(crate) fn write_way(
     text: &mut String,
     refusal: &RefusedProgram<'_>,

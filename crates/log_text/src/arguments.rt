@@ -13,7 +13,7 @@ pub(crate) enum ProgramForm {
     Text,
 }
 
-/// An option without a value.
+/// An option `--name` without a value, with the line that the help has for it.
 fn flag<'a>(alloc: Global, name: &'a str, help: &'a str) -> Arg<'a> {
     Arg::new(alloc, name)
         .long(name)
@@ -21,7 +21,7 @@ fn flag<'a>(alloc: Global, name: &'a str, help: &'a str) -> Arg<'a> {
         .action(ArgAction::SetTrue)
 }
 
-/// The program without its options.
+/// The command line of the program, without its options and its arguments.
 fn program<'a>(alloc: Global) -> Command<'a> {
     Command::new(alloc, "verifier_log")
         .about(
@@ -67,7 +67,7 @@ fn with_maps<'a>(alloc: Global, program: Command<'a>) -> Result<Command<'a>, All
     program.arg(maps)
 }
 
-/// Parses the arguments with clap.
+/// Parses the arguments, those after the program's name, with clap.
 pub(crate) fn parse_arguments<'a>(
     alloc: Global,
     arguments: &'a [&'a str],
@@ -88,7 +88,7 @@ pub(crate) fn style_of(matches: &ArgMatches<'_>) -> LogStyle {
     }
 }
 
-/// Whether a line consists of hex digits, at least one.
+/// Whether a line consists of hex digits only, at least one.
 fn is_hex(line: &str) -> bool {
     !line.is_empty() && line.bytes().all(|byte| byte.is_ascii_hexdigit())
 }

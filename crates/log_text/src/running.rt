@@ -24,14 +24,14 @@ fn maps_given(alloc: Global, matches: &ArgMatches<'_>) -> Result<Vec<Named>, Fai
 }
 
 impl Answer {
-    /// The output for a log: its text, and the status of its verdict.
+    /// The output for a log: its text, and the status of its verdict, 0 if the program is accepted, else 1.
     fn of_log(text: String, is_accepted: bool) -> Answer {
         let status = if is_accepted { 0 } else { 1 };
         Answer { text, status }
     }
 }
 
-/// The log of the program of an input, or the refusal of its slots if they are none.
+/// The output for an input: the log of its program, or the refusal of its slots if they are no program.
 fn log_answer<I: Read + Drop>(
     alloc: Global,
     matches: &ArgMatches<'_>,

@@ -16,16 +16,17 @@ pub record Order : Type 0 where
   pub bound : ℕ
   pub elements : List ℕ
 
+-- the first element of a list, if it has one
 abbrev pub first_element : List ℕ → Option ℕ
 first_element [] = None
 first_element (x ∷ xs) = Some x
 
--- the element that follows p
+-- the element that follows p; None after the last one, and if the list does not have p
 abbrev pub following : ℕ → List ℕ → Option ℕ
 following p [] = None
 following p (x ∷ xs) = if nat_eq p x then first_element xs else following p xs
 
--- without p; the others keep their order
+-- the list without p; the others keep their order
 abbrev pub taken_out : ℕ → List ℕ → List ℕ
 taken_out p [] = []
 taken_out p (x ∷ xs) = if nat_eq p x then xs else x ∷ taken_out p xs
@@ -37,26 +38,29 @@ pub record BoundedKeys (K : Type 0) : Type 0 where
   pub bound : ℕ
   pub entries : List (K × ℕ)
 
+-- a bound and entries as one record
 abbrev pub bounded_keys : {K : Type 0} → ℕ → List (K × ℕ) → BoundedKeys K
 bounded_keys bound es = record { bound = bound; entries = es }
 
+-- the logic's code of `BoundedKeys`, from that of one key: the code of the pair of the fields
 abbrev pub bounded_keys_code : {K : Type 0} → Coded K → Coded (BoundedKeys K)
 bounded_keys_code {K} k =
     code_by (ℕ × List (K × ℕ)) (coded× coded_ℕ (coded_list (coded× k coded_ℕ)))
     (λ b. (b.bound, b.entries)) (λ p. bounded_keys p.0 p.1) (λ _. refl)
 
 module _ {K : Type 0} where
+  -- the key of the first entry, if there is one
   abbrev pub first_key_of : List (K × ℕ) → Option K
   first_key_of [] = None
   first_key_of (e ∷ es) = Some e.0
 
   module _ (test : K → Bool) where
-    -- the key that follows the one that passes the test
+    -- the key that follows the first one that passes the test; None if none does or it is last
     abbrev pub key_behind_passing : List (K × ℕ) → Option K
     key_behind_passing [] = None
     key_behind_passing (e ∷ es) = if test e.0 then first_key_of es else key_behind_passing es
 
-    -- if no key passes, it is the first
+    -- the key that follows the first one that passes the test, or the first key if none passes
     abbrev pub key_following : List (K × ℕ) → Option K
     key_following es = if is_some (lookup test es) then key_behind_passing es else first_key_of es
 
@@ -64,6 +68,7 @@ module _ {K : Type 0} where
   abbrev pub lent_entry : Bor K × ℕ → K × ℕ
   lent_entry e = (e.0.now, e.1)
 
+  -- the first entry, if there is one
   abbrev pub first_entry : List (K × ℕ) → Option (K × ℕ)
   first_entry [] = None
   first_entry (e ∷ es) = Some e
@@ -73,7 +78,7 @@ module _ {K : Type 0} where
   entry_behind p [] = None
   entry_behind p (e ∷ es) = if nat_eq p e.1 then first_entry es else entry_behind p es
 
-  -- without an element, it is the first
+  -- the entry that follows the one at a given element, or the first if none is given
   abbrev pub next_entry : Option ℕ → List (K × ℕ) → Option (K × ℕ)
   next_entry None es = first_entry es
   next_entry (Some p) es = entry_behind p es

@@ -6,7 +6,7 @@ ghost use Rattle.ordered_keys.specs.Orders.{occurrences, following, first_elemen
 use std::alloc::{AllocError, Global};
 use std::marker::Model;
 
-/// The neighbours of an element.
+/// The neighbours of an element in the ring: the bound is that before the first and after the last.
 #[derive(Clone, Copy, Drop)]
 pub struct Link {
     pub(crate) before: u32,
@@ -20,6 +20,7 @@ pub struct ElementOrder {
     // The link of each element, and of the bound.
     links: Vec<Link>,
     bound: u32,
+    // The number of elements.
     count: u32,
 }
 
@@ -53,7 +54,7 @@ impl ElementOrder {
         })
     }
 
-    /// `None` for the bound, else the element.
+    /// `None` for the bound, which is the end of the ring, else the element.
     fn unless_end(&self, element: u32) -> Option<u32>
         ensures { result ≡ (if nat_eq element self.now.bound then None else Some element) }
     {

@@ -7,10 +7,12 @@
 //! # What is proved
 //!
 //! - A key's element is found, and none for an absent key: `get` of `OrderedMap`.
-//! - The key after a key is the next one of the order, and after an absent key the first: `key_after`, `first` of `OrderedMap`.
+//! - The key after a key is the next one of the order, and after an absent key the first: `key_after`, `first` of `OrderedMap`. So is the
+//!   entry after that of an element, and without an element it is the first: `entry_after`.
 //! - A new key goes to the end with its element: `added` of `insert`. All memory is taken when the map is made, so neither `insert` nor
 //!   `remove` can run out of it.
-//! - A removal returns the element of the key, and the others keep their order: `element`, `left` of `remove`.
+//! - A removal returns the element of the key, and the others keep their order: `element`, `left` of `remove`. Or all keys are removed:
+//!   `entries` of `clear`.
 //!
 //! A caller may look up with another type than that of the keys (`Equivalent`, whose laws say that all keys which it is equivalent to
 //! are equal). That a removal costs as much as an insertion is seen in the code, but for the removal that fills the

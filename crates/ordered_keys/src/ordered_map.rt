@@ -1,4 +1,7 @@
 //! A map from keys to elements that keeps its keys in the order in which they were added. A removal costs as much as an insertion.
+//!
+//! The functions after the methods are given its parts: the table of the keys with their elements, and `indices`, by element, with the
+//! index in the table of the element's key.
 
 ghost use Rattle.std.specs.Prelude.{◌≡◌, ℕ, ◌+◌, ◌*◌, ◌<◌, ◌≤◌, true, [], ◌∷◌, ◌++◌, length, drop, option_map, slice_get, None, Some, IfSome, IfOk, vec_len, vec_capacity, swap_remove};
 ghost use Rattle.std.specs.Option.{option_map_or};
@@ -45,7 +48,8 @@ impl<K: Eq + Hash + Copy, S: BuildHasher> Model for OrderedMap<K, S> {
 }
 
 impl<K: Eq + Hash + Copy, S: BuildHasher> OrderedMap<K, S> {
-    /// A map without keys, for elements less than `bound`. Allocates room for their order. `AllocError`: out of memory.
+    /// A map without keys, for elements less than `bound`. Allocates all memory that it can ever take, for a table of four times the bound,
+    /// since removals take some of its room (head of the crate). `AllocError`: out of memory.
     pub fn new(alloc: Global, bound: u32, hash_builder: S) -> Result<OrderedMap<K, S>, AllocError>
     where
         S: Drop,
@@ -141,6 +145,7 @@ impl<K: Eq + Hash + Copy, S: BuildHasher> OrderedMap<K, S> {
     {
         let index = self.table.get_index_of(key)?;
         let (_key, element) = take_out(&mut self.table, &mut self.rows, self.indices.len(), index);
+        // The last key has taken the index, unless it is the key that was removed.
         let moved = element_at(&self.table, index, element);
         self.indices[moved as usize] = index as u32;
         self.order.remove(element);
@@ -148,7 +153,7 @@ impl<K: Eq + Hash + Copy, S: BuildHasher> OrderedMap<K, S> {
     }
 }
 
-/// Whether a key has this element.
+/// Whether a key has this element, by the index that `indices` has for it, or 0 if it is out of range.
 fn has_element<K: Eq + Hash, S: BuildHasher>(
     table: &IndexMap<K, u32, S>,
     indices: &[u32],
@@ -185,7 +190,7 @@ fn next_element<K: Eq + Hash, S: BuildHasher>(
     }
 }
 
-/// The key of an element, by its index in the table.
+/// The key of an element, by its index in the table; `None` if no element is given.
 fn key_at<'a, K: Eq + Hash, S: BuildHasher>(
     table: &'a IndexMap<K, u32, S>,
     indices: &[u32],
@@ -213,7 +218,7 @@ fn element_at<K: Eq + Hash, S: BuildHasher>(
     }
 }
 
-/// Adds a new entry at the end, for which there is room.
+/// Adds a new entry at the end of the table, which has room for it, so the insertion is never refused memory.
 fn put_last<K: Eq + Hash + Copy, S: BuildHasher>(
     table: &mut IndexMap<K, u32, S>,
     key: K,
@@ -254,6 +259,7 @@ fn take_out<K: Eq + Hash + Copy, S: BuildHasher>(
     }
 }
 
+/// Takes out the entry at an index, which the last entry gets. The table may lose room for one entry.
 #[inline(always)]
 fn take_at<K: Eq + Hash + Copy, S: BuildHasher>(
     table: &mut IndexMap<K, u32, S>,
@@ -271,8 +277,8 @@ fn take_at<K: Eq + Hash + Copy, S: BuildHasher>(
     entry
 }
 
-/// The same, in as many steps as there are entries: of these, the second half is taken out, which gives the table its full room again, and
-/// put back without the entry.
+/// Takes out the entry at an index, which the last entry gets, in as many steps as there are entries: the second half of them is taken out,
+/// which gives the table its full room again, and put back without the entry.
 #[cold]
 #[inline(never)]
 fn rebuild_without<K: Eq + Hash + Copy, S: BuildHasher>(
@@ -303,7 +309,7 @@ fn rebuild_without<K: Eq + Hash + Copy, S: BuildHasher>(
     taken
 }
 
-/// Copies the entries from an index on.
+/// Copies the entries from an index on to `rows`, which has none, and room for these.
 fn copy_entries<K: Eq + Hash + Copy, S: BuildHasher>(
     table: &IndexMap<K, u32, S>,
     start: usize,
@@ -323,7 +329,7 @@ fn copy_entries<K: Eq + Hash + Copy, S: BuildHasher>(
     }
 }
 
-/// Adds these entries at the end, for which there is room.
+/// Adds these entries at the end of the table, which has room for them.
 fn put_all<K: Eq + Hash + Copy, S: BuildHasher>(table: &mut IndexMap<K, u32, S>, rows: &[(K, u32)])
     requires room { length rows.now ≤ spare table.old }
     requires apart { AreApart K.eq (table.old.entries ++ rows.now) }

@@ -7,6 +7,7 @@ use Rattle.std.proofs.lemmas.Bool.{cases_lt}
 use Rattle.std.proofs.lemmas.Nat.{pow-add, pow_pos}
 use Rattle.reg_kinds.specs.Many.{bits_in}
 
+-- (x - 1) times y, and y once more, is x times y
 less_one : (x y : ℕ) → 0 < x → (x - 1) * y + y ≡ x * y
 less_one zero y h = absurd (omega arith)
 less_one (suc x) y h =
@@ -15,7 +16,7 @@ less_one (suc x) y h =
     next : (x y : ℕ) → x * y + y ≡ suc x * y
     next x y = grind arith
 
--- a one bits from bit b on, within eight, are a byte
+-- the mask of `a` bits from bit b on, all below bit 8, is below 256
 pub ones_small : (a b : ℕ) → a + b ≤ 8 → (2 ^ a - 1) * 2 ^ b < 256
 ones_small a b h =
     let some : 0 < 2 = omega arith in
@@ -25,7 +26,7 @@ ones_small a b h =
     let one = pow_pos b in
     omega arith
 
--- the mask of the bytes in a slot is a byte
+-- the mask of the bytes in a slot is below 256
 pub bits_in_small : (p n i : ℕ) → bits_in p n i < 256
 bits_in_small p n i =
     let a = min 8 (p + n - 8 * i) - (p - 8 * i) in

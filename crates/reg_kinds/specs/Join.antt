@@ -10,6 +10,8 @@ use Rattle.reg_kinds.specs.declared.facts.Facts.{Facts}
 use Rattle.reg_kinds.specs.Pointers.{offsets_hull}
 use Rattle.reg_kinds.specs.Kinds.{kind_at, slot_at, facts_of}
 
+-- the join of kinds: the hull of two ranges, or of two ranges of offsets into values of one map;
+-- else the kind, if both are the same; otherwise Unreadable
 abbrev pub kind_join : Kind → Kind → Kind
 kind_join (Scalar a) (Scalar b) = Scalar (hull a b)
 kind_join (MapRef m) (MapRef n) = if m == n then MapRef m else Unreadable
@@ -25,11 +27,14 @@ abbrev pub spilled : Kind → Slot
 spilled Unreadable = Bytes 0
 spilled k = Spill k
 
+-- the join of stack slots: the bytes written in both, or the join of two spilled values; else no
+-- byte
 abbrev pub slot_join : Slot → Slot → Slot
 slot_join (Bytes x) (Bytes y) = Bytes (bit_and x y)
 slot_join (Spill j) (Spill k) = spilled (kind_join j k)
 slot_join _ _ = Bytes 0
 
+-- the join of facts: of the kinds of each register, and of each stack slot
 abbrev pub facts_join : Facts → Facts → Facts
 facts_join a b =
     facts_of (λ r. kind_join (kind_at a r) (kind_at b r))
@@ -39,10 +44,11 @@ facts_join a b =
 abbrev pub stack_parts : ℕ
 stack_parts = 8
 
+-- the part of stack slot i
 abbrev pub part_of : ℕ → ℕ
 part_of i = i / 8
 
--- the slots of facts a, those of one part joined with facts b
+-- what is known of stack slot i in facts a; in one part of the stack it is joined with facts b
 abbrev pub part_joined : ℕ → Facts → Facts → ℕ → Slot
 part_joined part a b i =
     if part_of i == part then slot_join (slot_at a i) (slot_at b i) else slot_at a i

@@ -9,6 +9,7 @@ use Rattle.reg_kinds.specs.declared.kind.Slot.{Slot}
 use Rattle.reg_kinds.specs.declared.kind.Slot.TheVariants.{Bytes}
 use Rattle.reg_kinds.specs.declared.facts.Facts.{Facts}
 
+-- a map, or a pointer, possibly null
 abbrev pub is_pointer : Kind → Bool
 is_pointer Unreadable = false
 is_pointer (Scalar r) = false
@@ -16,16 +17,19 @@ is_pointer k = true
 
 -- ---- facts
 
--- the kind of a register, and what is known of a stack slot
+-- the kind of register r; Unreadable past the last one
 abbrev pub kind_at : Facts → ℕ → Kind
 kind_at f r = slice_index_or f.registers r Unreadable
 
+-- what is known of stack slot i; past the last one no byte is written
 abbrev pub slot_at : Facts → ℕ → Slot
 slot_at f i = slice_index_or f.slots i (Bytes 0)
 
+-- the facts with kind k for register r
 abbrev pub with_kind : Facts → ℕ → Kind → Facts
 with_kind f r k = record { registers = slice_set f.registers r k; slots = f.slots }
 
+-- the facts with s for stack slot i
 abbrev pub with_slot : Facts → ℕ → Slot → Facts
 with_slot f i s = record { registers = f.registers; slots = slice_set f.slots i s }
 
@@ -33,20 +37,23 @@ with_slot f i s = record { registers = f.registers; slots = slice_set f.slots i 
 unfoldable pub tabulate : {X : Type 0} → ℕ → (ℕ → X) → List X
 tabulate n f = map f (range_with_len 0 n)
 
--- facts with these registers, with these slots, and with both
+-- the facts with kind k r for each register r
 abbrev pub with_registers : Facts → (ℕ → Kind) → Facts
 with_registers f k = record { registers = tabulate 11 k; slots = f.slots }
 
+-- the facts with s i for each stack slot i
 abbrev pub with_slots : Facts → (ℕ → Slot) → Facts
 with_slots f s = record { registers = f.registers; slots = tabulate stack_slots s }
 
+-- the facts with kind k r for each register r, and s i for each stack slot i
 abbrev pub facts_of : (ℕ → Kind) → (ℕ → Slot) → Facts
 facts_of k s = record { registers = tabulate 11 k; slots = tabulate stack_slots s }
 
--- at program entry: the context in register 1, the frame pointer in register 10, no stack byte
--- written
+-- the kind of register r at program entry: register 1 holds the context, register 10 the frame
+-- pointer
 abbrev pub entry_kind : ℕ → Kind
 entry_kind r = if r == 1 then Ctx else (if r == 10 then Stack (pos 0) else Unreadable)
 
+-- the facts at program entry: no stack byte is written
 abbrev pub entry : Facts
 entry = facts_of entry_kind (λ i. Bytes 0)

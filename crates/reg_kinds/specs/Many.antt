@@ -22,15 +22,18 @@ unfoldable pub any_below : ℕ → (ℕ → Bool) → Bool
 any_below zero test = false
 any_below (suc n) test = test n || any_below n test
 
+-- the slot is a spill, and the bytes of an access touch it (`touched`)
 abbrev pub is_touched_spill : Slot → Bool → Bool
 is_touched_spill (Bytes mask) touched = false
 is_touched_spill (Spill k) touched = touched
 
+-- a byte of the mask may be unwritten; those of a spill are written
 abbrev pub lacks : Slot → ℕ → Bool
 lacks (Bytes mask) bits = not (bit_and mask bits == bits)
 lacks (Spill k) bits = false
 
--- a read of n bytes: all in the stack, none of a spill, none that may be unwritten
+-- a read of n bytes at offset x from the stack's upper end may be done: all lie in the stack, none
+-- in a spill, none may be unwritten; or the first reason against it
 abbrev pub stack_input : Facts → ℤ → ℕ → Result (Unit {0}) Reason
 stack_input f x n =
     if not (is_in_stack x n) then Err OutsideStack else
@@ -39,8 +42,8 @@ stack_input f x n =
     (if any_below stack_slots
     (λ i. lacks (slot_at f i) (bits_in (byte_index x) n i)) then Err UnwrittenStack else Ok tt))
 
--- after a write of lo to hi bytes the first lo count as written, and of a spill that may be touched
--- no other byte does
+-- the facts after a write of lo to hi bytes at offset x: the first lo count as written, and of a
+-- spill that may be touched no other byte does
 abbrev pub filled : Facts → ℤ → ℕ → ℕ → Facts
 filled f x lo hi =
     with_slots f
@@ -49,12 +52,15 @@ filled f x lo hi =
     then bytes_over (slot_at f i) (bits_in (byte_index x) lo i)
     else slot_at f i)
 
+-- the facts after a write of lo to hi bytes at offset x from the stack's upper end; rejected if hi
+-- bytes don't lie in the stack
 abbrev pub stack_filled : Facts → ℤ → ℕ → ℕ → Result Facts Reason
 stack_filled f x lo hi = if is_in_stack x hi then Ok (filled f x lo hi) else Err OutsideStack
 
--- after a call register 0 has its result, and registers 1 to 5 are unreadable
+-- the kind of register r after a call with a result of kind k; registers 1 to 5 are unreadable
 abbrev pub call_kind : Facts → Kind → ℕ → Kind
 call_kind f k r = if r == 0 then k else (if nat_le r 5 then Unreadable else kind_at f r)
 
+-- the facts after a call with a result of kind k
 abbrev pub called_facts : Facts → Kind → Facts
 called_facts f k = with_registers f (call_kind f k)

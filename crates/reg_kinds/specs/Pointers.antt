@@ -4,11 +4,11 @@ use Rattle.std.specs.Int.{int_min, int_max}
 use Rattle.reg_kinds.specs.declared.kind.ValuePointer.{ValuePointer}
 use Rattle.reg_kinds.specs.inside.Offsets.{at_most_max, offsets_ordered}
 
--- at an offset from lo to hi, or only at lo if hi is below it
+-- a pointer into a value of map m, at an offset from lo to hi, or only at lo if hi is below it
 abbrev pub value_span : ℕ → ℤ → ℤ → ValuePointer
 value_span m lo hi = record { map = m; lo = lo; hi = int_max lo hi; ordered = at_most_max lo hi }
 
--- into values of the first one's map, with the least range of offsets that includes both
+-- a pointer into a value of p's map, with the least range of offsets that includes both
 abbrev pub offsets_hull : ValuePointer → ValuePointer → ValuePointer
 offsets_hull p q =
     record {

@@ -4,6 +4,7 @@ use Rattle.std.specs.Prelude.{ℕ, Result, Ok, Err}
 use Rattle.reg_kinds.specs.declared.reason.Reason.{Reason}
 use Rattle.reg_kinds.specs.declared.reason.Reason.TheVariants.{JumpOutside, JumpBackward, FallsOff, Unreachable, UnknownHelper, FramePointerWritten, DescriptorNotOpen, DescriptorNotMap, NoDirectValue, UnreadableRegister, ResultNotScalar, NotPointer, PointerArithmetic, OffsetTooLarge, OutsideStack, UnalignedStack, UnwrittenStack, PartOfSpill, OutsideValue, MaybeNull, ContextAccess, PointerStored, PointerComparison, HelperArgument, LengthUnbounded, UnalignedAtomic, Memory}
 
+-- 1 to 9 for the shape of a program, 20 to 36 for its safety, 40 for memory
 abbrev pub number : Reason → ℕ
 number JumpOutside = 1
 number JumpBackward = 2

@@ -9,25 +9,33 @@ use Rattle.reg_kinds.specs.declared.facts.Facts.{Facts}
 use Rattle.reg_kinds.specs.Kinds.{kind_at, slot_at, facts_of}
 use Rattle.reg_kinds.specs.Pointers.{value_span}
 
--- a copy in a register is then the number 0, or a pointer to the start of a value of map m
+-- the kind of a register with the look-up's result after the test: the number 0 if it is null
+-- (true), else a pointer to the start of a value of map m
 abbrev pub settled_value : Bool → ℕ → Kind
 settled_value true m = Scalar (constant 0)
 settled_value false m = Value (value_span m (pos 0) (pos 0))
 
+-- a register's kind after a null test of the look-up at slot `site`; only copies of its result
+-- change
 abbrev pub kind_settled : ℕ → Bool → Kind → Kind
 kind_settled site null (MaybeValue m s) = if s == site then settled_value null m else MaybeValue m s
 kind_settled site null k = k
 
--- a spilled copy is then eight written bytes, or that pointer
+-- the stack slot of a spilled result after the test: eight written bytes if it is null (true), else
+-- a pointer to the start of a value of map m
 abbrev pub settled_spill : Bool → ℕ → Slot
 settled_spill true m = Bytes 0xff
 settled_spill false m = Spill (Value (value_span m (pos 0) (pos 0)))
 
+-- a stack slot after a null test of the look-up at slot `site`; only spilled copies of its result
+-- change
 abbrev pub slot_settled : ℕ → Bool → Slot → Slot
 slot_settled site null (Spill (MaybeValue m s)) =
     if s == site then settled_spill null m else Spill (MaybeValue m s)
 slot_settled site null s = s
 
+-- the facts after a null test has found that the result of the look-up at slot `site` is null
+-- (true), or is not
 abbrev pub facts_settled : ℕ → Bool → Facts → Facts
 facts_settled site null f =
     facts_of (λ r. kind_settled site null (kind_at f r)) (λ i. slot_settled site null (slot_at f i))

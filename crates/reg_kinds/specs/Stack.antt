@@ -14,11 +14,11 @@ use Rattle.reg_kinds.specs.declared.reason.Reason.TheVariants.{UnreadableRegiste
 use Rattle.reg_kinds.specs.Reason.{and_then_ok}
 use Rattle.reg_kinds.specs.Kinds.{is_pointer, slot_at, with_slot}
 
--- the mask, within their slot, of n bytes at a start
+-- the mask of n bytes from byte index `at` on, within their slot: bit k for byte k
 abbrev pub byte_bits : ℕ → ℕ → ℕ
 byte_bits at n = (2 ^ n - 1) * 2 ^ (at % 8)
 
--- the slot of an access, and the mask of its bytes there
+-- the stack slot of an access and the mask of its bytes there, or the reason why it may not be done
 abbrev pub touched : ℤ → AccessSize → Result (ℕ × ℕ) Reason
 touched offset size =
     if not (is_in_stack offset (bytes_of size)) then Err OutsideStack else
@@ -27,44 +27,49 @@ touched offset size =
 
 -- ---- loads
 
--- the kind of a load of bytes that are no spill
+-- the kind of a load of bytes that are no spill: any word if sign-extended (true), else a number of
+-- this size
 abbrev pub loaded : AccessSize → Bool → Kind
 loaded size true = Scalar (full 64)
 loaded size false = Scalar (full (8 * bytes_of size))
 
+-- the kind of a load from a slot, of the bytes of a mask; a spill is only loaded whole
 abbrev pub read_slot : Slot → ℕ → AccessSize → Bool → Result Kind Reason
 read_slot (Spill k) bits size signed = if is_double size then Ok k else Err PartOfSpill
 read_slot (Bytes mask) bits size signed =
     if bit_and mask bits == bits then Ok (loaded size signed) else Err UnwrittenStack
 
+-- the kind of a load at an offset from the stack's upper end, or the first reason against it
 abbrev pub stack_read : Facts → ℤ → AccessSize → Bool → Result Kind Reason
 stack_read f offset size signed =
     and_then_ok (touched offset size) (λ t. read_slot (slot_at f t.0) t.1 size signed)
 
 -- ---- stores
 
--- the slot after a write of these bytes: other written bytes stay written, a spill is lost
+-- the slot after a write of the bytes of a mask: other written bytes stay written, a spill is lost
 abbrev pub bytes_over : Slot → ℕ → Slot
 bytes_over (Bytes mask) bits = Bytes (bit_or mask bits)
 bytes_over (Spill k) bits = Bytes bits
 
--- the slot after a store; a pointer is spilled whole, or the store is rejected
+-- the slot after a store of a value of kind k to the bytes of a mask; a pointer is spilled whole,
+-- or the store is rejected
 abbrev pub slot_written : Slot → ℕ → AccessSize → Kind → Result Slot Reason
 slot_written s bits size k =
     if is_pointer k
     then (if is_double size then Ok (Spill k) else Err PartOfSpill)
     else Ok (bytes_over s bits)
 
--- the facts after a store
+-- the facts after a store of a value of kind k to slot t.0, to the bytes of mask t.1 there
 abbrev pub facts_written : Facts → AccessSize → Kind → ℕ × ℕ → Result Facts Reason
 facts_written f size k t =
     and_then_ok (slot_written (slot_at f t.0) t.1 size k) (λ s. Ok (with_slot f t.0 s))
 
+-- the facts after a store at an offset from the stack's upper end, or the first reason against it
 abbrev pub stack_write : Facts → ℤ → AccessSize → Kind → Result Facts Reason
 stack_write f offset size Unreadable = Err UnreadableRegister
 stack_write f offset size k = and_then_ok (touched offset size) (facts_written f size k)
 
--- the stack of facts g is that of facts f, except for one slot at most
+-- the stack of facts g is that of facts f, except perhaps for slot i, if one is given
 abbrev pub ChangesAtMost : Option ℕ → Facts → Facts → Type 0
 ChangesAtMost None f g = g.slots ≡ f.slots
 ChangesAtMost (Some i) f g = (i < stack_slots) × ((k : ℕ) → k ≢ i → slot_at g k ≡ slot_at f k)

@@ -10,18 +10,19 @@ use Rattle.reg_kinds.specs.Kinds.{tabulate}
 
 -- ---- a list made of a function
 
--- the element at i is f i
+-- the element at i of a list of f 0 to f (n - 1) is f i
 pub tabulate-at : {X : Type 0} (f : ℕ → X) (n i : ℕ) (d : X)
     → i < n
     → get_or (tabulate n f) i d ≡ f i
 unfolding tabulate
 tabulate-at f n i d h = get_or-map-range_with_len f 0 n i i d h (omega arith)
 
--- its length is n
+-- a list of f 0 to f (n - 1) has length n
 pub length-tabulate : {X : Type 0} (f : ℕ → X) (n : ℕ) → length (tabulate n f) ≡ n
 unfolding tabulate
 length-tabulate f n = length-map-range_with_len f 0 n
 
+-- past the end of the list the default is read
 tabulate-past : {X : Type 0} (f : ℕ → X) (n i : ℕ) (d : X) → n ≤ i → get_or (tabulate n f) i d ≡ d
 tabulate-past f n i d h =
     let l = length-tabulate f n in get_or_past (tabulate n f) i d (omega arith)
@@ -39,6 +40,7 @@ in_table P f n i d here past =
 
 -- ---- a list with one element written
 
+-- what holds of x, and of the default, holds of the element read at i once x is written there
 set-at : {X : Type 0} (P : X → Type 0) (xs : List X) (i : ℕ) (x d : X)
     → P x
     → P d

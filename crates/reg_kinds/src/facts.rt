@@ -45,7 +45,7 @@ impl Facts {
         self.registers[usize::from(reg.number())] = kind;
     }
 
-    /// What is known of a stack slot.
+    /// What is known of stack slot `index`.
     pub(crate) fn slot(&self, index: usize) -> Slot
         requires { index < STACK_SLOTS }
         ensures { result ≡ slot_at self.now index }

@@ -58,7 +58,7 @@ impl Slot {
     }
 }
 
-/// The least range of offsets that includes both.
+/// The join of two pointers into values of one map: the least range of offsets that includes both.
 fn offsets_hull(p: ValuePointer, q: ValuePointer) -> ValuePointer
     ensures { result ≡ offsets_hull p q }
 {
@@ -101,7 +101,7 @@ fn holds_range(a: &Range, b: &Range) -> bool
     a.lo <= b.lo && b.hi <= a.hi
 }
 
-/// Joins the kind `edge` into `known` in place.
+/// Joins the kind `edge` into `known` in place. It is out of line: joins that change nothing are found inline, by `join_kind`.
 #[inline(never)]
 fn join_other_kind(known: &mut Kind, edge: &Kind)
     ensures { known.new ≡ kind_join known.old edge.now }
@@ -113,7 +113,7 @@ fn join_other_kind(known: &mut Kind, edge: &Kind)
     }
 }
 
-/// Joins two kinds. It is out of line, so that `join_other_kind` saves no registers.
+/// Joins the kind `edge` into `known`. It is out of line, so that `join_other_kind` saves no registers.
 #[inline(never)]
 fn join_any_kinds(known: &mut Kind, edge: &Kind)
     ensures { known.new ≡ kind_join known.old edge.now }
@@ -172,7 +172,8 @@ fn holds_offsets(p: &ValuePointer, q: &ValuePointer) -> bool
     p.lo <= q.lo && q.hi <= p.hi
 }
 
-/// Whether both kinds are the context, the same stack offset, the same map, or the result of the same look-up.
+/// Whether both kinds are the context, the same stack offset, the same map, or the result of the same look-up: then their join changes
+/// nothing.
 #[inline(always)]
 fn are_same(known: &Kind, edge: &Kind) -> bool
     ensures kinds { result ≡ true → kind_join known.now edge.now ≡ known.now }
@@ -226,7 +227,8 @@ fn join_slot(known: &mut Slot, edge: &Slot) -> bool
     }
 }
 
-/// Joins stack slots whose join is not the first. The joins that a program can force in many slots are done in place.
+/// Joins the stack slot `edge` into `known`, a spill that may change. The joins that a program can force in many slots are done in place,
+/// the others out of line.
 #[inline(never)]
 fn join_other_slots(known: &mut Slot, edge: &Slot)
     ensures { known.new ≡ slot_join known.old edge.now }
@@ -240,7 +242,7 @@ fn join_other_slots(known: &mut Slot, edge: &Slot)
     }
 }
 
-/// Joins two stack slots. It is out of line, so that `join_other_slots` saves no registers.
+/// Joins the stack slot `edge` into `known`. It is out of line, so that `join_other_slots` saves no registers.
 #[inline(never)]
 fn join_any_slots(known: &mut Slot, edge: &Slot)
     ensures { known.new ≡ slot_join known.old edge.now }

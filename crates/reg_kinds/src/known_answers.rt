@@ -1,4 +1,5 @@
-//! Known answers, proved only from the contracts.
+//! Known answers, proved only from the contracts. Nothing calls these functions. Proofs about registers unfold `tabulate`, by which
+//! the lists in facts are defined.
 
 use crate::{Facts, Kind, Reason, Slot, join, read_stack, settle, write_stack};
 use insn_set::Reg;
@@ -6,9 +7,10 @@ use interval::Range;
 use std::mem::size_of;
 use words::AccessSize;
 
-/// Facts are copied for jumps: they stay small.
+/// Facts are copied for the first jump to a target and for a null test, so they have at most 3,072 bytes.
 const _: () = prove!(size_of::<Facts>() <= 3072);
 
+/// At program entry register 1 holds the context.
 #[tactic(auto, unfolding(crate::specs::Kinds::tabulate))]
 fn registers_at_entry() {
     let facts = Facts::at_entry();
@@ -17,6 +19,7 @@ fn registers_at_entry() {
     prove!(is_context);
 }
 
+/// A join of slots counts the bytes that both have written, and one of facts takes the hull of two ranges.
 #[tactic(auto, unfolding(crate::specs::Kinds::tabulate))]
 fn joins() {
     let both = Slot::Bytes(0x0f).join(Slot::Bytes(0x3c));
@@ -32,6 +35,7 @@ fn joins() {
     prove!(is_hull);
 }
 
+/// A pointer can be stored, and a load of a part of it is then rejected.
 fn a_pointer_is_spilled_whole() {
     let mut facts = Facts::at_entry();
     let stored = write_stack(&mut facts, -8, AccessSize::Double, Kind::Stack(0));
@@ -42,6 +46,7 @@ fn a_pointer_is_spilled_whole() {
     prove!(is_refused);
 }
 
+/// If the result of the look-up at slot 5 is not null (`false`), a register with it is a pointer into a value.
 #[tactic(auto, unfolding(crate::specs::Kinds::tabulate))]
 fn a_null_test_settles() {
     let mut facts = Facts::at_entry();
@@ -52,6 +57,7 @@ fn a_null_test_settles() {
     prove!(is_value);
 }
 
+/// Out of memory is reason 40, and the context counts as a pointer.
 fn numbers_of_reasons() {
     let number = Reason::Memory.number();
     prove!(number == 40);

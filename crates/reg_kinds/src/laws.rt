@@ -31,7 +31,7 @@ pub fn slots_absorb()
     joins_associate();
 }
 
-/// Facts have each slot of the stack.
+/// Facts have each of the 64 slots of the stack.
 #[inline(always)]
 pub fn facts_have_all_slots(facts: &Facts)
     ensures { length facts.now.slots ≡ stack_slots }

@@ -43,7 +43,7 @@ fn bits_in(start: usize, count: usize, index: usize) -> u8
     if from < to { ones(to - from, from) } else { 0 }
 }
 
-/// The start of `count` bytes at `offset` from the stack's upper end; `None` if they don't all lie in the stack.
+/// The byte index at which `count` bytes at `offset` from the stack's upper end start; `None` if they don't all lie in the stack.
 fn start_of(offset: i32, count: u32) -> Option<usize>
     ensures value { result ≡ (if is_in_stack offset count then Some (byte_index offset) else None) }
     ensures within { IfSome result (λ p. p + count ≤ stack_size) }
@@ -75,7 +75,7 @@ fn lacks(slot: Slot, bits: u8) -> bool
     }
 }
 
-/// The slot after the last one that `count` bytes at `start` touch.
+/// The number of the stack slots up to the end of `count` bytes at `start`: the slots from this one on are not touched.
 fn past_touched(start: usize, count: usize) -> usize
     requires { start + count ≤ stack_size }
     ensures bytes { start + count ≤ 8 * result }
@@ -142,7 +142,8 @@ pub fn fill_stack(facts: &mut Facts, offset: i32, least: u32, most: u32) -> Resu
     Ok(())
 }
 
-/// Slot `index` after that write.
+/// Stack slot `index` after a write of `least` to `most` bytes at `start`: the first `least` count as written, and of a spill that may be
+/// touched no other byte does.
 fn filled_slot(slot: Slot, start: usize, least: usize, most: usize, index: usize) -> Slot
     requires least { least < 2 ^ 32 }
     requires within { start + most ≤ stack_size }
@@ -157,6 +158,7 @@ fn filled_slot(slot: Slot, start: usize, least: usize, most: usize, index: usize
     }
 }
 
+/// Sets each stack slot to that after a write of `least` to `most` bytes at `start`.
 fn fill_slots(facts: &mut Facts, start: usize, least: usize, most: usize)
     requires least { least < 2 ^ 32 }
     requires within { start + most ≤ stack_size }
@@ -169,7 +171,7 @@ fn fill_slots(facts: &mut Facts, start: usize, least: usize, most: usize)
     }
 }
 
-/// The kind of `register` after a call.
+/// The kind of `register`, which was `kind`, after a call whose result is of the kind `result_kind`.
 fn called_kind(kind: Kind, result_kind: Kind, register: usize) -> Kind
     ensures { result ≡ (if register == 0 then result_kind
         else (if nat_le register 5 then Unreadable else kind)) }
@@ -183,7 +185,7 @@ fn called_kind(kind: Kind, result_kind: Kind, register: usize) -> Kind
     }
 }
 
-/// The facts after a call whose result is of the kind `given`: register 0 has it, and registers 1 to 5 are unreadable.
+/// Changes the facts to those after a call whose result is of the kind `given`: register 0 has it, and registers 1 to 5 are unreadable.
 pub fn facts_after_call(facts: &mut Facts, given: Kind)
     ensures { facts.new ≡ called_facts facts.old given }
 {

@@ -18,6 +18,8 @@ pub fn settle(facts: &mut Facts, site: usize, null: bool)
     settle_stack(facts, site, null);
 }
 
+/// Settles the kind of each register with the result of the look-up at slot `site`: the number 0 if `null`, else a pointer to the start of
+/// a value.
 fn settle_registers(facts: &mut Facts, site: usize, null: bool)
     ensures { facts.new ≡ with_registers facts.old
         (λ r. kind_settled site null (kind_at facts.old r)) }
@@ -27,6 +29,8 @@ fn settle_registers(facts: &mut Facts, site: usize, null: bool)
     }
 }
 
+/// Settles each stack slot with the spilled result of the look-up at slot `site`: eight written bytes if `null`, else a pointer to the
+/// start of a value.
 fn settle_stack(facts: &mut Facts, site: usize, null: bool)
     ensures { facts.new ≡ with_slots facts.old (λ i. slot_settled site null (slot_at facts.old i)) }
 {
@@ -35,7 +39,8 @@ fn settle_stack(facts: &mut Facts, site: usize, null: bool)
     }
 }
 
-/// Settles the kind of a register.
+/// Settles the kind of a register, if it has the result of the look-up at slot `site`: the number 0 if `null`, else a pointer to the start
+/// of a value.
 #[inline(always)]
 fn settle_kind(kind: &mut Kind, site: usize, null: bool)
     ensures { kind.new ≡ kind_settled site null kind.old }
@@ -52,7 +57,8 @@ fn settle_kind(kind: &mut Kind, site: usize, null: bool)
     }
 }
 
-/// Settles a stack slot.
+/// Settles a stack slot, if it has the spilled result of the look-up at slot `site`: eight written bytes if `null`, else a pointer to the
+/// start of a value.
 #[inline(always)]
 fn settle_slot(slot: &mut Slot, site: usize, null: bool)
     ensures { slot.new ≡ slot_settled site null slot.old }
@@ -69,8 +75,9 @@ fn settle_slot(slot: &mut Slot, site: usize, null: bool)
     }
 }
 
-/// The facts on both edges of a null test of the result of the look-up at slot `site`: `taken` gets those on the edge on which it is
-/// null if `null`, and `facts` those on the other edge. All copies are settled as by `settle`, with one pass over the facts.
+/// Splits the facts before a null test of the look-up at slot `site`: `taken`, whose old facts are lost, gets those on the jumping edge,
+/// `facts` those on the falling edge. `null` is whether the result is null on the jumping edge; on the falling edge it is the opposite. All
+/// copies are settled as by `settle`, with one pass over the facts.
 pub fn settle_both(facts: &mut Facts, taken: &mut Facts, site: usize, null: bool)
     ensures taken { taken.new ≡ facts_settled site null facts.old }
     ensures falls { facts.new ≡ facts_settled site (not null) facts.old }
@@ -79,8 +86,8 @@ pub fn settle_both(facts: &mut Facts, taken: &mut Facts, site: usize, null: bool
     settle_both_stacks(facts, taken, site, null);
 }
 
-/// The registers on both edges of a null test of the result of the look-up at slot `site`: `taken` gets those on the edge on which it is
-/// null if `null`, and `facts` those on the other edge. Stack slots are not changed.
+/// Splits the registers in `facts` before a null test of the look-up at slot `site`: `taken` gets those on the jumping edge, on which the
+/// result is null exactly if `null`, and `facts` those on the falling edge, on which it is the opposite. No stack slot changes.
 fn settle_both_registers(facts: &mut Facts, taken: &mut Facts, site: usize, null: bool)
     ensures taken { taken.new ≡ with_registers taken.old
         (λ r. kind_settled site null (kind_at facts.old r)) }
@@ -93,8 +100,8 @@ fn settle_both_registers(facts: &mut Facts, taken: &mut Facts, site: usize, null
     }
 }
 
-/// The stack slots on both edges of a null test of the result of the look-up at slot `site`: `taken` gets those on the edge on which it is
-/// null if `null`, and `facts` those on the other edge. Registers are not changed.
+/// Splits the stack in `facts` before a null test of the look-up at slot `site`: `taken` gets that on the jumping edge, on which the result
+/// is null exactly if `null`, and `facts` that on the falling edge, on which it is the opposite. No register changes.
 fn settle_both_stacks(facts: &mut Facts, taken: &mut Facts, site: usize, null: bool)
     ensures taken { taken.new ≡ with_slots taken.old
         (λ i. slot_settled site null (slot_at facts.old i)) }
@@ -107,7 +114,8 @@ fn settle_both_stacks(facts: &mut Facts, taken: &mut Facts, site: usize, null: b
     }
 }
 
-/// Settles the kind of a register on both edges.
+/// Settles a register's kind, of which `taken` is a copy: in `taken` for a result of the look-up at slot `site` that is null exactly if
+/// `null`, in `kind` for the opposite.
 #[inline(always)]
 fn settle_both_kinds(kind: &mut Kind, taken: &mut Kind, site: usize, null: bool)
     requires { taken.now ≡ kind.now }
@@ -123,7 +131,8 @@ fn settle_both_kinds(kind: &mut Kind, taken: &mut Kind, site: usize, null: bool)
     }
 }
 
-/// Settles a stack slot on both edges.
+/// Settles a stack slot, of which `taken` is a copy: in `taken` for a result of the look-up at slot `site` that is null exactly if `null`,
+/// in `slot` for the opposite.
 #[inline(always)]
 fn settle_both_slots(slot: &mut Slot, taken: &mut Slot, site: usize, null: bool)
     requires { taken.now ≡ slot.now }

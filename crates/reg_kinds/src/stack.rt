@@ -11,7 +11,7 @@ use crate::reason::Reason;
 use interval::Range;
 use words::{AccessSize, STACK_SIZE};
 
-/// The offset of the stack's lowest byte.
+/// The offset of the stack's lowest byte from its upper end: -512.
 pub(crate) const LOWEST: i32 = -(STACK_SIZE as i32);
 
 /// The kind of a load at `offset` from the stack's upper end, sign-extending if `signed`. The error is the first that
@@ -29,7 +29,8 @@ pub fn read_stack(
     read_slot(facts.slot(index), bits, size, signed)
 }
 
-/// The kind of a load from `slot`, of the bytes of the mask `bits`.
+/// The kind of a load from `slot`, of the bytes of the mask `bits`. A spill is only loaded whole (`PartOfSpill`), and other bytes only if
+/// all are written (`UnwrittenStack`).
 fn read_slot(slot: Slot, bits: u8, size: AccessSize, signed: bool) -> Result<Kind, Reason>
     ensures { result ≡ read_slot slot bits size signed }
 {
@@ -65,7 +66,8 @@ pub fn write_stack(
     Ok(index)
 }
 
-/// The slot of an access, and the mask of its bytes there.
+/// The stack slot of an access at `offset` from the stack's upper end, and the mask of its bytes there. `OutsideStack` if it is not in the
+/// stack, else `UnalignedStack` if it is not aligned to its size.
 fn touched(offset: i32, size: AccessSize) -> Result<(usize, u8), Reason>
     ensures value { result ≡ touched offset size }
     ensures bound { IfOk result (λ t. t.0 < stack_slots) }
@@ -81,7 +83,7 @@ fn touched(offset: i32, size: AccessSize) -> Result<(usize, u8), Reason>
     Ok((start / 8, byte_bits(start, size)))
 }
 
-/// The mask, within their slot, of `size` aligned bytes at `start`.
+/// The mask, within their slot, of `size` aligned bytes from byte index `start` on.
 fn byte_bits(start: usize, size: AccessSize) -> u8
     requires { start % bytes_of size ≡ 0 }
     ensures { result ≡ byte_bits start (bytes_of size) }
@@ -117,7 +119,7 @@ fn zero_extended(size: AccessSize) -> Range
     }
 }
 
-/// The slot after a store of `value` to the bytes of the mask `bits`.
+/// The slot after a store of `value` to the bytes of the mask `bits`. `PartOfSpill` if it stores a part of a pointer.
 fn slot_written(slot: Slot, bits: u8, size: AccessSize, value: Kind) -> Result<Slot, Reason>
     ensures { result ≡ slot_written slot bits size value }
 {

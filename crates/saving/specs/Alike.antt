@@ -10,16 +10,20 @@ use Rattle.tenant.specs.Machine.{Answer}
 
 -- ---- a renaming of handles
 
+-- a map of a program, its descriptor and its handle, with the handle renamed
 abbrev pub moved_map : (ℕ → ℕ) → ℕ × ℕ → ℕ × ℕ
 moved_map move m = (m.0, move m.1)
 
+-- the maps of a program, with their handles renamed
 abbrev pub moved_maps : (ℕ → ℕ) → List (ℕ × ℕ) → List (ℕ × ℕ)
 moved_maps move ms = map (moved_map move) ms
 
+-- an object with the handle of its map, or of each map of a program, renamed
 abbrev pub moved_object : (ℕ → ℕ) → OpenObject → OpenObject
 moved_object move (object.Map handle) = object.Map (move handle)
 moved_object move (object.Program l) = object.Program (record l { maps = moved_maps move l.maps })
 
+-- the objects of a table of descriptors, with their handles renamed
 abbrev pub moved_objects : (ℕ → ℕ) → List (Option OpenObject) → List (Option OpenObject)
 moved_objects move objects = map (option_map (moved_object move)) objects
 
@@ -33,11 +37,11 @@ pub record IsMovedBy (move : ℕ → ℕ) (s t : TenantState) : Type 0 where
   pub apart : (p q : ℕ) → IsSome (live s p) → IsSome (live s q) → move p ≡ move q → p ≡ q
   pub only : (q : ℕ) → IsSome (live t q) → (p : ℕ) × IsSome (live s p) × (move p ≡ q)
 
--- equal up to the handles of maps and the flag
+-- the states are equal up to the handles of maps and the flag of refused memory
 abbrev pub IsAlike : TenantState → TenantState → Type 0
 IsAlike s t = (move : ℕ → ℕ) × IsMovedBy move s t
 
--- the same reply, and states after it that are alike
+-- the same status and the same payload, and states after them that are alike
 pub record IsAlikeAnswer (a b : Answer) : Type 0 where
   pub status : b.status ≡ a.status
   pub payload : b.payload ≡ a.payload

@@ -13,10 +13,12 @@ use Rattle.tenant.specs.Machine.{Answer}
 pub use Rattle.saving.specs.declared.birth.Birth.{Birth}
 pub use Rattle.saving.specs.declared.birth.Birth.TheVariants.{OfMap, OfProgram}
 
+-- the descriptor of a birth
 abbrev pub number : Birth → ℕ
 number (OfMap handle fd) = fd
 number (OfProgram fd) = fd
 
+-- the birth of an object that is opened at descriptor fd
 abbrev pub birth_of : ℕ → OpenObject → Birth
 birth_of fd (object.Map handle) = OfMap handle fd
 birth_of fd (object.Program l) = OfProgram fd
@@ -28,10 +30,12 @@ abbrev pub latest_at : List Birth → ℕ → Option Birth
 latest_at [] fd = None
 latest_at (b ∷ older) fd = if number b == fd then Some b else latest_at older fd
 
+-- it is a birth of the map with this handle
 abbrev pub is_of_map : ℕ → Birth → Bool
 is_of_map handle (OfMap p fd) = p == handle
 is_of_map handle (OfProgram fd) = false
 
+-- it is a birth of a program at descriptor fd
 abbrev pub is_of_program : ℕ → Birth → Bool
 is_of_program fd (OfMap p n) = false
 is_of_program fd (OfProgram n) = n == fd
@@ -47,11 +51,13 @@ IsProgramBorn s older fd =
     (l : LoadedProgram) × (named s.objects fd ≡ Some (object.Program l))
     × AllByRecursion (λ m. (m.0 ≢ fd) × (latest_at older m.0 ≡ Some (OfMap m.1 m.0))) l.maps
 
+-- what a birth requires of the state and of the older births, by the kind of its object
 abbrev pub IsBorn : TenantState → List Birth → Birth → Type 0
 IsBorn s older (OfMap handle fd) = IsMapBorn s older handle
 IsBorn s older (OfProgram fd) = IsProgramBorn s older fd
 
--- the births of an object's maps are older, and no older birth at the descriptor is of a program
+-- a list of births in order: each descriptor is one of 3 to 66, no older birth at it is of a
+-- program, and the births of a program's maps are older than its own
 abbrev pub AreInOrder : TenantState → List Birth → Type 0
 AreInOrder s [] = Unit {0}
 AreInOrder s (b ∷ older) =
@@ -61,7 +67,8 @@ AreInOrder s (b ∷ older) =
     × IsBorn s older b
     × AreInOrder s older
 
--- the births of the live maps and the open programs of a state
+-- the births of the live maps and the open programs of a state; the latest at an open descriptor is
+-- that of its object
 pub record AreBirths (s : TenantState) (births : List Birth) : Type 0 where
   pub order : AreInOrder s births
   pub latest : (fd : ℕ) (o : OpenObject)
@@ -70,24 +77,30 @@ pub record AreBirths (s : TenantState) (births : List Birth) : Type 0 where
 
 -- ---- the births after a command
 
+-- the object of a descriptor is a program
 abbrev pub is_open_program : Option OpenObject → Bool
 is_open_program None = false
 is_open_program (Some (object.Map handle)) = false
 is_open_program (Some (object.Program l)) = true
 
+-- the object of a birth is live: its map, or a program that its descriptor names
 abbrev pub lives : TenantState → Birth → Bool
 lives s (OfMap handle fd) = is_some (live s handle)
 lives s (OfProgram fd) = is_open_program (named s.objects fd)
 
+-- these births, and that of the object at descriptor fd, if there is one, as the latest
 abbrev pub with_birth : ℕ → Option OpenObject → List Birth → List Birth
 with_birth fd None births = births
 with_birth fd (Some o) births = birth_of fd o ∷ births
 
--- the descriptor of a new object is the status of the answer
+-- the births after a command that may open an object, whose descriptor is the status of the answer;
+-- a negative status is an error
 abbrev pub with_opened : ℤ → TenantState → List Birth → List Birth
 with_opened (pos fd) s births = with_birth fd (named s.objects fd) births
 with_opened (negsuc n) s births = births
 
+-- the births after a command: with that of the object that it opened, or, after a close, without
+-- those of objects that are no longer live
 abbrev pub births_after : Command → Answer → List Birth → List Birth
 births_after (map_create kind key value max flags) a births = with_opened a.status a.after births
 births_after (prog_load kind slots) a births = with_opened a.status a.after births

@@ -9,6 +9,6 @@ use Rattle.saving.specs.Restored.{load_of}
 abbrev pub load_frame : ℕ → List Insn → List ℕ
 load_frame tenant code = frame_of tenant (load_of code)
 
--- the reply to it with this status, and without a payload
+-- the reply to the frame that loads the program, with this status and without a payload
 abbrev pub load_reply : ℕ → List Insn → ℤ → List ℕ
 load_reply tenant code status = reply_to (load_frame tenant code) status []

@@ -1,4 +1,5 @@
--- Laws of alike states. This project's own.
+-- Laws of alike states, of births, and of the commands and the frames that restore a state. This
+-- project's own.
 use Rattle.std.specs.Prelude.{◌≡◌, ℕ, ◌+◌, ◌^◌, ◌≤◌, ◌<◌, Bool, List, [], ◌∷◌, length, map, Option, Some}
 use Rattle.std.specs.List.{AllByRecursion}
 use Rattle.command_frames.specs.Command.{Command, prog_test_run}
@@ -29,7 +30,7 @@ AlikeIsBisimulation =
     → HoldsItsMaps s → HoldsItsMaps t → IsAlike s t → Answers refused s command a
     → (b : Answer) × Answers refused t command b × IsAlikeAnswer a b
 
--- states that are alike give each list of frames the same replies
+-- states that are alike give each list of frames the same replies, whether memory is refused or not
 pub record AlikeStatesReplyAlike : Type 0 where
   pub alone : (s t : TenantState) (frames replies : List (List ℕ)) (after : Option TenantState)
       → HoldsItsMaps s
@@ -64,8 +65,8 @@ pub record BirthsAreKept : Type 0 where
       → AreBirths s births
       → length births ≤ most + most_maps
 
--- a new tenant that gets the commands of a save succeeds at each, and is then alike to the saved
--- state
+-- a new tenant to which no memory is refused succeeds at each command of a save, and is then alike
+-- to the saved state
 abbrev pub RestoredIsAlike : Type 0
 RestoredIsAlike =
     (s : TenantState) (births : List Birth)
@@ -73,7 +74,7 @@ RestoredIsAlike =
     → AreBirths s births
     → (t : TenantState) × Leads new_tenant (restored s births) t × IsAlike s t × HoldsItsMaps t
 
--- the owner of a frame is its tenant
+-- the owner of the frame of a command to a tenant is this tenant
 abbrev pub FramesHaveOwners : Type 0
 FramesHaveOwners = (tenant : ℕ) (c : Command) → tenant < 2 ^ 16 → owner (frame_of tenant c) ≡ tenant
 
@@ -88,13 +89,13 @@ FitsFrame input =
 abbrev pub test_run_frame : ℕ → ℕ → BatchInput → List ℕ
 test_run_frame tenant fd input = frame_of tenant (prog_test_run fd input.words input.packet)
 
--- the frames of test runs carry them
+-- test runs that fit into frames have frames, which are parsed as these test runs
 abbrev pub TestRunsHaveFrames : Type 0
 TestRunsHaveFrames =
     (tenant fd : ℕ) (inputs : List BatchInput) → fd < 2 ^ 32 → AllByRecursion FitsFrame inputs
     → AreTestRuns fd (map (test_run_frame tenant fd) inputs) inputs
 
--- a new tenant that gets the commands of a save as frames succeeds at each, and is then alike to
+-- a new tenant to which no memory is refused succeeds at each frame of a save, and is then alike to
 -- the saved state
 abbrev pub RestoredByFrames : Type 0
 RestoredByFrames =
@@ -104,7 +105,7 @@ RestoredByFrames =
     × IsToldAlone (Some new_tenant) (map (frame_of tenant) (restored s births)) replies (Some t)
     × AreGood (map (frame_of tenant) (restored s births)) replies × IsAlike s t × HoldsItsMaps t
 
--- a new tenant can be restored, and each command preserves this
+-- the precondition of restoring holds for a new tenant, and each command preserves it
 pub record RestorableIsKept : Type 0 where
   pub new : IsRestorable new_tenant
   pub kept : (refused : Bool) (s : TenantState) (command : Command) (a : Answer)
@@ -121,7 +122,7 @@ IsHistory s births (c ∷ cs) t later =
     × IsHistory a.after (births_after c a births) cs t later
 
 -- A new tenant succeeds at each of these frames, and from then on it gives each list of frames the
--- replies that this state gives.
+-- replies that this state gives, if no memory is refused.
 abbrev pub IsRestoredBy : TenantState → List (List ℕ) → Type 0
 IsRestoredBy s saved =
     (t : TenantState)
@@ -136,7 +137,7 @@ IsRestoredBy s saved =
     → IsToldAlone (Some t) frames others end
     → others ≡ replies)
 
--- the state after any history is restored
+-- the state after any history of a new tenant is restored by the frames of its save
 abbrev pub HistoriesAreRestored : Type 0
 HistoriesAreRestored =
     (tenant : ℕ) (commands : List Command) (s : TenantState) (births : List Birth)

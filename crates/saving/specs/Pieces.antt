@@ -1,7 +1,7 @@
 -- A list in pieces. This project's own.
 use Rattle.std.specs.Prelude.{ℕ, zero, suc, List, [], ◌∷◌, length, take, drop}
 
--- the pieces of a list, but not more than `most` of them
+-- the first pieces of a list, of `size` elements each, and at most `most` of them
 unfoldable pub first_pieces : {A : Type 0} → ℕ → ℕ → List A → List (List A)
 first_pieces size zero xs = []
 first_pieces size (suc most) [] = []

@@ -25,7 +25,7 @@ abbrev pub IsRecorded : RecordedTenant → Type 0
 IsRecorded t =
     (part : List ℕ) → HoldsItsMaps (tenant_state part t) × AreBirths (tenant_state part t) t.births
 
--- a frame that carries no command changes no births
+-- the births after a frame, by its command; a frame that carries none changes no births
 abbrev pub births_after_frame : Result Command BadFrame → Answer → List Birth → List Birth
 births_after_frame (Err fault) a births = births
 births_after_frame (Ok command) a births = births_after command a births

@@ -33,13 +33,14 @@ pub record IsWholeTable {A : Type 0} (t : Table A) : Type 0 where
   pub indices : t.shape.kind ≡ Array
       → keys_of t.entries ≡ keys_of (indexed (λ i. i) 0 t.shape.max_entries)
 
--- values have the map's value size, too, and no run is in progress
+-- a map with a whole table of keys, whose values have its value size, and no run is in progress
 pub record IsWholeMap (t : Map) : Type 0 where
   pub table : IsWholeTable t
   pub values : AllByRecursion (λ e. length e.1 ≡ t.shape.value_size) t.entries
   pub ended : t.deleted ≡ 0
 
--- the maps with these descriptors and handles, as the verifier reads them, from descriptor fd on
+-- the maps of this list of descriptors and handles, as the verifier reads them: those at the n
+-- descriptors from fd on
 unfoldable pub shapes_from : TenantState → List (ℕ × ℕ) → ℕ → ℕ → List Named
 shapes_from s maps fd zero = []
 shapes_from s maps fd (suc n) =
@@ -57,6 +58,8 @@ pub record IsWholeProgram (s : TenantState) (l : LoadedProgram) : Type 0 where
   pub shaped : l.named ≡ shapes_from s l.maps first_descriptor most
   pub bound : keys_of l.maps ≡ maps_of l.insns
 
+-- the precondition of restoring a state: exactly the maps that an open object names are live, their
+-- areas have no more bytes than a tenant may have, and each map and program can be created again
 pub record IsRestorable (s : TenantState) : Type 0 where
   pub held : HoldsItsMaps s
   pub area : maps_area s.maps ≤ most_bytes

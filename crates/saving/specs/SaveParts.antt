@@ -18,7 +18,7 @@ abbrev pub made_empty : Option Map → List Command
 made_empty None = []
 made_empty (Some t) = create_of t.shape ∷ []
 
--- the commands that put its keys
+-- the commands that put the keys of a live map, with their values, at descriptor fd
 abbrev pub puts_of : ℕ → Option Map → List Command
 puts_of fd None = []
 puts_of fd (Some t) = map (put_of fd) t.entries
@@ -28,7 +28,7 @@ abbrev pub creation : TenantState → Birth → List Command
 creation s (OfMap handle fd) = close fd ∷ made_empty (live s handle)
 creation s (OfProgram fd) = close fd ∷ made_program (named s.objects fd)
 
--- the commands that put the keys of this map; none for a program
+-- the commands that put the keys of a birth's map; none for a program
 abbrev pub key_commands : TenantState → Birth → List Command
 key_commands s (OfMap handle fd) = puts_of fd (live s handle)
 key_commands s (OfProgram fd) = []
@@ -37,7 +37,7 @@ key_commands s (OfProgram fd) = []
 abbrev pub birth_parts : TenantState → Birth → List (List Command)
 birth_parts s b = creation s b ∷ pieces KEYS_OF_PART (key_commands s b)
 
--- all parts, with the oldest birth first
+-- all parts of a save, in which the oldest birth is the first; `births` has the latest first
 abbrev pub parts : TenantState → List Birth → List (List Command)
 parts s births =
     filled most

@@ -11,13 +11,13 @@ use std::alloc::{AllocError, Global};
 use std::marker::Model;
 use tenant::{Errno, OpenObject, Reply, Tenant};
 
-/// The most births: one for each descriptor, and one for each map.
+/// The most births, 80: one for each descriptor, and one for each map.
 const MOST_BIRTHS: usize = MOST + MAPS;
 
 /// A map was created, or a program was loaded, and opened at a descriptor.
 #[derive(Clone, Copy)]
 pub enum Birth {
-    /// The map, and its descriptor.
+    /// The map, and the descriptor at which it was created, which may be closed since.
     OfMap(MapKey, u32),
     /// The descriptor of the program.
     OfProgram(u32),
@@ -68,7 +68,7 @@ impl Births {
         &self.oldest_first
     }
 
-    /// Adds the latest birth. There is room for it.
+    /// Adds the latest birth. There is room for it, since `new` allocated room for all.
     fn push(&mut self, birth: Birth)
         requires { length self.old < MOST_BIRTHS }
         ensures { self.new ≡ birth ∷ self.old }

@@ -10,18 +10,22 @@ use std::alloc::AllocError;
 use tagged_model::MapShape;
 use tenant::type_number;
 
+/// The number of this command in linux/bpf.h (bpf_cmd).
 const MAP_CREATE: u16 = 0;
 
+/// The number of this command in linux/bpf.h (bpf_cmd).
 const MAP_UPDATE_ELEM: u16 = 2;
 
+/// The number of this command in linux/bpf.h (bpf_cmd).
 const PROG_LOAD: u16 = 5;
 
+/// The number of the command that closes a descriptor, which is this project's own.
 const CLOSE: u16 = 256;
 
 /// The type of socket filters (BPF_PROG_TYPE_SOCKET_FILTER).
 const SOCKET_FILTER: u32 = 1;
 
-/// Writes the tenant and the command of a frame, in place of the buffer's contents.
+/// Writes the tenant and the command of a frame, which replaces the buffer's contents.
 fn begin(frame: &mut Vec<u8>, tenant: u16, command: u16) -> Result<(), AllocError>
     ensures { OnOk result (frame.new.items ≡ little_bytes 2 tenant ++ little_bytes 2 command) }
 {
@@ -37,7 +41,7 @@ fn append(frame: &mut Vec<u8>, number: u32) -> Result<(), AllocError>
     frame.extend_from_slice(&number.to_le_bytes())
 }
 
-/// Writes the frame that closes a descriptor, in place of the buffer's contents.
+/// Writes the frame that closes a descriptor, which replaces the buffer's contents.
 pub(crate) fn write_close(frame: &mut Vec<u8>, tenant: u16, fd: u32) -> Result<(), AllocError>
     ensures { OnOk result (frame.new.items ≡ frame_of tenant (close fd)) }
 {
@@ -45,7 +49,7 @@ pub(crate) fn write_close(frame: &mut Vec<u8>, tenant: u16, fd: u32) -> Result<(
     append(frame, fd)
 }
 
-/// Writes the frame that creates a map of this shape.
+/// Writes the frame that creates a map of this shape, with flags 0, which replaces the buffer's contents.
 pub(crate) fn write_create(
     frame: &mut Vec<u8>,
     tenant: u16,
@@ -61,7 +65,7 @@ pub(crate) fn write_create(
     append(frame, 0)
 }
 
-/// Writes the frame that puts a key and its value into a map.
+/// Writes the frame that puts a key and its value into the map at a descriptor, with flags 0 (BPF_ANY), which replaces the buffer's contents.
 pub(crate) fn write_put(
     frame: &mut Vec<u8>,
     tenant: u16,
@@ -78,7 +82,7 @@ pub(crate) fn write_put(
     frame.extend_from_slice(value)
 }
 
-/// Writes the frame that loads the program that these slots spell.
+/// Writes the frame that loads the program that these slots spell, which replaces the buffer's contents.
 pub(crate) fn write_load(frame: &mut Vec<u8>, tenant: u16, slots: &[u8]) -> Result<(), AllocError>
     ensures { OnOk result (frame.new.items ≡ frame_of tenant (prog_load 1 slots.now)) }
 {

@@ -25,19 +25,20 @@ use std::alloc::{AllocError, Global};
 use tagged_model::MapShape;
 use tenant::{OpenObject, Tenant};
 
-/// The slots of the program that keeps a descriptor open: it returns 0.
+/// The two slots of the program that keeps a descriptor open: `r0 = 0` (opcode 0xb7) and `exit` (0x95).
 const FILLER: [u8; 16] = [0xb7, 0, 0, 0, 0, 0, 0, 0, 0x95, 0, 0, 0, 0, 0, 0, 0];
 
 /// Frames to one tenant, each with its length before it.
 #[derive(Drop)]
 pub(crate) struct FrameWriter {
     pub(crate) frames: Vec<u8>,
-    // The frame that was written last.
+    // The frame that was written last. Its memory is used again for the next one.
     frame: Vec<u8>,
+    // The number of the tenant.
     pub(crate) number: u16,
 }
 
-/// Appends a frame with its length before it.
+/// Appends a frame with its length before it, four bytes, little-endian.
 fn append_framed(frames: &mut Vec<u8>, frame: &[u8]) -> Result<(), AllocError>
     ensures { OnOk result (frames.new.items ≡ frames.old.items ++ framed frame.now) }
 {
@@ -46,22 +47,23 @@ fn append_framed(frames: &mut Vec<u8>, frame: &[u8]) -> Result<(), AllocError>
     frames.extend_from_slice(frame)
 }
 
-/// The bytes of a frame that puts a key into a map, but for the key and its value, with the length before it.
+/// The bytes before the key in a frame that puts it into a map: length 4, tenant 2, command 2, descriptor 4, flags 8.
 const PUT_HEAD: usize = 20;
 
-/// The bytes of the frames that open a program at each descriptor, with the lengths before them.
+/// The bytes of the frames that open a program at each descriptor. Each has length 4, tenant 2, command 2, type 4, and two slots.
 const BYTES_OF_LOADS: usize = 28 * MOST;
 
-/// The bytes of the frames that close each descriptor, with the lengths before them.
+/// The bytes of the frames that close all descriptors. Each has length 4, tenant 2, command 2, descriptor 4.
 const BYTES_OF_CLOSES: usize = 12 * MOST;
 
-/// The bytes of the frames that put so many keys into a map of this shape.
+/// The bytes of the frames that put `keys` keys into a map of this shape. Only room is reserved by this number, so it may saturate.
 fn bytes_of_puts(shape: MapShape, keys: usize) -> usize {
     let each = PUT_HEAD + shape.key_size as usize + shape.value_size as usize;
     each.saturating_mul(keys)
 }
 
-/// The element of the last of the first `count` keys of a map, in their order; `None` if they are none. The part has `PART` bytes.
+/// The element of the last of the first `count` keys of a map, in their order, or of its last key if it has fewer; `None` if `count` is 0
+/// or the map has no key. The part has `PART` bytes.
 fn element_before(tenant: &Tenant, map: MapKey, count: usize, part: &[u8]) -> Option<u32>
     requires whole { length part.now ≡ PART }
     ensures { rest_after result (numbered_entries part.now tenant.now.live map)
@@ -78,7 +80,7 @@ fn element_before(tenant: &Tenant, map: MapKey, count: usize, part: &[u8]) -> Op
 }
 
 impl FrameWriter {
-    /// No frames to tenant `number`.
+    /// A writer of frames to tenant `number`, without a frame.
     pub(crate) fn new(alloc: Global, number: u16) -> FrameWriter
         ensures frames { result.frames.items ≡ [] }
         ensures number { result.number ≡ number }
@@ -90,7 +92,7 @@ impl FrameWriter {
         }
     }
 
-    /// Closes a descriptor.
+    /// Appends the frame that closes a descriptor.
     fn close(&mut self, fd: u32) -> Result<(), AllocError>
         ensures written { OnOk result (self.new.frames.items
             ≡ self.old.frames.items ++ framed (frame_of self.old.number (close fd))) }
@@ -100,7 +102,7 @@ impl FrameWriter {
         append_framed(&mut self.frames, &self.frame)
     }
 
-    /// Creates a map of this shape.
+    /// Appends the frame that creates a map of this shape.
     fn create(&mut self, shape: MapShape) -> Result<(), AllocError>
         ensures written { OnOk result (self.new.frames.items
             ≡ self.old.frames.items ++ framed (frame_of self.old.number (create_of shape))) }
@@ -110,7 +112,7 @@ impl FrameWriter {
         append_framed(&mut self.frames, &self.frame)
     }
 
-    /// Puts a key and its value into the map at a descriptor.
+    /// Appends the frame that puts a key and its value into the map at a descriptor.
     fn put(&mut self, fd: u32, key: &[u8], value: &[u8]) -> Result<(), AllocError>
         ensures written { OnOk result (self.new.frames.items
             ≡ self.old.frames.items
@@ -121,7 +123,7 @@ impl FrameWriter {
         append_framed(&mut self.frames, &self.frame)
     }
 
-    /// Loads the program that these slots spell.
+    /// Appends the frame that loads the program that these slots spell.
     fn load(&mut self, slots: &[u8]) -> Result<(), AllocError>
         ensures written { OnOk result (self.new.frames.items
             ≡ self.old.frames.items ++ framed (frame_of self.old.number (prog_load 1 slots.now))) }
@@ -131,12 +133,12 @@ impl FrameWriter {
         append_framed(&mut self.frames, &self.frame)
     }
 
-    /// Opens a program at each descriptor.
+    /// Appends the frames that open a program at each descriptor of a new tenant: 64 loads of `FILLER`.
     fn fill(&mut self) -> Result<(), AllocError>
         ensures written { OnOk result (self.new.frames.items
             ≡ self.old.frames.items ++ frames_of self.old.number (filled most)) }
     {
-        // The frames are not moved while they grow.
+        // Room for all at once, so that the frames are not moved while they grow.
         self.frames.reserve(BYTES_OF_LOADS)?;
         for _ in 0..MOST {
             self.load(&FILLER)?;
@@ -144,7 +146,7 @@ impl FrameWriter {
         Ok(())
     }
 
-    /// Closes a descriptor that is not open.
+    /// Appends the frame that closes a descriptor, if it is not open in the saved tenant. A restored one has it open until then.
     fn close_unless_open(&mut self, tenant: &Tenant, fd: u32) -> Result<(), AllocError>
         ensures written { OnOk result (self.new.frames.items
             ≡ self.old.frames.items ++ frames_of self.old.number
@@ -157,7 +159,7 @@ impl FrameWriter {
         }
     }
 
-    /// Closes each descriptor that is not open.
+    /// Appends the frames that close the descriptors that are not open in the saved tenant.
     fn close_rest(&mut self, tenant: &Tenant) -> Result<(), AllocError>
         ensures written { OnOk result (self.new.frames.items
             ≡ self.old.frames.items ++ frames_of self.old.number
@@ -170,8 +172,8 @@ impl FrameWriter {
         Ok(())
     }
 
-    /// Puts the keys of a map after the one of an element, or the first ones if none is given, in their order and at most `KEYS_OF_PART`.
-    /// The part has `PART` bytes.
+    /// Appends the frames that put keys of a map, with their values, into the map at descriptor `fd`: those after the key of element
+    /// `before`, or the first ones if it is `None`, in their order and at most `KEYS_OF_PART`. The part has `PART` bytes.
     fn put_after(
         &mut self,
         tenant: &Tenant,
@@ -197,7 +199,8 @@ impl FrameWriter {
         Ok(())
     }
 
-    /// Puts the keys of a map from an index on, in their order and at most `KEYS_OF_PART`, if it is live. The part has `PART` bytes.
+    /// Appends the frames that put the keys of a map from index `first` on, with their values, into the map at descriptor `fd`, in their
+    /// order and at most `KEYS_OF_PART`; none if the map is not live. The part has `PART` bytes.
     fn put_keys(
         &mut self,
         tenant: &Tenant,
@@ -216,14 +219,14 @@ impl FrameWriter {
             return Ok(());
         };
         let left = (tenant.key_count(map) as usize).saturating_sub(first);
-        // The frames are not moved while they grow.
+        // Room for all at once, so that the frames are not moved while they grow.
         self.frames
             .reserve(bytes_of_puts(shape, left.min(KEYS_OF_PART)))?;
         let before = element_before(tenant, map, first, part);
         self.put_after(tenant, map, fd, before, part)
     }
 
-    /// Creates a map of the shape of this one, if it is live.
+    /// Appends the frame that creates a map of the shape of this one; none if it is not live.
     fn make_map(&mut self, tenant: &Tenant, map: MapKey) -> Result<(), AllocError>
         ensures written { (part : List ℕ) → OnOk result (self.new.frames.items
             ≡ self.old.frames.items ++ frames_of self.old.number
@@ -235,7 +238,7 @@ impl FrameWriter {
         }
     }
 
-    /// Loads the program at a descriptor, if one is open there.
+    /// Appends the frame that loads the program that a descriptor names; none if it names none.
     fn make_program(&mut self, tenant: &Tenant, alloc: Global, fd: u32) -> Result<(), AllocError>
         ensures written { OnOk result (self.new.frames.items
             ≡ self.old.frames.items ++ frames_of self.old.number
@@ -248,7 +251,8 @@ impl FrameWriter {
         self.load(&slots)
     }
 
-    /// Closes the descriptor of a birth, and creates its object there, a map without keys.
+    /// Appends the frames that close the descriptor of a birth and create its object, a map without keys or a program. It gets this
+    /// descriptor, since all others are open.
     fn make(&mut self, tenant: &Tenant, alloc: Global, birth: Birth) -> Result<(), AllocError>
         ensures written { (part : List ℕ) → OnOk result (self.new.frames.items
             ≡ self.old.frames.items ++ frames_of self.old.number
@@ -266,7 +270,7 @@ impl FrameWriter {
         }
     }
 
-    /// Writes the frames of a part of a save. The tenant's part of the memory has `PART` bytes.
+    /// Appends the frames of the part `wanted` of a save. `part` has the tenant's `PART` bytes of the arena.
     pub(crate) fn write(
         &mut self,
         tenant: &Tenant,

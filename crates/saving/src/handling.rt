@@ -38,7 +38,8 @@ struct HeadedCommand<'a> {
     command: Command<'a>,
 }
 
-/// Executes the command of a frame of a tenant, writes the reply, and keeps the order of births.
+/// Executes the command of a frame of tenant `number`, and writes the reply. MAP_CREATE and PROG_LOAD add the birth of what they open, and
+/// CLOSE removes the births of what is no longer live. A load is verified in `working`.
 fn reply_to_command(
     tenant: &mut Tenant,
     births: &mut Births,
@@ -113,7 +114,8 @@ fn reply_to_command(
 
 impl SavableTenant {
     /// Executes a frame of this tenant, which is what follows the length field and has this head, and writes the reply to
-    /// `reply`. A load works in `working`, the memory for the loads of all tenants; its contents mean nothing.
+    /// `reply`. `tenant` is the number of its part in the arena. A load is verified in `working`, the memory for the loads of all tenants,
+    /// whose contents mean nothing.
     pub fn handle(
         &mut self,
         head: Head,

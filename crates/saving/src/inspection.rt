@@ -1,4 +1,4 @@
-//! What can be seen of a tenant: how much it has, and what its descriptors name.
+//! What can be seen of a tenant: how much it has, what its descriptors name, and what its programs cost.
 
 ghost use Rattle.std.specs.Prelude.{◌≡◌, ℕ, List, IfOk};
 ghost use Rattle.fd_table.specs.Table.{named};
@@ -22,21 +22,21 @@ impl SavableTenant {
         self.tenant.counts()
     }
 
-    /// What a descriptor names at this moment.
+    /// What a descriptor names at this moment: nothing, a map with its shape and its number of keys, or a program with its number of slots.
     pub fn describe(&self, fd: u32) -> Described
         ensures { (part : List ℕ) → result ≡ described (tenant_state part self.now) fd }
     {
         self.tenant.describe(fd)
     }
 
-    /// The cost of the program that a descriptor names; `None` if it names none.
+    /// The cost of the program that a descriptor names, the most instructions and the most calls on its paths; `None` if it names none.
     pub fn program_cost(&self, fd: u32) -> Option<Cost>
         ensures { HasCost (named self.now.kept.objects fd) result }
     {
         self.tenant.program_cost(fd)
     }
 
-    /// The open descriptors and their objects, as the verifier sees them. `AllocError`: out of memory.
+    /// The open descriptors and their objects, as the verifier sees them: a map by its shape, or a program. `AllocError`: out of memory.
     pub fn targets(&self, alloc: Global) -> Result<Vec<Named>, AllocError>
         ensures { IfOk result (λ found. (part : List ℕ) →
             found.items ≡ targets (tenant_state part self.now)) }

@@ -17,7 +17,7 @@ use crate::savable::SavableTenant;
 use std::alloc::Global;
 use tenant::{Errno, Reply, Verified};
 
-/// The status of the reply to a command, or of its error.
+/// The status of the reply to a command: a new descriptor, the negated number of an error, else 0.
 fn status_of(reply: &Result<Reply<'_>, Errno>) -> i32
     requires { IsWritable reply.now }
     ensures { (s : TenantState) → result ≡ (shown_answer reply.now s).status }
@@ -32,7 +32,8 @@ fn status_of(reply: &Result<Reply<'_>, Errno>) -> i32
 
 impl SavableTenant {
     /// Opens a program that was verified elsewhere, as the frame that loads it does, and returns the status of the reply, which has no
-    /// payload. If the program does not fit the tenant's descriptors (`Tenant::install`), it is given back, and nothing has changed.
+    /// payload. If a descriptor of its maps names no map of the shape with which it was accepted, it is given back, and nothing has
+    /// changed.
     pub fn install(&mut self, alloc: Global, program: Box<Verified>) -> Result<i32, Box<Verified>>
         ensures replied { IfOk result (λ status. (number : ℕ) (part : List ℕ) → MayReply
             (load_frame number program.value.code) (load_reply number program.value.code status)
@@ -51,6 +52,7 @@ impl SavableTenant {
     {
         maps_are_held();
         births_are_kept();
+        // For its contract only: the instructions are a program.
         program.program().code();
         match self.tenant.install(alloc, program) {
             Ok(reply) => {

@@ -1,5 +1,5 @@
-//! Laws of states that are alike, of the order of births, and of the commands that restore a state. Each law is the contract of a
-//! function that does nothing.
+//! Laws of states that are alike, of the order of births, and of the commands that restore a state. States are alike if they differ
+//! only in the handles of their maps and in the flag of refused memory. Each law is the contract of a function that does nothing.
 
 ghost use Rattle.saving.specs.SaveParts.{PartsAreWhole};
 ghost use Rattle.saving.specs.Laws.{MapsAreHeld, AlikeIsBisimulation, AlikeStatesReplyAlike, BirthsAreKept, RestorableIsKept, RestoredIsAlike, FramesHaveOwners, TestRunsHaveFrames, RestoredByFrames, HistoriesAreRestored};
@@ -30,7 +30,7 @@ pub fn births_are_kept()
     maps_are_held();
 }
 
-/// A new tenant can be restored, and each command preserves this.
+/// The precondition of restoring a state (`IsRestorable`) holds for a new tenant, and each command preserves it.
 pub fn restorable_is_kept()
     ensures { RestorableIsKept }
 {
@@ -38,7 +38,7 @@ pub fn restorable_is_kept()
     verifier::laws::loaded_maps_have_shapes();
 }
 
-/// A new tenant that gets the commands of a save succeeds at each, and is then alike to the saved state.
+/// A new tenant to which no memory is refused succeeds at each command of a save, and is then alike to the saved one.
 pub fn restored_is_alike()
     ensures { RestoredIsAlike }
 {
@@ -47,17 +47,17 @@ pub fn restored_is_alike()
     verifier::laws::maps_are_listed();
 }
 
-/// The owner of a frame is its tenant.
+/// The frame of a command to a tenant has this tenant as its owner, the number in its first two bytes.
 pub fn frames_have_owners()
     ensures { FramesHaveOwners }
 {}
 
-/// Each test run that fits into a frame has one, which is read as this test run.
+/// Each test run with ten words of context and a packet that is not too long has a frame, which is parsed as this test run.
 pub fn test_runs_have_frames()
     ensures { TestRunsHaveFrames }
 {}
 
-/// A new tenant that gets the commands of a save as frames succeeds at each, and is then alike to the saved state.
+/// A new tenant to which no memory is refused succeeds at each frame of a save, and is then alike to the saved one.
 pub fn restored_by_frames()
     ensures { RestoredByFrames }
 {

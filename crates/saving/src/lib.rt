@@ -21,8 +21,8 @@
 //!   it does not fit and is given back: `replied`, `recorded`, `no_fault`, `fits`, `stale` of `SavableTenant::install`.
 //! - Many packets are run as `Tenant::run_packets` promises, and the births are unchanged: `runs`, `refusal`, `births`,
 //!   `unchanged` of `SavableTenant::run_packets`.
-//! - Counts, descriptors and their objects are those of `Tenant`, and nothing changes: `counts`, `describe`, `targets` of
-//!   `SavableTenant`.
+//! - Counts, descriptors and their objects, the cost of a program, and the packets that a bound allows a batch are those of `Tenant`, and
+//!   nothing changes: `counts`, `describe`, `targets`, `program_cost`, `allowed_packets` of `SavableTenant`.
 //!
 //! Saves:
 //!

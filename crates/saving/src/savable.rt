@@ -62,8 +62,8 @@ impl SavableTenant {
         self.tenant.memory_was_refused()
     }
 
-    /// The frames of one part of a save, which are frames of tenant `number`, each with its length before it; `None` after the
-    /// last part, and if the tenant's part of the memory does not have `PART` bytes.
+    /// The frames of part `index` of a save, from 0: frames of tenant `number`, each with its length before it. `None` after the last
+    /// part, and if `part`, the bytes of the tenant in the arena, are not `PART` bytes.
     ///
     /// A new tenant that is given the frames of all parts in their order then replies as this one does. Between two parts nothing may
     /// change in this tenant, but other tenants may be served. Part 0 opens a program at each descriptor. For each object, in the order of
@@ -95,7 +95,9 @@ impl SavableTenant {
         Ok(Some(writer.frames))
     }
 
-    /// The number of packets that a bound on executed instructions allows a batch, as `Tenant::allowed_packets` says.
+    /// The number of packets that a batch of `packets` may have, of the program at a descriptor, so that its runs execute at most `bound`
+    /// instructions by the cost of the program, in which a call of a helper counts for more (`Tenant::allowed_packets`): at least one. All
+    /// if the bound is 0, and if the descriptor names no program: such a batch is rejected.
     pub fn allowed_packets(&self, fd: u32, bound: u64, packets: usize) -> usize
         ensures allowed { IsAllowed (named self.now.kept.objects fd) bound packets result }
         ensures few { result ≤ packets }
@@ -103,7 +105,8 @@ impl SavableTenant {
         self.tenant.allowed_packets(fd, bound, packets)
     }
 
-    /// Runs the program at a descriptor on the packets of a batch, as `Tenant::run_packets` does.
+    /// Runs the program at a descriptor on the packets of a batch, one after another, and writes the results to the front of `results`,
+    /// whose rest is unchanged. `tenant` is the number of the tenant's part in the arena.
     ///
     /// # Errors
     ///

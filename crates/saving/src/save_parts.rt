@@ -12,14 +12,14 @@ use tenant::Tenant;
 /// The most keys that one part of a save puts into a map.
 pub(crate) const KEYS_OF_PART: usize = 1_024;
 
-/// What a part of a save does.
+/// What the frames of a part of a save do.
 #[derive(Clone, Copy)]
 pub(crate) enum SavePart {
     /// Opens a program at each descriptor.
     Filling,
     /// Closes the descriptor of a birth and creates its object there, a map without keys.
     Creation(Birth),
-    /// Puts keys of a map into the map at a descriptor: at most `KEYS_OF_PART`, from the key with this index on.
+    /// Puts keys of this map into the map at this descriptor: at most `KEYS_OF_PART`, from the key with this index on.
     Keys(MapKey, u32, usize),
     /// Closes the descriptors that are not open.
     Closing,
@@ -40,14 +40,14 @@ fn key_count(tenant: &Tenant, birth: Birth) -> usize
     }
 }
 
-/// The number of parts of a birth.
+/// The number of parts of a birth: one creates its object, each other one puts at most `KEYS_OF_PART` of its keys.
 fn count_of_parts(tenant: &Tenant, birth: Birth) -> usize
     ensures { (part : List ℕ) → result ≡ length (birth_parts (state_in part tenant.now) birth) }
 {
     1 + key_count(tenant, birth).div_ceil(KEYS_OF_PART)
 }
 
-/// The part of a birth at an index among the parts of this birth; `None` if it has no more.
+/// The part of a birth at an index among the parts of this birth: part 0 creates its object, the others put keys. `None` if it has no more.
 fn part_of_birth(tenant: &Tenant, birth: Birth, index: usize) -> Option<SavePart>
     ensures { (part : List ℕ) → option_map (part_commands (state_in part tenant.now)) result
         ≡ slice_get (birth_parts (state_in part tenant.now) birth) index }
@@ -58,6 +58,7 @@ fn part_of_birth(tenant: &Tenant, birth: Birth, index: usize) -> Option<SavePart
     let Birth::OfMap(map, fd) = birth else {
         return None;
     };
+    // If it saturates, no map has so many keys.
     let first = piece.saturating_mul(KEYS_OF_PART);
     if first < key_count(tenant, birth) {
         Some(SavePart::Keys(map, fd, first))

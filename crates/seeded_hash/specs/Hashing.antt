@@ -19,7 +19,7 @@ started seed = record { state = seed.state; factor = seed.factor }
 unfoldable pub folded_product : ℕ → ℕ → ℕ
 folded_product a b = bit_xor (bit_and (a * b) (2 ^ 64 - 1)) (a * b / 2 ^ 64)
 
--- the four bytes from i on, little-endian
+-- the number of the four bytes from i on, little-endian
 unfoldable pub half_at : List ℕ → ℕ → ℕ
 half_at bs i =
     slice_index bs i + slice_index bs (i + 1) * 256 + slice_index bs (i + 2) * 65536
@@ -29,11 +29,12 @@ half_at bs i =
 abbrev pub shifted : ℕ → ℕ → ℕ
 shifted x by = (x * 2 ^ by) % 2 ^ 64
 
--- the eight bytes from i on, little-endian
+-- the number of the eight bytes from i on, little-endian
 unfoldable pub word_at : List ℕ → ℕ → ℕ
 word_at bs i = bit_or (half_at bs i) (shifted (half_at bs (i + 4)) 32)
 
--- at most eight bytes as one number
+-- at most eight bytes as one number: of the first and last four, or of one to three bytes the
+-- first, the middle and the last
 unfoldable pub short_word : List ℕ → ℕ
 short_word bs =
     let n = length bs in
@@ -44,7 +45,7 @@ short_word bs =
     (shifted (slice_index bs (n - 1)) 16)
     else 0)
 
--- the state after the words at i and at j
+-- the state after the words of eight bytes at i and at j
 abbrev pub mixed : ℕ → List ℕ → ℕ → ℕ → ℕ → ℕ
 mixed factor bs state i j =
     folded_product (bit_xor (word_at bs i) state) (bit_xor (word_at bs j) factor)
@@ -55,7 +56,8 @@ blocks_mixed factor bs state zero = state
 blocks_mixed factor bs state (suc n) =
     mixed factor bs (blocks_mixed factor bs state n) (16 * n) (16 * n + 8)
 
--- the hasher after a write
+-- the hasher after a write: of at most eight bytes by one product, of more by blocks of sixteen,
+-- the last sixteen bytes, and one product more
 unfoldable pub written : SeededHasher → List ℕ → SeededHasher
 written h bs =
     let n = length bs in

@@ -42,7 +42,8 @@ use std::io;
 use std::random::RandomSource;
 
 /// The seed of the hash function, which makes its hashers. No contract of a map mentions it: what a map returns does not depend
-/// on its seed, only the time that it takes does. It has no `Debug`, so that it is not printed.
+/// on its seed, only the time that it takes does. A hasher begins with `state`, and `factor` is in each of its products. The seed
+/// has no `Debug`, so that it is not printed.
 #[derive(Clone, Copy, Drop)]
 pub struct HashSeed {
     state: u64,
@@ -67,7 +68,7 @@ impl HashSeed {
         }
     }
 
-    /// The seed of sixteen random bytes of the system.
+    /// The seed of sixteen bytes of a source of random bytes, such as the system's.
     ///
     /// # Errors
     ///
@@ -107,6 +108,7 @@ impl Hasher for SeededHasher {
 
     ghost finish = { hashing.finished };
 
+    // The state is the hash: no bytes are left to mix.
     #[inline(always)]
     fn finish(&self) -> u64 {
         self.state
@@ -129,6 +131,7 @@ impl Hasher for SeededHasher {
             );
             at += 16;
         }
+        // The last sixteen bytes, or of fewer the first eight and the last eight: they may overlap what was read before.
         let last = folded_product(
             word_at(bytes, len.saturating_sub(16)) ^ state,
             word_at(bytes, len - 8) ^ self.factor,
@@ -146,7 +149,7 @@ fn folded_product(a: u64, b: u64) -> u64
     (product & 0xFFFF_FFFF_FFFF_FFFF) as u64 ^ (product >> 64) as u64
 }
 
-/// Four bytes as a number, little-endian.
+/// The four bytes from offset `at` on as a number, little-endian.
 #[inline(always)]
 fn half_at(bytes: &[u8], at: usize) -> u64
     requires { at + 4 ≤ length bytes.now }
@@ -155,7 +158,7 @@ fn half_at(bytes: &[u8], at: usize) -> u64
     u32::from_le_bytes([bytes[at], bytes[at + 1], bytes[at + 2], bytes[at + 3]]) as u64
 }
 
-/// Eight bytes as a number, little-endian.
+/// The eight bytes from offset `at` on as a number, little-endian.
 #[inline(always)]
 fn word_at(bytes: &[u8], at: usize) -> u64
     requires { at + 8 ≤ length bytes.now }
@@ -164,7 +167,8 @@ fn word_at(bytes: &[u8], at: usize) -> u64
     half_at(bytes, at) | half_at(bytes, at + 4) << 32
 }
 
-/// At most eight bytes as one number, by reads that may overlap.
+/// At most eight bytes as one number, by reads that may overlap: the first and last four, or of one to three bytes the first, the middle
+/// and the last.
 #[inline(always)]
 fn short_word(bytes: &[u8]) -> u64
     ensures { result ≡ hashing.short_word bytes.now }

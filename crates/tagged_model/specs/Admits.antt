@@ -28,7 +28,7 @@ pub record Witness : Type 0 where
 abbrev pub IsScalarOf : Range → Tagged → Type 0
 IsScalarOf r v = (n : ℕ) × (v ≡ Scalar n) × IsMember n r × (n < 2 ^ 64)
 
--- a pointer into a value of the map, at an offset in the known range
+-- a pointer into a value of the map, an object that it has had, at an offset in the known range
 abbrev pub IsValueOf : Witness → ValuePointer → Tagged → Type 0
 IsValueOf witness p v =
     (number : ℕ)
@@ -44,6 +44,7 @@ IsLookup witness m v =
     (v ≡ Scalar 0)
     ⊎ ((number : ℕ) × (v ≡ Pointer (object.Value m number) (pos 0)) × (number < witness.objects m))
 
+-- the value is of this kind; a look-up has the result that the witness gives for its site
 abbrev pub IsOfKind : Witness → Kind → Tagged → Type 0
 IsOfKind witness kind.Unreadable v = Unit {0}
 IsOfKind witness (kind.Scalar r) v = IsScalarOf r v
@@ -55,22 +56,25 @@ IsOfKind witness (kind.MaybeValue m site) v = (v ≡ witness.gave site) × IsLoo
 
 -- ---- registers: nothing is known of one that may not be read
 
+-- the register has a value of this kind, if it may be read
 abbrev pub HasKind : Witness → Kind → Option Tagged → Type 0
 HasKind witness kind.Unreadable o = Unit {0}
 HasKind witness k o = (v : Tagged) × (o ≡ Some v) × IsOfKind witness k v
 
 -- ---- stack slots
 
--- a value that a slot keeps whole
+-- a value that a cell keeps whole: no number
 abbrev pub IsKeptWhole : Tagged → Type 0
 IsKeptWhole (Scalar n) = ⊥
 IsKeptWhole (Map m) = Unit {0}
 IsKeptWhole (Pointer o x) = Unit {0}
 
+-- the cell keeps a value of this kind whole
 abbrev pub HoldsWhole : Witness → Kind → Cell → Type 0
 HoldsWhole witness k c = (v : Tagged) × (c ≡ holds v) × IsOfKind witness k v × IsKeptWhole v
 
--- eight zero bytes represent the null of a look-up
+-- the kind is that of a look-up which gave null, and the cell has eight zero bytes, which represent
+-- it
 abbrev pub HoldsNull : Witness → Kind → Cell → Type 0
 HoldsNull witness (kind.MaybeValue m site) c =
     (witness.gave site ≡ Scalar 0) × ((j : ℕ) → j < 8 → byte_at c j ≡ Some 0)
@@ -80,17 +84,19 @@ HoldsNull witness _ c = ⊥
 abbrev pub HasBytes : ℕ → Cell → Type 0
 HasBytes mask c = (j : ℕ) → j < 8 → bit_at mask j ≡ 1 → (b : ℕ) × (byte_at c j ≡ Some b)
 
+-- the cell is what is known of its slot: it has the written bytes, or a spilled value of the kind
 abbrev pub HasSlot : Witness → Slot → Cell → Type 0
 HasSlot witness (Bytes mask) c = HasBytes mask c
 HasSlot witness (Spill k) c = HoldsWhole witness k c ⊎ HoldsNull witness k c
 
 -- ---- states
 
--- the number of objects that a map has had
+-- the number of objects that a map has had, 0 if there is no map
 abbrev pub objects_of : Option RunMap → ℕ
 objects_of None = 0
 objects_of (Some t) = t.count
 
+-- the facts admit the state, with the results of look-ups that the witness gives
 pub record AdmitsBy (witness : Witness) (f : Facts) (s : RunState) : Type 0 where
   pub registers : (r : ℕ) → HasKind witness (kind_at f r) (s.registers r)
   pub slots : (i : ℕ) → HasSlot witness (slot_at f i) (s.cells i)
@@ -102,14 +108,17 @@ Admits f s = (witness : Witness) × AdmitsBy witness f s
 
 -- ---- all sites in the facts are slots below n
 
+-- if the kind is that of a look-up, its site is a slot below n
 abbrev pub IsKindBelow : ℕ → Kind → Type 0
 IsKindBelow n (kind.MaybeValue m site) = site < n
 IsKindBelow n k = Unit {0}
 
+-- if the stack slot has a spilled look-up, its site is a slot below n
 abbrev pub IsSlotBelow : ℕ → Slot → Type 0
 IsSlotBelow n (Bytes mask) = Unit {0}
 IsSlotBelow n (Spill k) = IsKindBelow n k
 
+-- all sites in the facts are slots below n
 pub record AreBelow (n : ℕ) (f : Facts) : Type 0 where
   pub registers : (r : ℕ) → IsKindBelow n (kind_at f r)
   pub slots : (i : ℕ) → IsSlotBelow n (slot_at f i)

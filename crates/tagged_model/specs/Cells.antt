@@ -19,6 +19,7 @@ abbrev pub and_then : {A B : Type 0} → Option A → (A → Option B) → Optio
 and_then None f = None
 and_then (Some x) f = f x
 
+-- byte j of a cell, if it is present; a value kept whole has no bytes
 abbrev pub byte_at : Cell → ℕ → Option ℕ
 byte_at (holds v) j = None
 byte_at (bytes b) j = b j
@@ -29,15 +30,16 @@ gathered byte p zero = Some []
 gathered byte p (suc n) =
     and_then (byte p) (λ b. and_then (gathered byte (suc p) n) (λ bs. Some (b ∷ bs)))
 
--- a loaded number as a word: sign-extended, or zero-extended
+-- a loaded number as a word: sign-extended (true), or zero-extended
 abbrev pub widened : AccessSize → Bool → ℕ → ℕ
 widened size true n = sign_extend 64 (8 * bytes_of size) n
 widened size false n = n
 
+-- the number of these bytes, if there are any, as a word: sign-extended (true), or zero-extended
 abbrev pub number_from : AccessSize → Bool → Option (List ℕ) → Option Tagged
 number_from size signed o = option_map (λ bs. Scalar (widened size signed (number_of bs))) o
 
--- the value of a load; None for a part of a value kept whole
+-- the value of a load at byte j of a cell; None for a part of a value kept whole, or an absent byte
 abbrev pub read_cell : Cell → ℕ → AccessSize → Bool → Option Tagged
 read_cell (holds v) j Double signed = Some v
 read_cell (holds v) j _ signed = None
@@ -49,14 +51,14 @@ written_over c j bs =
     bytes
     (λ k. if nat_le j k && nat_lt k (j + length bs) then slice_get bs (k - j) else byte_at c k)
 
--- the cell after a store; None for a store of a part of a pointer or map
+-- the cell after a store of v at its byte j; None for a store of a part of a pointer or map
 abbrev pub write_cell : Cell → ℕ → AccessSize → Tagged → Option Cell
 write_cell c j size (Scalar n) = Some (written_over c j (low_bytes (bytes_of size) n))
 write_cell c j Double v = Some (holds v)
 write_cell c j _ v = None
 
--- slot i of the stack after these bytes are written at index p of the stack; if they touch it, a
--- value kept whole is lost
+-- cell c, stack slot i, after these bytes are written at byte index p of the stack; if they touch
+-- it, a value kept whole is lost
 abbrev pub cell_over : ℕ → Cell → ℕ → List ℕ → Cell
 cell_over i c p bs =
     if touches p (length bs) i

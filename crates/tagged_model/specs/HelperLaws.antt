@@ -22,6 +22,7 @@ use Rattle.tagged_model.specs.Helpers.{id_of, known_helpers, helper_of, MapReply
 
 -- ---- the number
 
+-- what `find` returns passes the test
 found_passes : {A : Type 0} (test : A → Bool) (xs : List A) (x : A)
     → find test xs ≡ Some x
     → test x ≡ true
@@ -71,21 +72,23 @@ pub record IsAfterCall (s t : RunState) : Type 0 where
   pub words : t.words ≡ s.words
   pub maps : (m : ℕ) → EntryAfterCall (s.maps m) (t.maps m)
 
--- the state after a call, if there is one
+-- the state that a call leaves, if there is one, is a state after a call from s
 abbrev pub LeavesAfterCall : RunState → Option RunState → Type 0
 LeavesAfterCall s None = Unit {0}
 LeavesAfterCall s (Some t) = IsAfterCall s t
 
 -- ---- a state and its parts
 
+-- an unchanged entry is one after a call
 entry_same : (o : Option RunMap) → EntryAfterCall o o
 entry_same None = tt
 entry_same (Some t) = unchanged
 
+-- an unchanged state is one after a call
 state_same : (s : RunState) → IsAfterCall s s
 state_same s = record { words = refl; maps = λ m. entry_same (s.maps m) }
 
--- one map changes
+-- if one map changes as by a call, each entry is one after a call
 entry_set : (s : RunState) (m : ℕ) (t u : RunMap)
     → s.maps m ≡ Some t
     → MapAfterCall t u
@@ -98,16 +101,18 @@ entry_set s m t u there change k =
     (sym (ap s.maps (eqb-true k m b) ∙ there)) change)
     (λ _. entry_same (s.maps k))
 
--- the state with the map of descriptor m replaced by that map after a call is one after a call
+-- the state is one after a call, if the map of descriptor m is replaced by that map after a call
 map_changed : (s : RunState) (m : ℕ) (t u : RunMap)
     → s.maps m ≡ Some t
     → MapAfterCall t u
     → IsAfterCall s (with_map s m u)
 map_changed s m t u there change = record { words = refl; maps = entry_set s m t u there change }
 
+-- a state after a call is also one with a result in register 0
 returned : (s t : RunState) (v : Tagged) → IsAfterCall s t → IsAfterCall s (returns t v)
 returned s t v h = record { words = h.words; maps = h.maps }
 
+-- the state is one after a call, if map m and register 0 are replaced by those of the reply
 replied : (s : RunState) (m : ℕ) (t : RunMap) (reply : MapReply)
     → s.maps m ≡ Some t
     → MapAfterCall t reply.map
@@ -117,12 +122,14 @@ replied s m t reply there change = record {
   maps = entry_set s m t reply.map there change;
 }
 
+-- a computation of two parts leaves a state after a call, if its second part does
 then_leaves : {A : Type 0} (s : RunState) (o : Option A) (f : A → Option RunState)
     → ((x : A) → o ≡ Some x → LeavesAfterCall s (f x))
     → LeavesAfterCall s (and_then o f)
 then_leaves s None f h = tt
 then_leaves s (Some x) f h = h x refl
 
+-- a state after a call, if there is one, is also one with a result in register 0
 return_leaves : (s : RunState) (o : Option RunState) (v : Tagged)
     → LeavesAfterCall s o
     → LeavesAfterCall s (and_then o (λ t. Some (returns t v)))
@@ -131,7 +138,8 @@ return_leaves s (Some t) v h = returned s t v h
 
 -- ---- arguments
 
--- a map is the one of its descriptor
+-- a call that continues with a map argument leaves a state after a call, if it does for each map of
+-- the state
 map_leaves : (s : RunState) (r : ℕ) (f : GivenMap → Option RunState)
     → ((m : ℕ) (t : RunMap)
     → s.maps m ≡ Some t
@@ -154,7 +162,7 @@ map_leaves s r f h = by (argument s r map_given)
     by None = tt
     by (Some m) = at m (s.maps m) refl
 
--- these bytes, if there are any, are n
+-- the number of bytes is n, if there are any bytes
 abbrev HasLength : ℕ → Option (List ℕ) → Type 0
 HasLength n None = Unit {0}
 HasLength n (Some bs) = length bs ≡ n
@@ -172,17 +180,20 @@ gathered_long byte p (suc n) = by (byte p) (gathered byte (suc p) n) (gathered_l
     by (Some b) None h = tt
     by (Some b) (Some bs) h = ap suc h
 
+-- a read of n bytes of a value gives n bytes
 value_long : (value : List ℕ) (y : ℤ) (n : ℕ) → HasLength n (value_bytes value y n)
 value_long value (pos y) n =
     cond_both (nat_le (y + n) (length value)) (Some (bytes_at value y n)) None (HasLength n)
     (λ fits. length-bytes_at value y n (leb-true (y + n) (length value) fits)) (λ _. tt)
 value_long value (negsuc y) n = tt
 
+-- a read of n bytes of an object gives n bytes
 object_long : (o : Option RunMap) (number : ℕ) (y : ℤ) (n : ℕ)
     → HasLength n (and_then o (λ t. value_bytes (t.values number) y n))
 object_long None number y n = tt
 object_long (Some t) number y n = value_long (t.values number) y n
 
+-- a helper that reads n bytes gets n bytes
 input_long : (s : RunState) (p : Tagged) (n : ℕ) → HasLength n (input s p n)
 input_long s (Pointer object.Stack x) n =
     cond_both (is_in_stack x n) (gathered (stack_byte s) (byte_index x) n) None (HasLength n)
@@ -190,7 +201,8 @@ input_long s (Pointer object.Stack x) n =
 input_long s (Pointer (object.Value m number) x) n = object_long (s.maps m) number x n
 input_long s p n = tt
 
--- a helper reads as many bytes as it requests
+-- a call that continues with n bytes at argument r leaves a state after a call, if it does for any
+-- n bytes
 bytes_leave : (s : RunState) (r n : ℕ) (f : List ℕ → Option RunState)
     → ((bs : List ℕ) → length bs ≡ n → LeavesAfterCall s (f bs))
     → LeavesAfterCall s (and_then (argument s r (λ p. input s p n)) f)
@@ -204,6 +216,7 @@ bytes_leave s r n f h = by (s.registers r)
     by None = tt
     by (Some p) = read (input s p n) (input_long s p n)
 
+-- a write of a helper leaves a state after a call
 output_leaves : (s : RunState) (p : Tagged) (bs : List ℕ) → LeavesAfterCall s (output s p bs)
 output_leaves s (Pointer object.Stack x) bs =
     cond_both (is_in_stack x (length bs))
@@ -221,7 +234,7 @@ output_leaves s p bs = tt
 
 -- ---- the calls
 
--- a call of any helper leaves such a state
+-- what a call of any helper leaves, if it is no fault, is a state after a call
 pub call_leaves : (helper : Helper) (s : RunState) → LeavesAfterCall s (called helper s)
 call_leaves LookUp s =
     map_leaves s 1 _

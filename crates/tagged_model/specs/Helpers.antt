@@ -24,10 +24,11 @@ id_of Update = 2
 id_of Delete = 3
 id_of LoadBytes = 26
 
--- the helpers
+-- all helpers
 unfoldable pub known_helpers : List Helper
 known_helpers = LookUp ∷ Update ∷ Delete ∷ LoadBytes ∷ []
 
+-- the helper with this number, if there is one
 abbrev pub helper_of : ℤ → Option Helper
 helper_of id = find (λ h. int_eq id (pos (id_of h))) known_helpers
 
@@ -42,10 +43,11 @@ errno Exists = 17
 errno Invalid = 22
 errno NoSpace = 28
 
--- EFAULT
+-- EFAULT: the bytes to load lie outside the packet
 abbrev pub outside : ℕ
 outside = 14
 
+-- the number n negated, modulo 2 ^ 64
 abbrev pub negative : ℕ → ℕ
 negative n = 2 ^ 64 - n
 
@@ -54,15 +56,17 @@ pub record MapReply : Type 0 where
   pub answer : ℕ
   pub map : RunMap
 
+-- the reply of a call that fails: the negated error, and the map unchanged
 abbrev pub fails_by : MapFault → RunMap → MapReply
 fails_by fault t = record { answer = negative (errno fault); map = t }
 
+-- the reply of an update or a delete that succeeds: 0, and the map after it
 abbrev pub succeeds : RunMap → MapReply
 succeeds t = record { answer = 0; map = t }
 
 -- ---- the calls of a map
 
--- a pointer to the value, or null
+-- the result of a look-up in map m: a pointer to the value, or null
 abbrev pub looked_up : ℕ → Option ℕ → Tagged
 looked_up m None = Scalar 0
 looked_up m (Some number) = Pointer (object.Value m number) (pos 0)
@@ -79,63 +83,74 @@ with_object t key value = record {
 abbrev pub without_key : RunMap → List ℕ → RunMap
 without_key t key = record t { table = with_deleted t.table key }
 
--- the value of a present key is written in place; a new key gets a new object
+-- the reply of an update with this verdict: the value of a present key is written in place, a new
+-- key gets a new object
 abbrev pub put : RunMap → List ℕ → List ℕ → Verdict ℕ → MapReply
 put t key value (Refused fault) = fails_by fault t
 put t key value (Present number) = succeeds (with_value t number value)
 put t key value New = succeeds (with_object t key value)
 
+-- the reply of an update of a map
 abbrev pub updated : RunMap → List ℕ → List ℕ → ℕ → MapReply
 updated t key value flags = put t key value (verdict t.table key flags)
 
+-- the reply of a delete, from the object to delete or the error
 abbrev pub taken_out : RunMap → List ℕ → Result ℕ MapFault → MapReply
 taken_out t key (Err fault) = fails_by fault t
 taken_out t key (Ok number) = succeeds (without_key t key)
 
+-- the reply of a delete in a map
 abbrev pub removed : RunMap → List ℕ → MapReply
 removed t key = taken_out t key (removal t.table key)
 
 -- ---- bytes of the packet
 
--- the offset is read as 32 bits and may not be negative
+-- n bytes at an offset lie in the packet; the offset is read as 32 bits and may not be negative
 abbrev pub is_in_packet : List ℕ → ℕ → ℕ → Bool
 is_in_packet packet offset n =
     nat_le (offset % 2 ^ 32) (2 ^ 31 - 1) && nat_le (offset % 2 ^ 32 + n) (length packet)
 
+-- the bytes that a load of n bytes writes: those of the packet, or zeros if it fails
 abbrev pub packet_bytes : List ℕ → ℕ → ℕ → List ℕ
 packet_bytes packet offset n =
     if is_in_packet packet offset n then bytes_at packet (offset % 2 ^ 32) n else replicate n 0
 
+-- the result of a load of n bytes: 0, or the negated error
 abbrev pub packet_answer : List ℕ → ℕ → ℕ → ℕ
 packet_answer packet offset n = if is_in_packet packet offset n then 0 else negative outside
 
 -- ---- arguments: a register's value, if it has the kind that is required
 
+-- the number that a value is
 abbrev pub number_given : Tagged → Option ℕ
 number_given (Scalar n) = Some n
 number_given _ = None
 
+-- a length is a number other than 0
 abbrev pub length_given : Tagged → Option ℕ
 length_given (Scalar n) = if n == 0 then None else Some n
 length_given _ = None
 
+-- the descriptor of the map that a value is
 abbrev pub map_given : Tagged → Option ℕ
 map_given (Map m) = Some m
 map_given _ = None
 
+-- the value is the pointer to the start of the context
 abbrev pub context_given : Tagged → Option (Unit {0})
 context_given (Pointer object.Context x) = if int_eq x (pos 0) then Some tt else None
 context_given _ = None
 
--- the argument in register r
+-- the argument in register r, read by `given`; None if it is not of the required kind
 abbrev pub argument : {A : Type 0} → RunState → ℕ → (Tagged → Option A) → Option A
 argument s r given = and_then (s.registers r) given
 
--- a map, and its descriptor
+-- a map that is an argument, and its descriptor
 pub record GivenMap : Type 0 where
   pub descriptor : ℕ
   pub map : RunMap
 
+-- the map in register r, and its descriptor; None if it holds none
 abbrev pub map_argument : RunState → ℕ → Option GivenMap
 map_argument s r =
     and_then (argument s r map_given)
@@ -147,6 +162,7 @@ map_argument s r =
 abbrev pub after_call : (ℕ → Option Tagged) → Tagged → ℕ → Option Tagged
 after_call registers v r = if r == 0 then Some v else (if nat_le r 5 then None else registers r)
 
+-- the state after a call with result v
 abbrev pub returns : RunState → Tagged → RunState
 returns s v = record s { registers = after_call s.registers v }
 
@@ -154,6 +170,7 @@ returns s v = record s { registers = after_call s.registers v }
 abbrev pub replies : RunState → ℕ → MapReply → RunState
 replies s m reply = returns (with_map s m reply.map) (Scalar reply.answer)
 
+-- the state after a call of a helper; None if an argument is not of the required kind
 abbrev pub called : Helper → RunState → Option RunState
 called LookUp s =
     and_then (map_argument s 1) (λ g.

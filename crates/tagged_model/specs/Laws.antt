@@ -69,7 +69,7 @@ StackOutputAdmits =
     → stack_filled f x lo hi ≡ Ok g
     → (t : RunState) × (stack_written s x bs ≡ Some t) × AdmitsBy witness g t × IsInRange t
 
--- an object of a map that has a shape
+-- map m has this shape and an object with this number
 pub record IsObject (s : RunState) (m number : ℕ) (shape : MapShape) : Type 0 where
   pub map : RunMap
   pub there : s.maps m ≡ Some map

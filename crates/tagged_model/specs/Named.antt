@@ -10,6 +10,7 @@ unfoldable pub target_of : List Named → ℕ → Option Target
 target_of [] fd = None
 target_of (n ∷ ns) fd = if n.fd == fd then Some n.target else target_of ns fd
 
+-- the shape of an object; None if there is no object, or it is no map
 abbrev pub shape_in : Option Target → Option MapShape
 shape_in (Some (target.Map shape)) = Some shape
 shape_in (Some target.Program) = None
@@ -19,5 +20,6 @@ shape_in None = None
 abbrev pub Shapes : Type 0
 Shapes = ℕ → Option MapShape
 
+-- the shapes of the maps that the descriptors of these entries name
 abbrev pub shapes_named : List Named → Shapes
 shapes_named named fd = shape_in (target_of named fd)

@@ -6,29 +6,32 @@ use Rattle.tagged_model.specs.declared.shape.MapKind.TheVariants.{Hash, Array}
 use Rattle.tagged_model.specs.declared.shape.ShapeFault.{ShapeFault}
 use Rattle.tagged_model.specs.declared.shape.ShapeFault.TheVariants.{Invalid, TooBig}
 
--- the length in bytes of the longest key and of the longest value, the most entries, and the size
--- in bytes of the largest area
+-- the length of the longest key of a hash map, in bytes
 abbrev pub longest_key : ℕ
 longest_key = 512
 
+-- the length of the longest value, in bytes
 abbrev pub longest_value : ℕ
 longest_value = 4096
 
+-- the most entries that a map may have
 abbrev pub most_entries : ℕ
 most_entries = 4096
 
+-- the size of the largest area, in bytes
 abbrev pub largest_area : ℕ
 largest_area = 65536
 
+-- n is from low to high, both included
 abbrev pub is_from_to : ℕ → ℕ → ℕ → Bool
 is_from_to low high n = nat_le low n && nat_le n high
 
--- a key of an array is a word of four bytes
+-- a map of this kind may have keys of so many bytes; those of an array have four
 abbrev pub has_key : MapKind → ℕ → Bool
 has_key Array key = key == 4
 has_key Hash key = is_from_to 1 longest_key key
 
--- the number of bytes that the values take, each rounded up to a multiple of eight
+-- the number of bytes of `max` values of `value` bytes, each rounded up to a multiple of eight
 abbrev pub area : ℕ → ℕ → ℕ
 area value max = max * ((value + 7) / 8 * 8)
 
@@ -38,9 +41,11 @@ is_valid kind key value max flags =
     has_key kind key && is_from_to 1 longest_value value && is_from_to 1 most_entries max
     && (flags == 0)
 
+-- `max` values of `value` bytes fit into the largest area
 abbrev pub fits : ℕ → ℕ → Bool
 fits value max = nat_le (area value max) largest_area
 
+-- a map may have this kind, these sizes of keys and values in bytes, and so many entries
 abbrev pub is_shape : MapKind → ℕ → ℕ → ℕ → Bool
 is_shape kind key value max = is_valid kind key value max 0 && fits value max
 

@@ -9,10 +9,11 @@ use Rattle.tagged_model.specs.Table.{indexed}
 use Rattle.tagged_model.specs.Cells.{byte_at}
 use Rattle.tagged_model.specs.State.{RunState, RunMap, context_words}
 
--- bytes are below 256, and the context has its words of 32 bits
+-- each number of the list is below 256
 abbrev pub AreBytes : List ℕ → Type 0
 AreBytes bs = All (λ b. b < 256) bs
 
+-- the bytes in a state are below 256, and the context has its words of 32 bits
 pub record IsInRange (s : RunState) : Type 0 where
   pub bytes : (i j b : ℕ) → byte_at (s.cells i) j ≡ Some b → b < 256
   pub words : All (λ w. w < 2 ^ 32) s.words
@@ -22,7 +23,7 @@ pub record IsInRange (s : RunState) : Type 0 where
 
 -- ---- maps
 
--- the object of each key is numbered below count
+-- the objects of all keys are numbered below count
 abbrev pub KeysHaveObjects : ℕ → List (List ℕ × ℕ) → Type 0
 KeysHaveObjects count [] = Unit {0}
 KeysHaveObjects count (e ∷ es) = (e.1 < count) × KeysHaveObjects count es

@@ -23,7 +23,7 @@ near_parts x e =
     let h = and_parts (int_le (neg_ℤ (pos farthest_offset)) x) (int_le x (pos farthest_offset)) e in
     let p = h.0 in let q = h.1 in (grind (arith, ints), grind (arith, ints))
 
--- an offset in a value is near
+-- an offset in a value, which has at most 4,096 bytes, is near
 pub near_from : (offset : ℕ) → offset < 4096 → is_near (pos offset) ≡ true
 near_from offset lt = le-leb offset farthest_offset (omega arith)
 
@@ -46,7 +46,7 @@ found_owned count key (x ∷ es) number owns e =
         let same : x.1 ≡ number = same_Some x.1 number e in let lt = owns.0 in omega arith
     by rest false e = rest e
 
--- the same for a greater count
+-- objects that are numbered below n are numbered below a greater m
 pub owns_more : (n m : ℕ) (es : List (List ℕ × ℕ))
     → n ≤ m
     → KeysHaveObjects n es
@@ -54,7 +54,7 @@ pub owns_more : (n m : ℕ) (es : List (List ℕ × ℕ))
 owns_more n m [] le h = tt
 owns_more n m (e ∷ es) le h = let lt = h.0 in (omega arith, owns_more n m es le h.1)
 
--- the same after a new key with such an object
+-- the objects of all keys are numbered below n, also after a new key with such an object
 pub owns_with : (n : ℕ) (key : List ℕ) (number : ℕ) (es : List (List ℕ × ℕ))
     → number < n
     → KeysHaveObjects n es
@@ -62,7 +62,7 @@ pub owns_with : (n : ℕ) (key : List ℕ) (number : ℕ) (es : List (List ℕ �
 owns_with n key number [] lt h = (lt, tt)
 owns_with n key number (e ∷ es) lt h = (h.0, owns_with n key number es lt h.1)
 
--- the same after a key is removed
+-- the objects of all keys are numbered below n, also after a key is removed
 pub owns_without : (n : ℕ) (key : List ℕ) (es : List (List ℕ × ℕ))
     → KeysHaveObjects n es
     → KeysHaveObjects n (without key es)
@@ -97,11 +97,12 @@ value_short shape =
     leb-true shape.value_size longest_value
     (and_parts (nat_le 1 shape.value_size) (nat_le shape.value_size longest_value) value.1).1
 
--- its map has one entry, and its offset is below 4,096
+-- a direct value: its map has one entry, and the offset in it is below 4,096
 pub record IsDirect (shape : MapShape) (offset : ℕ) : Type 0 where
   pub one : shape.max_entries ≡ 1
   pub near : offset < 4096
 
+-- if a map has a direct value at an offset, it has one entry, and the offset is below 4,096
 pub is_direct : (shape : MapShape) (offset : ℕ)
     → has_direct_value shape offset ≡ true
     → IsDirect shape offset
@@ -114,7 +115,7 @@ is_direct shape offset e =
     let short = value_short shape in
     record { one = eqb-true shape.max_entries 1 front.1; near = omega arith }
 
--- its object is that of index 0
+-- the object of a direct value is that of index 0
 pub direct_is : (t : Table ℕ) (offset number : ℕ)
     → direct_object t offset ≡ Some number
     → IsDirect t.shape offset × (found (index_key 0) t.entries ≡ Some number)

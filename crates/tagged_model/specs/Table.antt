@@ -13,7 +13,8 @@ use Rattle.tagged_model.specs.declared.shape.MapShape.{MapShape}
 use Rattle.tagged_model.specs.declared.fault.MapFault.{MapFault}
 use Rattle.tagged_model.specs.declared.fault.MapFault.TheVariants.{NoEntry, TooBig, Exists, Invalid}
 
--- its shape, its keys with their objects in order, and the number of objects deleted in this run
+-- a map: its shape, its keys with their objects in order, and the number of objects deleted in this
+-- run
 pub record Table (A : Type 0) : Type 0 where
   pub shape : MapShape
   pub entries : List (List ℕ × A)
@@ -26,28 +27,29 @@ abbrev pub is_key : List ℕ → List ℕ → Bool
 is_key key other = pointwise nat_eq key other
 
 module _ {A : Type 0} where
-  -- the object of a key
+  -- the object of a key, if the key is present
   abbrev pub found : List ℕ → List (List ℕ × A) → Option A
   found key es = lookup (is_key key) es
 
-  -- without a key; the others keep their order
+  -- the entries without a key; the others keep their order
   abbrev pub without : List ℕ → List (List ℕ × A) → List (List ℕ × A)
   without key es = remove_entry (is_key key) es
 
-  -- with a new key at the end
+  -- the entries with a new key and its object at the end
   abbrev pub with_key : List ℕ → A → List (List ℕ × A) → List (List ℕ × A)
   with_key key a es = es ++ (key, a) ∷ []
 
+  -- the first key; None if there is no key
   abbrev pub first_key : List (List ℕ × A) → Option (List ℕ)
   first_key [] = None
   first_key (e ∷ es) = Some e.0
 
-  -- the key after a present one
+  -- the key after `key`, which is present; None if it is the last
   abbrev pub key_behind : List ℕ → List (List ℕ × A) → Option (List ℕ)
   key_behind key [] = None
   key_behind key (e ∷ es) = if is_key key e.0 then first_key es else key_behind key es
 
-  -- the next key; that of an empty or absent key is the first
+  -- the key after `key`; the first one if `key` is empty or absent
   abbrev pub key_after : List ℕ → List (List ℕ × A) → Option (List ℕ)
   key_after key es = if is_some (found key es) then key_behind key es else first_key es
 
@@ -67,11 +69,11 @@ new_entries object Hash max = []
 
 -- ---- the flags of an update (bpf(2), BPF_MAP_UPDATE_ELEM): 0 allows any update
 
--- the key must be absent
+-- BPF_NOEXIST: the key must be absent
 abbrev pub no_exist : ℕ
 no_exist = 1
 
--- the key must be present
+-- BPF_EXIST: the key must be present
 abbrev pub exist : ℕ
 exist = 2
 
@@ -85,7 +87,7 @@ pub data Verdict (A : Type 0) : Type 0 where
   New : Verdict A
 
 module _ {A : Type 0} where
-  -- BPF_MAP_LOOKUP_ELEM
+  -- BPF_MAP_LOOKUP_ELEM: the object of a key, if the key is present
   abbrev pub look_up : Table A → List ℕ → Option A
   look_up t key = found key t.entries
 
@@ -94,20 +96,22 @@ module _ {A : Type 0} where
   abbrev pub is_full : Table A → Bool
   is_full t = (length t.entries + t.deleted) == t.shape.max_entries
 
+  -- the verdict on an update of a present key with object a
   abbrev pub of_present : ℕ → A → Verdict A
   of_present flags a = if flags == no_exist then Refused Exists else Present a
 
-  -- in an array, an absent key is an index out of range
+  -- the verdict on an update of an absent key, which in an array is an index out of range
   abbrev pub of_absent : MapKind → Bool → ℕ → Verdict A
   of_absent Array full flags = Refused TooBig
   of_absent Hash full flags =
       if flags == exist then Refused NoEntry else (if full then Refused TooBig else New)
 
+  -- the verdict on an update, from the look-up of its key
   abbrev pub of_found : Table A → ℕ → Option A → Verdict A
   of_found t flags None = of_absent t.shape.kind (is_full t) flags
   of_found t flags (Some a) = of_present flags a
 
-  -- BPF_MAP_UPDATE_ELEM
+  -- BPF_MAP_UPDATE_ELEM: the verdict on an update; a flag above 2 is unknown
   abbrev pub verdict : Table A → List ℕ → ℕ → Verdict A
   verdict t key flags =
       if nat_le flags exist then of_found t flags (look_up t key) else Refused Invalid
@@ -128,6 +132,7 @@ module _ {A : Type 0} where
     deleted = t.deleted;
   }
 
+  -- the object to delete, from the look-up of its key; no index of an array can be deleted
   abbrev pub removal_of : MapKind → Option A → Result A MapFault
   removal_of Array o = Err Invalid
   removal_of Hash None = Err NoEntry
@@ -149,11 +154,11 @@ module _ {A : Type 0} where
   abbrev pub next_of : Table A → List ℕ → Option (List ℕ)
   next_of t key = key_after key t.entries
 
-  -- the map after the run
+  -- the map after a run, in which deleted objects no longer count
   abbrev pub after_run : Table A → Table A
   after_run t = record { shape = t.shape; entries = t.entries; deleted = 0 }
 
-  -- a new map
+  -- a new map of this shape; in an array `object i` is the object of index i
   abbrev pub new_table : (ℕ → A) → MapShape → Table A
   new_table object shape = record {
     shape = shape;
@@ -169,18 +174,19 @@ abbrev pub is_array : MapKind → Bool
 is_array Array = true
 is_array Hash = false
 
+-- a map of this shape has a direct value, and the offset lies in it
 abbrev pub has_direct_value : MapShape → ℕ → Bool
 has_direct_value shape offset =
     is_array shape.kind && (shape.max_entries == 1) && nat_lt offset shape.value_size
 
--- its object, that of index 0
+-- the object of the direct value, that of index 0; None if the offset lies in none
 abbrev pub direct_object : {A : Type 0} → Table A → ℕ → Option A
 direct_object t offset = if has_direct_value t.shape offset then look_up t (index_key 0) else None
 
 -- ---- the values that objects represent
 
 module _ {A B : Type 0} (value : A → B) where
-  -- the same keys in the same order, each with the value that its object represents
+  -- the map with the same keys in the same order, each with the value that its object represents
   abbrev pub with_values : Table A → Table B
   with_values t = record {
     shape = t.shape;
@@ -188,6 +194,7 @@ module _ {A B : Type 0} (value : A → B) where
     deleted = t.deleted;
   }
 
+  -- the verdict with the value that its object represents
   abbrev pub verdict_with : Verdict A → Verdict B
   verdict_with (Refused fault) = Refused fault
   verdict_with (Present a) = Present (value a)

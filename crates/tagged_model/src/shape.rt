@@ -27,7 +27,7 @@ pub enum MapKind {
 /// Why no map may have a shape.
 #[derive(Clone, Copy, Debug, PartialEq, Eq)]
 pub enum ShapeFault {
-    /// A field is outside its limits.
+    /// A field is outside its limits, or a flag is set.
     Invalid,
     /// The values take more than `LARGEST_AREA` bytes.
     TooBig,
@@ -49,7 +49,9 @@ pub struct MapShape {
 /// The object that a descriptor names.
 #[derive(Clone, Copy, Debug, PartialEq, Eq)]
 pub enum Target {
+    /// A map of this shape.
     Map(MapShape),
+    /// A loaded program.
     Program,
 }
 

@@ -19,6 +19,7 @@ frame_errno bad.TooLong = TooBig
 frame_errno bad.Unknown = Invalid
 frame_errno bad.Body = Invalid
 
+-- the result of a frame, which carries a command or is rejected
 abbrev pub AnswersFrame : Bool → TenantState → Result Command BadFrame → Answer → Type 0
 AnswersFrame refused s (Err fault) a = a ≡ refuses (frame_errno fault) s
 AnswersFrame refused s (Ok command) a = Answers refused s command a
@@ -37,11 +38,11 @@ RepliesUnder refused frame reply (Some s) after =
     (a : Answer) × AnswersFrame refused s (parsed frame) a
     × (reply ≡ reply_to frame a.status a.payload) × (after ≡ Some a.after)
 
--- memory may be refused
+-- a frame, its reply, and the state of its tenant before and after it, if memory may be refused
 abbrev pub MayReply : List ℕ → List ℕ → Option TenantState → Option TenantState → Type 0
 MayReply frame reply before after = (refused : Bool) × RepliesUnder refused frame reply before after
 
--- the status of a reply is that of this error
+-- the status of a reply, four bytes from byte 8 on, is that of this error
 abbrev pub HasErrno : Errno → List ℕ → Type 0
 HasErrno errno reply = take 4 (drop 8 reply) ≡ little_bytes 4 (cast_unsigned w32 (status_of errno))
 
@@ -55,10 +56,11 @@ IsRefusedMemory reply = HasErrno NoMemory reply
 
 -- ---- a list of frames
 
--- the frames of tenant t, and the replies to them
+-- the frames of tenant t among all frames
 abbrev pub frames_of : ℕ → List (List ℕ) → List (List ℕ)
 frames_of t frames = filter (λ frame. owner frame == t) frames
 
+-- the replies to the frames of tenant t, among the replies to all frames
 abbrev pub replies_of : ℕ → List (List ℕ) → List (List ℕ) → List (List ℕ)
 replies_of t [] replies = []
 replies_of t (frame ∷ frames) [] = []
@@ -77,12 +79,13 @@ RepliesInOrder tells before (frame ∷ frames) (reply ∷ replies) after =
 RepliesInOrder tells before [] (reply ∷ replies) after = ⊥
 RepliesInOrder tells before (frame ∷ frames) [] after = ⊥
 
--- the replies are those of the tenant's machine, without refusals of memory and with some
+-- the replies are those of the tenant's machine, without refusals of memory
 abbrev pub IsToldAlone : Option TenantState → List (List ℕ) → List (List ℕ) → Option TenantState
     → Type 0
 IsToldAlone before frames replies after =
     RepliesInOrder (RepliesUnder false) before frames replies after
 
+-- the replies are those of the tenant's machine, if memory may be refused to each command
 abbrev pub AloneWithRefusals : Option TenantState → List (List ℕ) → List (List ℕ)
     → Option TenantState → Type 0
 AloneWithRefusals before frames replies after = RepliesInOrder MayReply before frames replies after

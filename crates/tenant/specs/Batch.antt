@@ -42,25 +42,26 @@ RunsBatch fd before inputs room written after =
 
 -- ---- the refusals
 
--- why an object is not run
+-- why what a descriptor names cannot be run; None if it is a program
 abbrev pub object_refusal : Option OpenObject → Option Errno
 object_refusal None = Some BadDescriptor
 object_refusal (Some (object.Map handle)) = Some Invalid
 object_refusal (Some (object.Program l)) = None
 
--- why a program is not run on a packet of this length
+-- why a program is not run on a packet of this length, in bytes
 abbrev pub length_refusal : ℕ → Option Errno
 length_refusal size = if nat_lt longest_packet size then Some TooBig else None
 
+-- the first of two refusals, or the second one if the first is none
 abbrev pub else_refusal : Option Errno → Option Errno → Option Errno
 else_refusal None later = later
 else_refusal (Some errno) later = Some errno
 
--- the error of the test run of an object on a packet of this length
+-- the error of the test run, on a packet of this length, of what a descriptor names
 abbrev pub run_refusal : Option OpenObject → ℕ → Option Errno
 run_refusal o size = else_refusal (object_refusal o) (length_refusal size)
 
--- the error of packets that are refused
+-- the error of a batch whose packets are refused for this fault
 abbrev pub packet_errno : PacketFault → Errno
 packet_errno Contexts = Invalid
 packet_errno Outside = Invalid
@@ -94,15 +95,15 @@ run_weight cost = cost.instructions + CALL_WEIGHT * cost.calls
 abbrev pub allowed : ℕ → ℕ → ℕ → ℕ
 allowed bound cost packets = min packets (max 1 (bound / cost))
 
--- the same for an object: a run of a program counts for its cost; a batch of anything else is
--- rejected as a whole
+-- n packets of a batch are within a bound other than 0, by what a descriptor names: a run of a
+-- program counts for its cost; of anything else all are, since such a batch is rejected as a whole
 abbrev pub IsWithinBound : Option OpenObject → ℕ → ℕ → ℕ → Type 0
 IsWithinBound None bound packets n = n ≡ packets
 IsWithinBound (Some (object.Map handle)) bound packets n = n ≡ packets
 IsWithinBound (Some (object.Program l)) bound packets n =
     (cost : Cost) × IsCostOf cost l.insns × (n ≡ allowed bound (run_weight cost) packets)
 
--- n packets of a batch of an object are allowed by a bound, which allows all if it is 0
+-- n packets of a batch, of what a descriptor names, are allowed by a bound; all if the bound is 0
 abbrev pub IsAllowed : Option OpenObject → ℕ → ℕ → ℕ → Type 0
 IsAllowed o bound packets n =
     (bound ≡ 0 → n ≡ packets) × (bound ≢ 0 → IsWithinBound o bound packets n)
@@ -117,7 +118,8 @@ AreTestRuns fd (frame ∷ frames) (input ∷ inputs) =
 AreTestRuns fd [] (input ∷ inputs) = ⊥
 AreTestRuns fd (frame ∷ frames) [] = ⊥
 
--- the replies to frames with these results
+-- the replies to test-run frames with these results, one each: status 0, and the result in four
+-- bytes
 abbrev pub result_replies : List (List ℕ) → List ℕ → List (List ℕ)
 result_replies [] results = []
 result_replies (frame ∷ frames) [] = []
@@ -133,14 +135,15 @@ BatchIsItsFrames =
     → RunsInOrder fd before inputs results after
     → AloneWithRefusals (Some before) frames (result_replies frames results) (Some after)
 
--- the test-run command of a packet has the error of a run
+-- if a run on a packet has an error, the test-run command of the packet has this error, and changes
+-- nothing
 abbrev pub RefusedAsItsFrame : Type 0
 RefusedAsItsFrame =
     (s : TenantState) (fd : ℕ) (words packet : List ℕ) (errno : Errno)
     → run_refusal (named s.objects fd) (length packet) ≡ Some errno
     → refuses errno s ≡ run_of s words packet (named s.objects fd)
 
--- there are as many results as packets
+-- runs of a program on packets have as many results as there are packets
 abbrev pub OneResultEach : Type 0
 OneResultEach =
     (fd : ℕ) (inputs : List BatchInput) (results : List ℕ) (before after : TenantState)

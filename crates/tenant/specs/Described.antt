@@ -12,11 +12,12 @@ use Rattle.tenant.specs.declared.object.OpenObject.{OpenObject}
 use Rattle.tenant.specs.declared.object.OpenObject.TheVariants as object
 use Rattle.tenant.specs.State.{Map, TenantState, live}
 
+-- the number of a kind of maps in bpf(2)
 abbrev pub type_number : MapKind → ℕ
 type_number Hash = 1
 type_number Array = 2
 
--- nothing is open
+-- the description of a descriptor at which nothing is open
 abbrev pub nothing_there : Described
 nothing_there = record {
   kind = 0;
@@ -28,7 +29,7 @@ nothing_there = record {
   slots = 0;
 }
 
--- a map: its shape, and how many keys it has
+-- the description of a map: its shape, and how many keys it has
 abbrev pub described_map : Map → Described
 described_map t = record {
   kind = 1;
@@ -40,7 +41,7 @@ described_map t = record {
   slots = 0;
 }
 
--- a program: how many slots its instructions take
+-- the description of a program: how many slots its instructions take
 abbrev pub described_program : List Insn → Described
 described_program insns = record {
   kind = 2;
@@ -52,16 +53,18 @@ described_program insns = record {
   slots = slot_count insns;
 }
 
+-- the description of what a descriptor names: nothing, a map by its handle, or a program
 abbrev pub described_object : TenantState → Option OpenObject → Described
 described_object s None = nothing_there
 described_object s (Some (object.Map handle)) =
     option_map_or described_map (live s handle) nothing_there
 described_object s (Some (object.Program l)) = described_program l.insns
 
+-- the description of what a descriptor names in this state
 abbrev pub described : TenantState → ℕ → Described
 described s fd = described_object s (named s.objects fd)
 
--- a tenant that is not served has nothing open
+-- the description of what a descriptor of a tenant names; one that is not served has nothing open
 abbrev pub described_if_served : Option TenantState → ℕ → Described
 described_if_served (Some s) fd = described s fd
 described_if_served None fd = nothing_there

@@ -5,7 +5,8 @@ use Rattle.tagged_model.specs.declared.fault.MapFault.TheVariants as map
 use Rattle.tenant.specs.declared.errno.Errno.{Errno}
 use Rattle.tenant.specs.declared.errno.Errno.TheVariants.{NotPermitted, NoEntry, TooBig, BadDescriptor, NoMemory, AccessDenied, BadAddress, Exists, Invalid, TooManyOpen, NoSpace}
 
--- EPERM, ENOENT, E2BIG, EBADF, ENOMEM, EACCES, EFAULT, EEXIST, EINVAL, EMFILE, ENOSPC
+-- the number of an error: EPERM, ENOENT, E2BIG, EBADF, ENOMEM, EACCES, EFAULT, EEXIST, EINVAL,
+-- EMFILE, ENOSPC
 abbrev pub errno_number : Errno → ℕ
 errno_number NotPermitted = 1
 errno_number NoEntry = 2
@@ -19,11 +20,11 @@ errno_number Invalid = 22
 errno_number TooManyOpen = 24
 errno_number NoSpace = 28
 
--- the status of a refusal
+-- the status of a command with this error: the negated number
 abbrev pub status_of : Errno → ℤ
 status_of errno = pos 0 -ℤ pos (errno_number errno)
 
--- the error for a failed call of a map
+-- the error of a command whose call of a map fails for this fault
 abbrev pub map_errno : MapFault → Errno
 map_errno map.NoEntry = NoEntry
 map_errno map.TooBig = TooBig

@@ -20,11 +20,11 @@ pub record KeptTenant : Type 0 where
   pub live : LiveMaps
   pub refused : Bool
 
--- the live map of a handle, if its values are in these bytes
+-- the live map of a handle, with its values as these bytes of the part have them
 abbrev pub map_at : List ℕ → LiveMaps → ℕ → Option Map
 map_at part t handle = option_map (λ l. map_in part t handle) (live_at t handle)
 
--- the map of each handle
+-- the list of the maps that f has for each handle, from 0 on
 unfoldable pub at_handles : (ℕ → Option Map) → List (Option Map)
 at_handles f = map f (range_with_len 0 most_maps)
 
@@ -38,6 +38,7 @@ state_in part k = record {
 
 -- ---- the references to the map of a handle
 
+-- what is open at index n of a tenant's table, at descriptor n + 3
 abbrev pub object_at : KeptTenant → ℕ → Option OpenObject
 object_at k n = slice_index_or k.objects n None
 
@@ -51,14 +52,16 @@ abbrev pub times_named : ℕ → OpenObject → ℕ
 times_named handle (object.Map p) = if p == handle then 1 else 0
 times_named handle (object.Program l) = times_listed handle (map_handles l)
 
+-- the number of times that open objects name the map of a handle
 abbrev pub holders : ℕ → List (Option OpenObject) → ℕ
 holders handle objects = total (times_named handle) objects
 
--- the number of descriptors that name it
+-- 1 for a map of this handle, 0 for another one or a program
 abbrev pub by_descriptor : ℕ → OpenObject → ℕ
 by_descriptor handle (object.Map p) = if p == handle then 1 else 0
 by_descriptor handle (object.Program l) = 0
 
+-- the number of descriptors that name the map of a handle
 abbrev pub descriptors : ℕ → List (Option OpenObject) → ℕ
 descriptors handle objects = total (by_descriptor handle) objects
 

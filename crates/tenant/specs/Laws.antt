@@ -9,18 +9,20 @@ use Rattle.tenant.specs.declared.errno.Errno.TheVariants.{NoMemory, BadAddress}
 use Rattle.tenant.specs.Errno.{status_of}
 use Rattle.tenant.specs.Alone.{RepliesUnder, MayReply, IsFault, IsRefusedMemory, NoneIsRefusedMemory, IsToldAlone, AloneWithRefusals}
 
+-- a command has one result, if it is known whether memory is refused to it
 abbrev pub OneAnswer : Type 0
 OneAnswer =
     (refused : Bool) (s : TenantState) (command : Command) (a b : Answer)
     → Answers refused s command a → Answers refused s command b → a ≡ b
 
+-- a frame has one reply and one state after it, if it is known whether memory is refused
 abbrev pub OneReply : Type 0
 OneReply =
     (refused : Bool) (frame x y : List ℕ) (before a b : Option TenantState)
     → RepliesUnder refused frame x before a → RepliesUnder refused frame y before b
     → (x ≡ y) × (a ≡ b)
 
--- if no memory is refused
+-- if no memory is refused, a tenant's frames have one list of replies, and one state after them
 abbrev pub OneAlone : Type 0
 OneAlone =
     (before a b : Option TenantState) (frames xs ys : List (List ℕ))

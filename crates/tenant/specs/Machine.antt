@@ -42,16 +42,17 @@ use Rattle.tenant.specs.State.{Map, TenantState, live, free_handle, shape_area, 
 
 -- ---- answers
 
+-- the result of a command: the status and the payload of its reply, and the state after it
 pub record Answer : Type 0 where
   pub status : ℤ
   pub payload : List ℕ
   pub after : TenantState
 
--- a command with an error changes nothing
+-- the result of a command with an error, which changes nothing
 abbrev pub refuses : Errno → TenantState → Answer
 refuses errno s = record { status = status_of errno; payload = []; after = s }
 
--- a refusal of memory sets the flag, and changes nothing else
+-- the result of a command to which memory is refused: it sets the flag, and changes nothing else
 abbrev pub refuses_for_memory : TenantState → Answer
 refuses_for_memory s = record {
   status = status_of NoMemory;
@@ -59,9 +60,11 @@ refuses_for_memory s = record {
   after = record s { refused = true };
 }
 
+-- the result of a command that succeeds: status 0, this payload, and this state after it
 abbrev pub gives : List ℕ → TenantState → Answer
 gives payload s = record { status = pos 0; payload = payload; after = s }
 
+-- the result of a command that opens an object: the status is its descriptor
 abbrev pub opens : ℕ → TenantState → Answer
 opens fd s = record { status = pos fd; payload = []; after = s }
 
@@ -71,12 +74,14 @@ opens fd s = record { status = pos fd; payload = []; after = s }
 abbrev pub kind_of : ℕ → Option MapKind
 kind_of n = if n == 1 then Some Hash else (if n == 2 then Some Array else None)
 
--- fields within their limits may still make too large an area
+-- the shape of fields within their limits, or the error if their area is too large
 abbrev pub shape_where : (fits : Bool) → (fits ≡ true → MapShape) → Result MapShape Errno
 shape_where true shape = Ok (shape refl)
 shape_where false shape = Err TooBig
 
--- the shape with these fields, or why no map may have it
+-- the shape with these fields of MAP_CREATE. The error is Invalid if there is no such kind of maps,
+-- a field is outside its limits or a flag is set, else TooBig if the values take too many bytes.
+-- `listed` is the proof that a map may have the shape
 abbrev pub asked_shape : Option MapKind → ℕ → ℕ → ℕ → ℕ → Result MapShape Errno
 asked_shape None key value max flags = Err Invalid
 asked_shape (Some kind) key value max flags =
@@ -100,6 +105,7 @@ new_map shape = new_table (λ i. replicate shape.value_size 0) shape
 abbrev pub room_for : TenantState → ℕ → Option ℕ
 room_for s size = if nat_lt most_bytes (maps_area s.maps + size) then None else free_handle s
 
+-- a new map of this shape at a free descriptor and a free handle, unless memory is refused
 abbrev pub created_at : Bool → TenantState → MapShape → ℕ → ℕ → Answer
 created_at true s shape fd handle = refuses_for_memory s
 created_at false s shape fd handle =
@@ -110,39 +116,45 @@ created_at false s shape fd handle =
           (Some (new_map shape));
     })
 
+-- a new map of this shape at a free descriptor, if there is a handle for it
 abbrev pub created_as : Bool → TenantState → MapShape → ℕ → Option ℕ → Answer
 created_as refused s shape fd None = refuses NoSpace s
 created_as refused s shape fd (Some handle) = created_at refused s shape fd handle
 
+-- a new map of this shape, if a descriptor is free
 abbrev pub created_under : Bool → TenantState → MapShape → Option ℕ → Answer
 created_under refused s shape None = refuses TooManyOpen s
 created_under refused s shape (Some fd) =
     created_as refused s shape fd (room_for s (shape_area shape))
 
+-- MAP_CREATE with fields that have this shape or this error; `refused` is whether memory is refused
 abbrev pub created : Bool → TenantState → Result MapShape Errno → Answer
 created refused s (Err errno) = refuses errno s
 created refused s (Ok shape) = created_under refused s shape (table.lowest s.objects)
 
 -- ---- the calls of a map
 
--- the map of the handle that a descriptor names
+-- the result f of a command on the map of a handle; no tenant has a descriptor of one without a map
 abbrev pub of_handle : TenantState → ℕ → (ℕ → Map → Answer) → Option Map → Answer
 of_handle s handle f None = refuses BadDescriptor s
 of_handle s handle f (Some t) = f handle t
 
+-- the result f of a command on what a descriptor names, if it is a map
 abbrev pub of_object : TenantState → (ℕ → Map → Answer) → Option OpenObject → Answer
 of_object s f None = refuses BadDescriptor s
 of_object s f (Some (object.Program l)) = refuses Invalid s
 of_object s f (Some (object.Map handle)) = of_handle s handle f (live s handle)
 
+-- the result of a command on the map that a descriptor names: f has it by handle and map
 abbrev pub on_map : TenantState → ℕ → (ℕ → Map → Answer) → Answer
 on_map s fd f = of_object s f (table.named s.objects fd)
 
--- MAP_LOOKUP_ELEM
+-- the bytes that are found, a value or a key, or the error NoEntry
 abbrev pub gives_if_found : TenantState → Option (List ℕ) → Answer
 gives_if_found s None = refuses NoEntry s
 gives_if_found s (Some value) = gives value s
 
+-- MAP_LOOKUP_ELEM: the value of a key
 abbrev pub element_looked_up : TenantState → ℕ → List ℕ → Answer
 element_looked_up s fd key =
     on_map s fd
@@ -151,13 +163,14 @@ element_looked_up s fd key =
     then gives_if_found s (look_up t key)
     else refuses Invalid s)
 
--- MAP_UPDATE_ELEM: a present key keeps its position, and a new one goes to the end
+-- an update, by the verdict on it: a present key keeps its position, and a new one goes to the end
 abbrev pub element_put : TenantState → ℕ → Map → List ℕ → List ℕ → call.Verdict (List ℕ) → Answer
 element_put s handle t key value (call.Refused fault) = refuses (map_errno fault) s
 element_put s handle t key value (call.Present old) =
     gives [] (with_map_at s handle (with_object t key value))
 element_put s handle t key value call.New = gives [] (with_map_at s handle (with_new t key value))
 
+-- MAP_UPDATE_ELEM: the bytes are the key and then the value
 abbrev pub element_updated : TenantState → ℕ → ℕ → List ℕ → Answer
 element_updated s fd flags bytes =
     on_map s fd (λ handle t. if length bytes == t.shape.key_size + t.shape.value_size
@@ -165,12 +178,13 @@ element_updated s fd flags bytes =
     (verdict t (take t.shape.key_size bytes) flags)
     else refuses Invalid s)
 
--- MAP_DELETE_ELEM: no run is in progress, so the deleted value is gone
+-- a deletion, by its refusal or the value to delete: no run is in progress, so the value is gone
 abbrev pub element_taken_out : TenantState → ℕ → Map → List ℕ → Result (List ℕ) MapFault → Answer
 element_taken_out s handle t key (Err fault) = refuses (map_errno fault) s
 element_taken_out s handle t key (Ok value) =
     gives [] (with_map_at s handle (after_run (with_deleted t key)))
 
+-- MAP_DELETE_ELEM: the key and its value are deleted
 abbrev pub element_deleted : TenantState → ℕ → List ℕ → Answer
 element_deleted s fd key =
     on_map s fd
@@ -179,7 +193,7 @@ element_deleted s fd key =
     then element_taken_out s handle t key (removal t key)
     else refuses Invalid s)
 
--- MAP_GET_NEXT_KEY: after an empty key, the first key
+-- MAP_GET_NEXT_KEY: the key after this one; after an empty or absent key, the first key
 abbrev pub given_next : TenantState → ℕ → List ℕ → Answer
 given_next s fd key =
     on_map s fd
@@ -190,7 +204,7 @@ given_next s fd key =
 
 -- ---- PROG_LOAD
 
--- a wrong number of slots has another error than slots that are no program
+-- the error of slots that are no program: a wrong number of slots has another one than a wrong slot
 abbrev pub codec_errno : FaultKind → Errno
 codec_errno kind.Opcode = Invalid
 codec_errno kind.Reserved = Invalid
@@ -201,8 +215,8 @@ codec_errno kind.Empty = TooBig
 codec_errno kind.TooLong = TooBig
 codec_errno kind.Memory = NoMemory
 
--- a program of a wrong shape is invalid, or names a descriptor that is not open; access is denied
--- to one that is unsafe, or writes the frame pointer
+-- the error of a program that is not accepted: one of a wrong shape is invalid, or names a
+-- descriptor that is not open; access is denied to one that is unsafe, or writes the frame pointer
 abbrev pub verdict_errno : Reason → Errno
 verdict_errno reason.JumpOutside = Invalid
 verdict_errno reason.JumpBackward = Invalid
@@ -232,11 +246,14 @@ verdict_errno reason.LengthUnbounded = AccessDenied
 verdict_errno reason.UnalignedAtomic = AccessDenied
 verdict_errno reason.Memory = NoMemory
 
+-- the error of a load that is rejected for this cause: the slots are no program, or the program is
+-- not accepted
 abbrev pub cause_errno : Cause → Errno
 cause_errno (cause.Slots kind) = codec_errno kind
 cause_errno (cause.Verdict why) = verdict_errno why
 
--- a rejected load reports the slot, and the number of the cause
+-- the result of a rejected load: the payload is the slot, in four bytes, and the number of the
+-- cause, in two
 abbrev pub refuses_load : Refusal → TenantState → Answer
 refuses_load refusal s = record {
   status = status_of (cause_errno refusal.cause);
@@ -249,6 +266,7 @@ abbrev pub object_target : TenantState → OpenObject → Option Target
 object_target s (object.Map handle) = option_map (λ t. target.Map t.shape) (live s handle)
 object_target s (object.Program l) = Some target.Program
 
+-- a descriptor with its object, as a list of one or, if it is not open, of none
 abbrev pub entry_of : ℕ → Option Target → List Named
 entry_of fd None = []
 entry_of fd (Some t) = record { fd = fd; target = t } ∷ []
@@ -259,6 +277,7 @@ targets_from s fd [] = []
 targets_from s fd (o ∷ os) =
     entry_of fd (and_then o (object_target s)) ++ targets_from s (fd + 1) os
 
+-- all open descriptors, with their objects as the verifier sees them
 abbrev pub targets : TenantState → List Named
 targets s = targets_from s table.first_descriptor s.objects
 
@@ -268,7 +287,8 @@ named_handle (Some (object.Map handle)) = Some handle
 named_handle (Some (object.Program l)) = None
 named_handle None = None
 
--- the maps that the program loads, each by its descriptor, in the order of first use
+-- the maps that these descriptors name, each with its descriptor; those that name no map are left
+-- out
 unfoldable pub handles_from : List (Option OpenObject) → List ℕ → List (ℕ × ℕ)
 handles_from objects [] = []
 handles_from objects (fd ∷ fds) =
@@ -278,6 +298,7 @@ handles_from objects (fd ∷ fds) =
     bound None fd rest = rest
     bound (Some handle) fd rest = (fd, handle) ∷ rest
 
+-- the loaded program of these instructions, with what their descriptors name in this state
 abbrev pub loaded_program : TenantState → List Insn → LoadedProgram
 loaded_program s insns = record {
   insns = insns;
@@ -285,13 +306,14 @@ loaded_program s insns = record {
   maps = handles_from s.objects (maps_of insns);
 }
 
+-- the result of a load, by the verifier's judgement: a rejection, or the program opened at fd
 abbrev pub answer_of_judgement : TenantState → ℕ → Result (List Insn) Refusal → Answer
 answer_of_judgement s fd (Err refusal) = refuses_load refusal s
 answer_of_judgement s fd (Ok insns) =
     opens fd
     (record s { objects = table.with_open s.objects fd (object.Program (loaded_program s insns)) })
 
--- if memory is refused, this is the result, whatever the slots are
+-- the result of a load at the descriptor fd; if memory is refused, it does not depend on the slots
 abbrev pub LoadsAs : Bool → TenantState → ℕ → List ℕ → Answer → Type 0
 LoadsAs true s fd slots answer = answer ≡ refuses_for_memory s
 LoadsAs false s fd slots answer =
@@ -299,11 +321,13 @@ LoadsAs false s fd slots answer =
     × Judges (targets s) slots j
     × (answer ≡ answer_of_judgement s fd j)
 
+-- the result of a load, if a descriptor is free
 abbrev pub LoadsUnder : Bool → TenantState → Option ℕ → List ℕ → Answer → Type 0
 LoadsUnder refused s None slots answer = answer ≡ refuses TooManyOpen s
 LoadsUnder refused s (Some fd) slots answer = LoadsAs refused s fd slots answer
 
--- only socket filters can be loaded (BPF_PROG_TYPE_SOCKET_FILTER)
+-- the result of PROG_LOAD: only socket filters, kind 1, can be loaded
+-- (BPF_PROG_TYPE_SOCKET_FILTER)
 abbrev pub Loads : Bool → TenantState → ℕ → List ℕ → Answer → Type 0
 Loads refused s kind slots answer =
     MatchBool (kind == 1) (LoadsUnder refused s (table.lowest s.objects) slots answer)
@@ -315,16 +339,19 @@ Loads refused s kind slots answer =
 abbrev pub maps_given : TenantState → LoadedProgram → MapsByDescriptor
 maps_given s l fd = and_then (lookup (λ m. m == fd) l.maps) (λ handle. live s handle)
 
--- the maps after a run, under their handles
+-- the maps under their handles after a run, which leaves those of its program as `left` has them by
+-- descriptor
 unfoldable pub maps_left : MapsByDescriptor → List (ℕ × ℕ) → List (Option Map) → List (Option Map)
 maps_left left [] maps = maps
 maps_left left (m ∷ ms) maps = maps_left left ms (slice_set maps m.1 (left m.0))
 
+-- the result of a test run: a number in four bytes, or the error of a fault
 abbrev pub outcome_answer : Outcome → TenantState → Answer
 outcome_answer (Value n) s = gives (little_bytes 4 n) s
 outcome_answer Fault s = refuses BadAddress s
 
--- word 0 of the context is the packet's length
+-- the test run of a loaded program on ten words of context and a packet: word 0 of the context is
+-- the packet's length, before these
 abbrev pub ran : TenantState → LoadedProgram → List ℕ → List ℕ → Answer
 ran s l words packet =
     let given = maps_given s l in
@@ -333,6 +360,7 @@ ran s l words packet =
       maps = maps_left (left_of l.insns given context packet) l.maps s.maps;
     })
 
+-- PROG_TEST_RUN of what a descriptor names, on ten words of context and a packet
 abbrev pub run_of : TenantState → List ℕ → List ℕ → Option OpenObject → Answer
 run_of s words packet None = refuses BadDescriptor s
 run_of s words packet (Some (object.Map handle)) = refuses Invalid s
@@ -341,6 +369,7 @@ run_of s words packet (Some (object.Program l)) =
 
 -- ---- CLOSE
 
+-- the result of closing the descriptor fd, which names this object or is not open
 abbrev pub closed : TenantState → ℕ → Option OpenObject → Answer
 closed s fd None = refuses BadDescriptor s
 closed s fd (Some o) = gives [] (with_objects s (table.with_closed s.objects fd))

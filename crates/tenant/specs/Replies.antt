@@ -22,8 +22,9 @@ shown_answer (Ok (reply.Number number)) s = gives (little_bytes 4 number) s
 shown_answer (Ok (reply.Refused refusal)) s = refuses_load refusal s
 shown_answer (Err errno) s = refuses errno s
 
--- a descriptor is one of the table's, a payload is no longer than the longest, a slot fits in four
--- bytes, and the error is not that of a run that faults
+-- what the code returns can be written as a reply: a descriptor is one of the table's, a payload is
+-- no longer than the longest, a slot fits in four bytes, and the error is not that of a run that
+-- faults
 abbrev pub IsWritable : Result Reply Errno → Type 0
 IsWritable (Ok reply.Done) = Unit {0}
 IsWritable (Ok (reply.Opened fd)) = fd < first_descriptor + most

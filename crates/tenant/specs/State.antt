@@ -29,6 +29,7 @@ new_tenant = record { objects = nothing_open; maps = replicate most_maps None; r
 
 -- ---- live maps
 
+-- the live map of a handle, if there is one
 abbrev pub live : TenantState → ℕ → Option Map
 live s handle = slice_index_or s.maps handle None
 
@@ -40,6 +41,7 @@ free_handle s = position is_none s.maps
 abbrev pub shape_area : MapShape → ℕ
 shape_area shape = area shape.value_size shape.max_entries
 
+-- the number of bytes that the values of a map take
 abbrev pub map_area : Map → ℕ
 map_area t = shape_area t.shape
 
@@ -47,6 +49,7 @@ map_area t = shape_area t.shape
 abbrev pub maps_area : List (Option Map) → ℕ
 maps_area maps = total map_area maps
 
+-- the state with this map at a handle, instead of the one before
 abbrev pub with_map_at : TenantState → ℕ → Map → TenantState
 with_map_at s handle t = record s { maps = slice_set s.maps handle (Some t) }
 
@@ -58,10 +61,12 @@ abbrev pub names : ℕ → OpenObject → Bool
 names handle (object.Map p) = p == handle
 names handle (object.Program l) = list_any (λ m. m.1 == handle) l.maps
 
+-- whether one of these open objects names the map of a handle
 abbrev pub is_named : List (Option OpenObject) → ℕ → Bool
 is_named objects handle = list_any (λ o. option_map_or (names handle) o false) objects
 
--- the maps, under a handle and after it, that an open object names; the others are gone
+-- of these maps, which are those of `handle` and later ones, those that an open object names; the
+-- others are gone
 unfoldable pub named_from : List (Option OpenObject) → ℕ → List (Option Map) → List (Option Map)
 named_from objects handle [] = []
 named_from objects handle (m ∷ ms) =

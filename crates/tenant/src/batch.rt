@@ -37,7 +37,8 @@ fn run_weight(cost: Cost) -> u64
     u64::from(cost.instructions) + u64::from(CALL_WEIGHT) * u64::from(cost.calls)
 }
 
-/// The number of packets that a bound other than 0 allows a batch, if a run counts for `cost`.
+/// The number of packets that a bound other than 0 allows a batch of `packets`, if a run counts for `cost`: as many runs as fit, but at
+/// least one.
 fn allowed(bound: u64, cost: u64, packets: usize) -> usize
     requires { 1 ≤ cost }
     ensures allowed { result ≡ allowed bound cost packets }

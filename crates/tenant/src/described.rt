@@ -40,7 +40,7 @@ pub struct Described {
 }
 
 impl Described {
-    /// Nothing is open.
+    /// The description of a descriptor at which nothing is open.
     pub fn nothing() -> Described
         ensures { result ≡ nothing_there }
     {
@@ -55,7 +55,7 @@ impl Described {
         }
     }
 
-    /// A loaded program.
+    /// The description of a loaded program: its kind, and the slots that its instructions take.
     fn of_program(program: &LoadedProgram) -> Described
         ensures { result ≡ described_program program.now.insns }
     {
@@ -78,7 +78,7 @@ pub fn type_number(kind: MapKind) -> u32
 }
 
 impl Tenant {
-    /// A live map.
+    /// The description of a live map: its kind, its shape, and how many keys it has.
     fn described_map(&self, map: MapKey) -> Described
         requires { IsSome (live_at self.now.live map) }
         ensures { (part : List ℕ) → result ≡ described_map (map_in part self.now.live map) }

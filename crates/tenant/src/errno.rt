@@ -24,7 +24,7 @@ pub enum Errno {
     NoMemory,
     /// EACCES
     AccessDenied,
-    /// EFAULT
+    /// EFAULT, the error of a run that faults, which no run of an accepted program does
     BadAddress,
     /// EEXIST
     Exists,
@@ -36,7 +36,7 @@ pub enum Errno {
     NoSpace,
 }
 
-/// The error of a load whose slots are no program.
+/// The error of a load whose slots are no program: `TooBig` if there are none or too many of them.
 fn errno_of_codec(kind: FaultKind) -> Errno
     ensures { result ≡ codec_errno kind }
 {
@@ -51,7 +51,8 @@ fn errno_of_codec(kind: FaultKind) -> Errno
     }
 }
 
-/// The error of a load whose program is not accepted.
+/// The error of a load whose program is not accepted, by the rule that it breaks: `Invalid` or `BadDescriptor` for its shape, and
+/// `AccessDenied` if it is unsafe or writes the frame pointer.
 fn errno_of_verdict(reason: Reason) -> Errno
     ensures { result ≡ verdict_errno reason }
 {
@@ -89,7 +90,7 @@ impl Errno {
     ghost use Rattle.tenant.specs.Batch.{packet_errno};
     ghost use Rattle.tenant.specs.declared.errno.Errno.TheVariants.{BadAddress};
 
-    /// The error of a call of a map.
+    /// The error of a command whose call of a map fails for this fault.
     pub(crate) fn of_map(fault: MapFault) -> Errno
         ensures errno { result ≡ map_errno fault }
         ensures no_fault { result ≢ BadAddress }

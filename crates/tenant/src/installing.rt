@@ -33,8 +33,8 @@ impl Tenant {
         }
     }
 
-    /// Whether each descriptor of the program's maps names a map of the shape with which the program was accepted. It ends at the first that
-    /// does not.
+    /// Whether each descriptor of the program's maps names a map of the shape with which the program was accepted. It ends at the first
+    /// that does not.
     fn fits(&self, program: &Verified) -> bool
         ensures { (part : List ℕ) →
             IsTrue result ↔ Fits program.now (targets (state_in part self.now)) }

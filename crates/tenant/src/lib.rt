@@ -36,7 +36,8 @@
 //!   for fewer results than packets; there is neither one context nor one for each packet; or, packet by packet, one is outside
 //!   the bytes or is too long. Then nothing has changed: `refusal`, `unchanged` of `Tenant::run_packets`.
 //! - How many packets a bound on executed instructions allows a batch follows from the cost of the program, in which each call of a helper
-//!   counts as `CALL_WEIGHT` instructions more (`IsAllowed`): `Tenant::allowed_packets`. The cost of the program of a descriptor is that of its instructions: `Tenant::program_cost`.
+//!   counts as `CALL_WEIGHT` instructions more (`IsAllowed`): `Tenant::allowed_packets`. The cost of the program of a descriptor is
+//!   that of its instructions: `Tenant::program_cost`.
 //! - The runs of a batch are the test-run frames of its packets, with replies that have its results; a run is rejected with the
 //!   status of its frame; there are as many results as packets: `batch_is_its_frames`, `refused_as_its_frame`,
 //!   `one_result_each`.

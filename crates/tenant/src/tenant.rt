@@ -199,8 +199,8 @@ impl Tenant {
         }
     }
 
-    /// MAP_UPDATE_ELEM: writes the value of a key to the tenant's part, `PART` bytes. The value of a present key is written in
-    /// place; a new key goes to the end. Takes no memory.
+    /// MAP_UPDATE_ELEM: writes the value of a key to the tenant's part, `PART` bytes. `key_and_value` has the bytes of the key, and then
+    /// those of the value. The value of a present key is written in place; a new key goes to the end. Takes no memory.
     ///
     /// # Errors
     ///

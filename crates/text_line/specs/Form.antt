@@ -30,45 +30,51 @@ use Rattle.text_line.specs.Names.{register_name, sign_name, jump_name}
 abbrev pub TokenLayout : Type 0
 TokenLayout = List (Option Token)
 
+-- the single space between two tokens
 abbrev pub space : Option Token
 space = None
 
+-- the token of a name
 abbrev pub word : List ℕ → Option Token
 word n = Some (name n)
 
+-- the token of a symbol
 abbrev pub sign : List ℕ → Option Token
 sign s = Some (symbol s)
 
+-- the token of a register's name: of its 64 bits if wide, else of its low half
 abbrev pub reg : Bool → ℕ → Option Token
 reg wide r = word (register_name wide r)
 
 -- Each part of a line is laid out before what follows it.
 
--- a number, after a minus if it has one
+-- a minus if `true`
 abbrev pub minus : Bool → TokenLayout → TokenLayout
 minus true rest = sign (codes "-") ∷ rest
 minus false rest = rest
 
+-- a number, after a minus if it has one
 abbrev pub constant : Number → TokenLayout → TokenLayout
 constant n rest = minus n.negative (Some (number n.magnitude) ∷ rest)
 
+-- a constant, or a register: its 64 bits if wide, else its low half
 abbrev pub operand_layout : Bool → SourceOperand → TokenLayout → TokenLayout
 operand_layout wide (source.Number n) rest = constant n rest
 operand_layout wide (source.Reg r) rest = reg wide r ∷ rest
 
--- a number with its sign, + or -, or the name of a label
+-- the target of a jump: a number with its sign, + or -, or the name of its label
 abbrev pub destination : JumpTarget → List ℕ → TokenLayout
 destination (target.Number n) label = sign (sign_name n.negative) ∷ Some (number n.magnitude) ∷ []
 destination target.Label label = word label ∷ []
 
--- a memory operand, by the name of its size
+-- a memory operand, as *(u32 *)(r6 + 0), by the name of its size
 abbrev pub address : List ℕ → Address → TokenLayout → TokenLayout
 address size at rest =
     sign (codes "*") ∷ sign (codes "(") ∷ word size ∷ space ∷ sign (codes "*") ∷ sign (codes ")")
     ∷ sign (codes "(") ∷ reg true at.base ∷ space ∷ sign (sign_name at.offset.negative) ∷ space
     ∷ Some (number at.offset.magnitude) ∷ sign (codes ")") ∷ rest
 
--- what follows the destination of an operation
+-- what follows the destination register of an operation, which some operations name again
 abbrev pub operation_layout : Bool → ℕ → Operation → TokenLayout
 operation_layout wide dst (operation.Binary op src) =
     sign (alu_symbol op) ∷ space ∷ operand_layout wide src []
@@ -80,7 +86,7 @@ operation_layout wide dst operation.Neg =
 operation_layout wide dst (operation.End how bits) =
     sign (codes "=") ∷ space ∷ word (order_name how bits) ∷ space ∷ reg wide dst ∷ []
 
--- the value of a wide load
+-- the value of a wide load, without its `ll`
 abbrev pub value_layout : WideValue → TokenLayout → TokenLayout
 value_layout (value.Number n) rest = Some (number n) ∷ rest
 value_layout (value.MapFd fd) rest = word (codes "map_fd") ∷ space ∷ constant fd rest
@@ -110,25 +116,26 @@ layout (form.WideLoad dst v) label =
 layout (form.Call id) label = word (codes "call") ∷ space ∷ constant id []
 layout form.Exit label = word (codes "exit") ∷ []
 
--- without the spaces
+-- the tokens of a layout, without its spaces
 abbrev pub tokens_of : TokenLayout → List Token
 tokens_of [] = []
 tokens_of (None ∷ rest) = tokens_of rest
 tokens_of (Some t ∷ rest) = t ∷ tokens_of rest
 
--- the values of the types that are forms: registers up to 10, sign extension from fewer bits than
--- the register has, a byte-order conversion of 64 bits, a load without sign extension of a double
--- word
+-- the register of an operand, if it is one, is 0 to 10
 abbrev pub IsSource : SourceOperand → Type 0
 IsSource (source.Number n) = Unit {0}
 IsSource (source.Reg r) = r ≤ 10
 
+-- the registers are 0 to 10; a sign extension is from fewer bits than the register has, which is 64
+-- if wide, else 32; a byte-order conversion is of an r register
 abbrev pub IsOperation : Bool → Operation → Type 0
 IsOperation wide (operation.Binary op src) = IsSource src
 IsOperation wide (operation.SignExtend from src) = (src ≤ 10) × IsTrue (wide || is_short from)
 IsOperation wide operation.Neg = Unit {0}
 IsOperation wide (operation.End how bits) = IsTrue wide
 
+-- the registers are 0 to 10, and no double word is loaded with sign extension
 abbrev pub IsAccess : Access → Type 0
 IsAccess (access.Load size signed dst) = (dst ≤ 10) × IsTrue (not (signed && is_double size))
 IsAccess (access.Store size src) = IsSource src
@@ -143,11 +150,12 @@ IsForm (form.Access a at) = (at.base ≤ 10) × IsAccess a
 IsForm (form.WideLoad dst v) = dst ≤ 10
 IsForm _ = Unit {0}
 
--- whether its jump names a label
+-- whether the target of a jump is a label
 abbrev pub to_label : JumpTarget → Bool
 to_label (target.Number n) = false
 to_label target.Label = true
 
+-- whether the form is a jump to a label
 abbrev pub names_label : Form → Bool
 names_label (form.Jump long to) = to_label to
 names_label (form.Branch wide cond dst src to) = to_label to

@@ -17,10 +17,12 @@ spelled blank = []
 spelled (label n) = name n ∷ symbol (codes ":") ∷ []
 spelled (code form n) = tokens_of (layout form n)
 
+-- the name of a label is empty if none is named (`false`)
 abbrev pub NoLabel : Bool → List ℕ → Type 0
 NoLabel true n = Unit {0}
 NoLabel false n = n ≡ []
 
+-- an instruction has a form that a line can have, and a label's name only if its jump names one
 abbrev pub IsWellFormed : Line → Type 0
 IsWellFormed (code form n) = IsForm form × NoLabel (names_label form) n
 IsWellFormed _ = Unit {0}

@@ -16,26 +16,29 @@ use Rattle.text_line.specs.Written.{number_of}
 
 -- ---- ranges
 
+-- a magnitude is at most this: one without a value is 2 ^ 64 or more, and so above each bound
 abbrev pub is_at_most : ℕ → Option ℕ → Bool
 is_at_most most None = false
 is_at_most most (Some n) = nat_le n most
 
--- a signed number of 32 bits, and one of 16
+-- a signed number of 32 bits
 abbrev pub imm_fits : Number → Bool
 imm_fits n = is_at_most (if n.negative then 2147483648 else 2147483647) n.magnitude
 
+-- a signed number of 16 bits
 abbrev pub offset_fits : Number → Bool
 offset_fits n = is_at_most (if n.negative then 32768 else 32767) n.magnitude
 
--- an unsigned number of 32 bits
+-- an unsigned number of 32 bits: the offset in a map's value that a wide load has
 abbrev pub next_imm_fits : Option ℕ → Bool
 next_imm_fits n = is_at_most 4294967295 n
 
+-- the constant of an operand has 32 bits; a register has no number that could be out of range
 abbrev pub source_fits : SourceOperand → Bool
 source_fits (source.Number n) = imm_fits n
 source_fits (source.Reg r) = true
 
--- the target of a jump, or of a long one
+-- the number of a jump's target has 16 bits, that of a long jump's 32; a label is no number
 abbrev pub target_fits : Bool → JumpTarget → Bool
 target_fits long (target.Number n) = if long then imm_fits n else offset_fits n
 target_fits long target.Label = true
@@ -55,22 +58,26 @@ form_fits _ = true
 
 -- ---- labels, as numbers
 
+-- whether a magnitude is 0
 abbrev pub is_zero : Option ℕ → Bool
 is_zero None = false
 is_zero (Some n) = n == 0
 
--- a minus before 0 changes nothing
+-- the number without a minus before 0, which changes nothing
 abbrev pub normal : Number → Number
 normal n = record { negative = n.negative && not (is_zero n.magnitude); magnitude = n.magnitude }
 
+-- an operand with a minus only before a negative number
 abbrev pub normal_source : SourceOperand → SourceOperand
 normal_source (source.Number n) = source.Number (normal n)
 normal_source (source.Reg r) = source.Reg r
 
+-- an address with a minus only before a negative offset
 abbrev pub normal_address : Address → Address
 normal_address at = record { base = at.base; offset = normal at.offset }
 
--- a form with a minus only before negative numbers
+-- a form with a minus only before negative numbers; jumps are not changed, as `resolved` has
+-- equations of its own for them
 abbrev pub normal_form : Form → Form
 normal_form (form.Operation wide dst (operation.Binary op src)) =
     form.Operation wide dst (operation.Binary op (normal_source src))
@@ -83,7 +90,7 @@ normal_form (form.WideLoad dst (value.MapValue fd off)) =
 normal_form (form.Call id) = form.Call (normal id)
 normal_form f = f
 
--- a label is replaced by its distance
+-- the target of a jump as a number: of a label, its distance in slots from the next slot
 abbrev pub placed : ℤ → JumpTarget → JumpTarget
 placed distance (target.Number n) = target.Number (normal n)
 placed distance target.Label = target.Number (number_of distance)

@@ -4,14 +4,16 @@ use Rattle.text_line.specs.declared.form.Line.{Line as CodeLine}
 use Rattle.text_line.specs.declared.form.Line.TheVariants as written
 use Rattle.text_line.specs.Line.{Line, blank, label, code as instruction}
 
--- a line
+-- the line that a line of the code represents
 abbrev pub seen_line : CodeLine → Line
 seen_line written.Blank = blank
 seen_line (written.Label n) = label n.now
 seen_line (written.Code f n) = instruction f n.now
 
+-- the reading of a line that the code has; `None` if it has none of the forms
 abbrev pub seen_option : Option CodeLine → Option Line
 seen_option line = option_map seen_line line
 
+-- the readings of lines that the code has
 abbrev pub seen_lines : List (Option CodeLine) → List (Option Line)
 seen_lines lines = map seen_option lines

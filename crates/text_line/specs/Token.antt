@@ -22,12 +22,15 @@ symbols =
     ∷ codes "=" ∷ codes ">" ∷ codes "<" ∷ codes "&" ∷ codes "+" ∷ codes "-" ∷ codes "*" ∷ codes "("
     ∷ codes ")" ∷ codes ":" ∷ []
 
+-- a letter or an underscore
 abbrev pub is_name_start : ℕ → Bool
 is_name_start b = is_ascii_alphabetic b || b == 95
 
+-- a letter, an underscore or a digit
 abbrev pub is_name_byte : ℕ → Bool
 is_name_byte b = is_name_start b || is_ascii_digit b
 
+-- a digit, A to F or a to f
 abbrev pub is_hex_digit : ℕ → Bool
 is_hex_digit b = is_ascii_digit b || (nat_lt 64 b && nat_lt b 71) || (nat_lt 96 b && nat_lt b 103)
 
@@ -35,17 +38,20 @@ is_hex_digit b = is_ascii_digit b || (nat_lt 64 b && nat_lt b 71) || (nat_lt 96 
 abbrev pub value_of : ℕ → Option ℕ
 value_of n = if nat_lt n (2 ^ 64) then Some n else None
 
--- the bytes of a name, and of a number: decimal digits, or `0x` and hexadecimal ones
+-- the bytes are a name
 abbrev pub is_name : List ℕ → Bool
 is_name bytes = is_name_start (slice_index bytes 0) && list_all is_name_byte bytes
 
+-- the bytes are digits of this class, at least one
 abbrev pub are_digits : (ℕ → Bool) → List ℕ → Bool
 are_digits is_digit bytes = nat_lt 0 (length bytes) && list_all is_digit bytes
 
+-- the bytes are a number in decimal digits with this value
 abbrev pub IsDecimal : List ℕ → Option ℕ → Type 0
 IsDecimal bytes value =
     IsTrue (are_digits is_ascii_digit bytes) × (value ≡ value_of (digits_value 10 bytes))
 
+-- the bytes are a number with this value: `0x` and hexadecimal digits
 abbrev pub IsHexadecimal : List ℕ → Option ℕ → Type 0
 IsHexadecimal bytes value =
     (digits : List ℕ)
@@ -79,6 +85,6 @@ abbrev pub HasTokens : List ℕ → List Token → Type 0
 HasTokens text [] = IsTrue (is_over (skip_blanks text))
 HasTokens text (t ∷ ts) = (rest : List ℕ) × BeginsWith (skip_blanks text) t rest × HasTokens rest ts
 
--- each byte of a line is ASCII, those of its comment too
+-- the line has these tokens, and each of its bytes is ASCII, those of its comment too
 abbrev pub IsTokens : List ℕ → List Token → Type 0
 IsTokens line ts = IsAscii line × HasTokens line ts

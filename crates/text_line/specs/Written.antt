@@ -19,15 +19,17 @@ use Rattle.text_line.specs.declared.form.Form.TheVariants as form
 use Rattle.text_line.specs.Token.{Token, name, number, symbol}
 use Rattle.text_line.specs.Form.{TokenLayout, layout}
 
--- a minus only before a negative number
+-- a number as it is written, with a minus only if it is negative; `negsuc n` is -(n + 1)
 abbrev pub number_of : ℤ → Number
 number_of (pos n) = record { negative = false; magnitude = Some n }
 number_of (negsuc n) = record { negative = true; magnitude = Some (suc n) }
 
+-- an operand as it is written
 abbrev pub source_of : Operand → SourceOperand
 source_of (Imm z) = source.Number (number_of z)
 source_of (Reg r) = source.Reg r
 
+-- the address at this offset from a base register, as it is written
 abbrev pub address_of : ℕ → ℤ → Address
 address_of base off = record { base = base; offset = number_of off }
 
@@ -51,20 +53,23 @@ written (Const dst n) = form.WideLoad dst (value.Number (Some n))
 written (MapFd dst fd) = form.WideLoad dst (value.MapFd (number_of fd))
 written (MapValue dst fd off) = form.WideLoad dst (value.MapValue (number_of fd) (Some off))
 
--- a token's bytes, its number in decimal
+-- a token's bytes, its number in decimal; no printed line has a number without a value, which would
+-- be 2 ^ 64 or more
 abbrev pub lexeme : Token → List ℕ
 lexeme (name n) = n
 lexeme (number (Some n)) = decimal n
 lexeme (number None) = []
 lexeme (symbol s) = s
 
+-- the bytes of an entry of a layout: of its token, or a space
 abbrev pub piece : Option Token → List ℕ
 piece (Some t) = lexeme t
 piece None = 32 ∷ []
 
+-- the text of a layout
 abbrev pub laid_out : TokenLayout → List ℕ
 laid_out pieces = flat_map piece pieces
 
--- an instruction, as it is printed
+-- the line of an instruction as it is printed, without a line feed; its jump names no label
 unfoldable pub printed_insn : Insn → List ℕ
 printed_insn insn = laid_out (layout (written insn) [])

@@ -53,7 +53,8 @@ impl Number {
     }
 }
 
-/// A number without a sign as an unsigned 32-bit field; `None` if it is out of range.
+/// A number without a sign as the `next_imm` of a wide instruction, an unsigned 32-bit field (RFC 9669, section 3.2); `None` if it is
+/// out of range.
 fn next_imm(magnitude: Option<u64>) -> Option<u32>
     ensures found { IfSome result (λ n. Some n ≡ magnitude) }
     ensures fits { IfSome result (λ _. next_imm_fits magnitude ≡ true) }
@@ -63,6 +64,7 @@ fn next_imm(magnitude: Option<u64>) -> Option<u32>
 }
 
 impl SourceOperand {
+    /// The register of the operand, if it is one, is 0 to 10. A law: `number` shows it, and nothing is done when it runs.
     fn in_range(self)
         ensures { IsSource self }
     {
@@ -114,7 +116,7 @@ impl JumpTarget {
 }
 
 impl Operation {
-    /// The instruction of this operation on `dst`; `None` if its number is out of range.
+    /// The instruction of this operation on `dst`, of 64 bits if `wide`, else of the low 32; `None` if its number is out of range.
     fn insn(self, wide: bool, dst: Reg) -> Option<Insn>
         requires { IsForm (form.Operation wide dst self) }
         ensures found { IfSome result (λ insn. written insn
@@ -222,7 +224,7 @@ fn is_short(bits: ExtendedBits) -> bool
 
 impl Form {
     /// Whether a line can have this form: a sign extension is from fewer bits than the register has, a byte-order conversion is of 64
-    /// bits, and no double word is loaded with sign extension.
+    /// bits, and no double word is loaded with sign extension. The calls of `number` and `in_range` only show that registers are 0 to 10.
     fn is_listed(&self) -> bool
         ensures yes { result ≡ true → IsForm self.now }
         ensures no { result ≡ false → IsForm self.now → ⊥ }
@@ -288,7 +290,7 @@ impl Form {
         }
     }
 
-    /// The instruction of a form that a line can have.
+    /// The instruction of a form that a line can have, with `distance` in slots for a label; `None` if a number is out of range.
     fn listed_insn(self, distance: i16) -> Option<Insn>
         requires { IsForm self }
         ensures found { IfSome result (λ insn. written insn ≡ resolved distance self) }

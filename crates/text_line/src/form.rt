@@ -51,7 +51,7 @@ pub enum Operation {
 /// What an access does with the bytes in memory.
 #[derive(Clone, Copy, Debug, PartialEq, Eq)]
 pub enum Access {
-    /// A load, as `r1 = *(u32 *)(r6 + 0)`.
+    /// A load, as `r1 = *(u32 *)(r6 + 0)`; `signed` if it extends the sign, as one of `s32` does.
     Load {
         size: AccessSize,
         signed: bool,

@@ -1,4 +1,6 @@
-//! Parsing a line: its tokens as one of the forms.
+//! Parsing a line: its tokens as one of the forms. A parser is `None` if the tokens do not have its form, or if more follow.
+//!
+//! `wide` is true of `r` registers (64 bits), false of `w` registers (their low 32 bits).
 
 ghost use Rattle.std.specs.Prelude.{◌≡◌, option_map};
 ghost use Rattle.text_line.specs.inside.Shown.{shown_tokens};
@@ -19,7 +21,7 @@ use insn_set::{
 
 // ---- operations
 
-/// The source of an operator of two operands, with nothing after it.
+/// The operation `op`, an operator of two operands or a move, whose source is what the tokens spell: a constant or a register.
 #[tactic(auto, unfolding(crate::specs::inside::Reading::parsed_binary))]
 fn binary(wide: bool, op: AluOp, tokens: &[Token<'_>]) -> Option<Operation>
     ensures { result ≡ parsed_binary wide op (shown_tokens tokens.now) }
@@ -30,7 +32,7 @@ fn binary(wide: bool, op: AluOp, tokens: &[Token<'_>]) -> Option<Operation>
     at_end(Operation::Binary { op, src }, rest)
 }
 
-/// A move with sign extension, after `(`.
+/// A move with sign extension, from the tokens after `(`, as `s16)r2`. To a `w` register there is none from 32 bits.
 #[tactic(auto, unfolding(crate::specs::inside::Reading::parsed_sign_extension))]
 fn sign_extension(wide: bool, tokens: &[Token<'_>]) -> Option<Operation>
     ensures { result ≡ parsed_sign_extension wide (shown_tokens tokens.now) }
@@ -47,7 +49,7 @@ fn sign_extension(wide: bool, tokens: &[Token<'_>]) -> Option<Operation>
     at_end(Operation::SignExtend { from, src }, rest)
 }
 
-/// An operation in place: the destination again, with nothing after it.
+/// The operation `found`, which names its destination `dst` on both sides of `=`: the tokens have to be this register again.
 #[tactic(auto, unfolding(crate::specs::inside::Reading::parsed_in_place))]
 fn in_place(wide: bool, dst: Reg, found: Operation, tokens: &[Token<'_>]) -> Option<Operation>
     ensures { result ≡ parsed_in_place wide dst found (shown_tokens tokens.now) }
@@ -61,7 +63,8 @@ fn in_place(wide: bool, dst: Reg, found: Operation, tokens: &[Token<'_>]) -> Opt
     at_end(found, rest)
 }
 
-/// An operation of one operand, after `=`.
+/// An operation of one operand, from the tokens after `=`: a move with sign extension, a negation, or a byte-order conversion,
+/// which only an `r` register has.
 #[tactic(auto, unfolding(crate::specs::inside::Reading::parsed_unary))]
 fn unary(wide: bool, dst: Reg, tokens: &[Token<'_>]) -> Option<Operation>
     ensures { result ≡ parsed_unary wide dst (shown_tokens tokens.now) }
@@ -80,7 +83,7 @@ fn unary(wide: bool, dst: Reg, tokens: &[Token<'_>]) -> Option<Operation>
     in_place(true, dst, Operation::End { how, bits }, rest)
 }
 
-/// An operation, after its symbol.
+/// The operation on `dst` with the symbol of `op`, from the tokens after it. Operations of one operand have the symbol of a move.
 #[tactic(auto, unfolding(crate::specs::inside::Reading::parsed_operation))]
 fn operation(wide: bool, op: AluOp, dst: Reg, tokens: &[Token<'_>]) -> Option<Operation>
     ensures { result ≡ parsed_operation wide op dst (shown_tokens tokens.now) }
@@ -97,7 +100,7 @@ fn operation(wide: bool, op: AluOp, dst: Reg, tokens: &[Token<'_>]) -> Option<Op
 
 // ---- forms
 
-/// A load, after `=`.
+/// A load into `dst`, from the tokens after `=`.
 #[tactic(auto, unfolding(crate::specs::inside::Reading::parsed_load))]
 fn load(dst: Reg, tokens: &[Token<'_>]) -> Option<Form>
     ensures { result ≡ parsed_load dst (shown_tokens tokens.now) }
@@ -109,7 +112,7 @@ fn load(dst: Reg, tokens: &[Token<'_>]) -> Option<Form>
     at_end(Form::Access { access, address }, rest)
 }
 
-/// A store.
+/// A store: a memory operand whose size is not signed, `=`, and a constant or an `r` register.
 #[tactic(auto, unfolding(crate::specs::inside::Reading::parsed_store))]
 fn store(tokens: &[Token<'_>]) -> Option<Form>
     ensures { result ≡ parsed_store (shown_tokens tokens.now) }
@@ -128,7 +131,7 @@ fn store(tokens: &[Token<'_>]) -> Option<Form>
     at_end(Form::Access { access, address }, rest)
 }
 
-/// An atomic operation, after `lock`.
+/// An atomic operation, from the tokens after `lock`. Its size is 4 or 8 bytes, not signed.
 #[tactic(auto, unfolding(crate::specs::inside::Reading::parsed_atomic))]
 fn atomic(tokens: &[Token<'_>]) -> Option<Form>
     ensures { result ≡ parsed_atomic (shown_tokens tokens.now) }
@@ -146,7 +149,7 @@ fn atomic(tokens: &[Token<'_>]) -> Option<Form>
     at_end(Form::Access { access, address }, rest)
 }
 
-/// A wide load, after `=`.
+/// A load of a 64-bit value into `dst`, from the tokens after `=`: the value, and `ll`.
 #[tactic(auto, unfolding(crate::specs::inside::Reading::parsed_wide_load))]
 fn wide_load(dst: Reg, tokens: &[Token<'_>]) -> Option<Form>
     ensures { result ≡ parsed_wide_load dst (shown_tokens tokens.now) }
@@ -156,7 +159,7 @@ fn wide_load(dst: Reg, tokens: &[Token<'_>]) -> Option<Form>
     at_end(Form::WideLoad { dst, value }, rest)
 }
 
-/// An operation on a register, or a load.
+/// A line that begins with its destination register: an operation on it; or a load or a wide load into it, if it is an `r` register.
 #[tactic(auto, unfolding(crate::specs::inside::Reading::parsed_assigned))]
 fn assigned(tokens: &[Token<'_>]) -> Option<Form>
     ensures { result ≡ parsed_assigned (shown_tokens tokens.now) }
@@ -177,7 +180,7 @@ fn assigned(tokens: &[Token<'_>]) -> Option<Form>
     }
 }
 
-/// A conditional jump, after `if`.
+/// A conditional jump, from the tokens after `if`, and the label that it names: the empty text if it names none.
 #[tactic(auto, unfolding(crate::specs::inside::Reading::parsed_branch))]
 fn branch<'a>(tokens: &[Token<'a>]) -> Option<(Form, &'a str)>
     ensures { seen_destination result ≡ parsed_branch (shown_tokens tokens.now) }
@@ -203,7 +206,7 @@ fn branch<'a>(tokens: &[Token<'a>]) -> Option<(Form, &'a str)>
     ))
 }
 
-/// An instruction, and the label that its jump names.
+/// An instruction, and the label that its jump names: the empty text if it names none.
 #[tactic(auto, unfolding(crate::specs::inside::Reading::parsed_form))]
 fn form<'a>(tokens: &[Token<'a>]) -> Option<(Form, &'a str)>
     ensures { seen_destination result ≡ parsed_form (shown_tokens tokens.now) }
@@ -241,7 +244,7 @@ fn form<'a>(tokens: &[Token<'a>]) -> Option<(Form, &'a str)>
 
 // ---- lines
 
-/// The name of the label that the line defines.
+/// The name of the label that the line defines, if it is a name and `:`.
 #[tactic(auto, unfolding(crate::specs::inside::Reading::parsed_label))]
 fn label<'a>(tokens: &[Token<'a>]) -> Option<&'a str>
     ensures { option_map (λ n. n.now) result ≡ parsed_label (shown_tokens tokens.now) }

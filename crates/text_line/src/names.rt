@@ -1,4 +1,4 @@
-//! The meanings of names and symbols.
+//! Registers by their names, and the size of an atomic operation by that of its memory operand.
 
 ghost use Rattle.std.specs.Prelude.{◌≡◌};
 ghost use Rattle.insn_set.specs.Table.{named};
@@ -18,7 +18,7 @@ pub(crate) fn atomic_size(signed: bool, size: AccessSize) -> Option<AtomicSize>
     }
 }
 
-/// Whether the name is that of all 64 bits (`r`) or of the low 32 (`w`), and the register.
+/// Whether the name is that of all 64 bits of a register (`r`) or of the low 32 (`w`), and the register; `None` if it names none.
 pub(crate) fn register_named(name: &str) -> Option<(bool, Reg)>
     ensures { result ≡ named registers name.now }
 {

@@ -1,4 +1,5 @@
-//! Parsers of parts of a line. Each returns the part at the front of the tokens, and the tokens after it.
+//! Parsers of parts of a line. Each returns the part at the front of the tokens, and the tokens after it; `None` if they do not begin
+//! with such a part.
 
 ghost use Rattle.std.specs.Prelude.{◌≡◌};
 ghost use Rattle.text_line.specs.inside.Shown.{shown_tokens};
@@ -11,6 +12,7 @@ use insn_set::{AccessSize, Reg, size_by_name};
 
 // ---- one token, and the tokens after it
 
+/// The first token, if it is a symbol, and the tokens after it.
 pub(crate) fn symbol<'t, 'a>(tokens: &'t [Token<'a>]) -> Option<(&'a str, &'t [Token<'a>])>
     ensures { seen_label result ≡ leading_symbol (shown_tokens tokens.now) }
 {
@@ -20,6 +22,7 @@ pub(crate) fn symbol<'t, 'a>(tokens: &'t [Token<'a>]) -> Option<(&'a str, &'t [T
     }
 }
 
+/// The first token, if it is a name, and the tokens after it.
 pub(crate) fn name<'t, 'a>(tokens: &'t [Token<'a>]) -> Option<(&'a str, &'t [Token<'a>])>
     ensures { seen_label result ≡ leading_name (shown_tokens tokens.now) }
 {
@@ -29,6 +32,7 @@ pub(crate) fn name<'t, 'a>(tokens: &'t [Token<'a>]) -> Option<(&'a str, &'t [Tok
     }
 }
 
+/// The value of the first token, if it is a number (`None` from 2 ^ 64 on), and the tokens after it.
 pub(crate) fn number<'t, 'a>(tokens: &'t [Token<'a>]) -> Option<(Option<u64>, &'t [Token<'a>])>
     ensures { seen_pair result ≡ leading_number (shown_tokens tokens.now) }
 {
@@ -38,7 +42,7 @@ pub(crate) fn number<'t, 'a>(tokens: &'t [Token<'a>]) -> Option<(Option<u64>, &'
     }
 }
 
-/// The tokens after the symbol `expected`.
+/// The tokens after the symbol `expected`; `None` if the first token is another.
 #[tactic(auto, unfolding(crate::specs::inside::Reading::after_symbol))]
 pub(crate) fn after_symbol<'t, 'a>(
     tokens: &'t [Token<'a>],
@@ -50,7 +54,7 @@ pub(crate) fn after_symbol<'t, 'a>(
     if found == expected { Some(rest) } else { None }
 }
 
-/// The tokens after the name `expected`.
+/// The tokens after the name `expected`; `None` if the first token is another.
 #[tactic(auto, unfolding(crate::specs::inside::Reading::after_word))]
 pub(crate) fn after_word<'t, 'a>(tokens: &'t [Token<'a>], expected: &str) -> Option<&'t [Token<'a>]>
     ensures { seen result ≡ after_word expected.now (shown_tokens tokens.now) }
@@ -61,7 +65,7 @@ pub(crate) fn after_word<'t, 'a>(tokens: &'t [Token<'a>], expected: &str) -> Opt
 
 // ---- parts of a line
 
-/// A register: `r` if `wide`, else `w`.
+/// A register, and the tokens after it: `r` (64 bits) if `wide`, else `w` (the low 32).
 #[tactic(auto, unfolding(crate::specs::inside::Reading::leading_register))]
 pub(crate) fn register<'t, 'a>(
     wide: bool,
@@ -78,7 +82,7 @@ pub(crate) fn register<'t, 'a>(
     }
 }
 
-/// A number without a sign, as one that has a minus if `negative`.
+/// The number of the first token, which has no sign, as one that has a minus if `negative`, and the tokens after it.
 fn number_from<'t, 'a>(negative: bool, tokens: &'t [Token<'a>]) -> Option<(Number, &'t [Token<'a>])>
     ensures { seen_pair result ≡ number_from negative (leading_number (shown_tokens tokens.now)) }
 {
@@ -114,7 +118,7 @@ pub(crate) fn signed<'t, 'a>(tokens: &'t [Token<'a>]) -> Option<(Number, &'t [To
     }
 }
 
-/// A register or a constant.
+/// A register, `r` if `wide`, else `w`, or a constant, and the tokens after it.
 #[tactic(auto, unfolding(crate::specs::inside::Reading::leading_operand))]
 pub(crate) fn operand<'t, 'a>(
     wide: bool,
@@ -184,7 +188,8 @@ pub(crate) fn address<'t, 'a>(
     Some(((size, Address { base, offset }), rest))
 }
 
-/// The value of a wide load.
+/// The value of a wide load without its `ll`, and the tokens after it: `map_fd` and a descriptor; `map_value`, a descriptor, `+` and an
+/// offset; or a number.
 #[tactic(auto, unfolding(crate::specs::inside::Reading::leading_wide_value))]
 pub(crate) fn wide_value<'t, 'a>(tokens: &'t [Token<'a>]) -> Option<(WideValue, &'t [Token<'a>])>
     ensures { seen_pair result ≡ leading_wide_value (shown_tokens tokens.now) }

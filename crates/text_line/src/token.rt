@@ -23,7 +23,7 @@ pub(crate) enum Token<'a> {
     Symbol(&'a str),
 }
 
-/// The symbols, the longer ones first.
+/// The symbols, the longer ones first: so the first one with which a text begins is the longest.
 const SYMBOLS: [&str; 31] = [
     "s>>=", "s/=", "s%=", "s>=", "s<=", "<<=", ">>=", "s>", "s<", "+=", "-=", "*=", "/=", "|=",
     "&=", "%=", "^=", "==", ">=", "!=", "<=", "=", ">", "<", "&", "+", "-", "*", "(", ")", ":",
@@ -64,6 +64,7 @@ enum ByteClass {
 impl ByteClass {
     ghost use Rattle.text_line.specs.inside.Class.{in_class};
 
+    /// Whether the byte is of this class. `Name` has the bytes of a name after its first, so digits too.
     fn contains(self, byte: u8) -> bool
         ensures { result ≡ in_class self byte }
     {
@@ -88,19 +89,21 @@ impl ByteClass {
     }
 }
 
+/// Whether a name can begin with the byte: a letter or `_`.
 fn is_name_start(byte: u8) -> bool
     ensures { result ≡ is_name_start byte }
 {
     byte.is_ascii_alphabetic() || byte == b'_'
 }
 
+/// Whether the byte is a hexadecimal digit, in either case.
 fn is_hex_digit(byte: u8) -> bool
     ensures { result ≡ is_hex_digit byte }
 {
     byte.is_ascii_digit() || (byte > 64 && byte < 71) || (byte > 96 && byte < 103)
 }
 
-/// The byte at an index, or 0.
+/// The byte at an index; 0 past the end.
 fn byte_at(text: &[u8], index: usize) -> u8
     ensures { result ≡ slice_index text.now index }
 {
@@ -118,7 +121,7 @@ fn after_blanks(text: &str) -> &str
     rest
 }
 
-/// The symbol at the front, and the text after it.
+/// The symbol at the front, and the text after it; `None` if there is none.
 fn symbol(text: &str) -> Option<(Token<'_>, &str)>
     requires { IsAscii text.now }
     ensures value { shown_front result ≡ option_map
@@ -134,7 +137,7 @@ fn symbol(text: &str) -> Option<(Token<'_>, &str)>
     Some((Token::Symbol(symbol), rest))
 }
 
-/// The name at the front, and the text after it.
+/// The name at the front, and the text after it; `None` if there is none.
 #[tactic(auto, unfolding(crate::specs::inside::Tokens::name_at))]
 fn name(text: &str) -> Option<(Token<'_>, &str)>
     requires { IsAscii text.now }
@@ -150,7 +153,7 @@ fn name(text: &str) -> Option<(Token<'_>, &str)>
     Some((Token::Name(name), rest))
 }
 
-/// The number at the front, and the text after it.
+/// The number at the front, decimal, or hexadecimal after `0x`, and the text after it; `None` if no digit is at the front.
 #[tactic(auto, unfolding(crate::specs::inside::Tokens::number_at))]
 fn number(text: &str) -> Option<(Token<'_>, &str)>
     requires { IsAscii text.now }
@@ -170,7 +173,7 @@ fn number(text: &str) -> Option<(Token<'_>, &str)>
     None
 }
 
-/// The number whose digits, of this class and radix, are at the front, and the text after them.
+/// The number whose digits, of this class and radix, are at the front, and the text after them. It has no value from 2 ^ 64 on.
 fn value(text: &str, class: ByteClass, radix: u32) -> (Token<'_>, &str)
     requires ascii { IsAscii text.now }
     requires digits { IsDigits class radix }
@@ -186,6 +189,7 @@ fn value(text: &str, class: ByteClass, radix: u32) -> (Token<'_>, &str)
 }
 
 /// The longest token at the front of the text, and the text after it; `None` if no token begins there. Blanks are not skipped.
+/// Symbols are tried first: one that begins with a letter, as `s>=`, is longer than the name that it begins.
 #[tactic(auto, unfolding(crate::specs::inside::Tokens::token_at))]
 fn first_token(text: &str) -> Option<(Token<'_>, &str)>
     requires { IsAscii text.now }

@@ -22,7 +22,7 @@ use Rattle.words.specs.Widths.{width}
 use Rattle.tagged_model.specs.Values.{is_near}
 use Rattle.tagged_model.specs.Cells.{and_then}
 
--- a kind that may be read
+-- the kind, if it may be read
 abbrev pub check_readable : Kind → Result Kind Reason
 check_readable Unreadable = Err UnreadableRegister
 check_readable k = Ok k
@@ -30,9 +30,11 @@ check_readable k = Ok k
 -- ---- the distance by which a number moves a pointer: its range, read as signed; None unless all
 -- of it has one sign
 
+-- the least and the greatest of numbers that are read as signed
 abbrev pub Distance : Type 0
 Distance = ℤ × ℤ
 
+-- the least and the greatest number of a range, read as signed, if all have one sign
 abbrev pub distance : Range → Option Distance
 distance r =
     if nat_lt r.hi (2 ^ 63) then Some (pos r.lo, pos r.hi) else
@@ -42,32 +44,38 @@ distance r =
 
 -- ---- moved pointers: forwards by a sum, backwards by a difference
 
+-- the offset, if it is not too far
 abbrev pub near_offset : ℤ → Option ℤ
 near_offset x = if is_near x then Some x else None
 
+-- offset x moved by d bytes, if it is not too far then
 abbrev pub moved_offset : Direction → ℤ → ℤ → Option ℤ
 moved_offset Forwards x d = near_offset (x +ℤ d)
 moved_offset Backwards x d = near_offset (x -ℤ d)
 
--- the result if there is one; else it is too far
+-- the result if there is one; else the pointer is moved too far
 abbrev pub near : {A : Type 0} → Option A → Result A Reason
 near None = Err OffsetTooLarge
 near (Some x) = Ok x
 
+-- the kind of the stack pointer at offset x, moved by the one number of a range
 abbrev pub stack_moved : Direction → ℤ → Range → Result Kind Reason
 stack_moved way x r =
     and_then_ok (near (and_then (distance r) (λ d. moved_offset way x d.0))) (λ y. Ok (Stack y))
 
--- from the least offset to the greatest
+-- a pointer into a value, from the least offset to the greatest, if there are both
 abbrev pub spanned : ℕ → Option ℤ → Option ℤ → Option ValuePointer
 spanned map low high = and_then low (λ lo. and_then high (λ hi. Some (value_span map lo hi)))
 
+-- a pointer into a value, moved by a number of a distance, if it can't be too far then; backwards
+-- the greatest number leads to the least offset
 abbrev pub value_by : Direction → ValuePointer → Distance → Option ValuePointer
 value_by Forwards p d =
     spanned p.map (moved_offset Forwards p.lo d.0) (moved_offset Forwards p.hi d.1)
 value_by Backwards p d =
     spanned p.map (moved_offset Backwards p.lo d.1) (moved_offset Backwards p.hi d.0)
 
+-- the kind of a pointer into a value, moved by a number of a range
 abbrev pub value_moved : Direction → ValuePointer → Range → Result Kind Reason
 value_moved way p r =
     and_then_ok (near (and_then (distance r) (value_by way p))) (λ q. Ok (Value q))
@@ -80,39 +88,42 @@ pointer_moved way k r = Err PointerArithmetic
 
 -- ---- two operands
 
+-- the kind of a look-up that may be null
 abbrev pub is_maybe : Kind → Bool
 is_maybe (MaybeValue m site) = true
 is_maybe k = false
 
--- an operator of two numbers
+-- the kind of an operator's result on two numbers
 abbrev pub of_scalars : Bool → Operator → Kind → Kind → Result Kind Reason
 of_scalars wide op (Scalar a) (Scalar b) = Ok (Scalar (range_of (width wide) op a b))
 of_scalars wide op a b = Err PointerArithmetic
 
+-- the kind of a 64-bit sum: of two numbers, or of a pointer and a number in either order
 abbrev pub sum_kind : Kind → Kind → Result Kind Reason
 sum_kind (Scalar a) (Scalar b) = of_scalars true (Binary alu.Add) (Scalar a) (Scalar b)
 sum_kind (Scalar a) b = pointer_moved Forwards b a
 sum_kind a (Scalar b) = pointer_moved Forwards a b
 sum_kind a b = Err PointerArithmetic
 
+-- the kind of a 64-bit difference: of two numbers, or a pointer minus a number
 abbrev pub difference_kind : Kind → Kind → Result Kind Reason
 difference_kind (Scalar a) (Scalar b) = of_scalars true (Binary alu.Sub) (Scalar a) (Scalar b)
 difference_kind (Scalar a) b = Err PointerArithmetic
 difference_kind a (Scalar b) = pointer_moved Backwards a b
 difference_kind a b = Err PointerArithmetic
 
--- a look-up that may be null is not moved
+-- the result r, unless an operand is a look-up that may be null, which is not moved
 abbrev pub unless_maybe : Kind → Kind → Result Kind Reason → Result Kind Reason
 unless_maybe a b r = if is_maybe a || is_maybe b then Err MaybeNull else r
 
--- a 64-bit move copies any value; 64-bit sums and differences move pointers; everything else is
--- only for numbers
+-- the kind of an operator's result on two operands: a 64-bit move copies any value; 64-bit sums and
+-- differences move pointers; everything else is only for numbers
 abbrev pub arithmetic_kind : Bool → AluOp → Kind → Kind → Result Kind Reason
 arithmetic_kind true alu.Mov a b = Ok b
 arithmetic_kind true alu.Add a b = unless_maybe a b (sum_kind a b)
 arithmetic_kind true alu.Sub a b = unless_maybe a b (difference_kind a b)
 arithmetic_kind wide op a b = of_scalars wide (Binary op) a b
 
--- an operator of one number
+-- the kind of an operator's result on one number
 abbrev pub of_scalar : Bool → Operator → Kind → Result Kind Reason
 of_scalar wide op k = of_scalars wide op k k

@@ -21,9 +21,11 @@ pub record Edges : Type 0 where
   pub falling : Option Facts
   pub jumping : Option Facts
 
+-- only the falling edge, with these facts
 abbrev pub falls : Facts → Result Edges Reason
 falls f = Ok (record { falling = Some f; jumping = None })
 
+-- no edge: the run ends
 abbrev pub ends : Result Edges Reason
 ends = Ok (record { falling = None; jumping = None })
 
@@ -34,14 +36,16 @@ abbrev pub with_source : Facts → Operand → Range → Facts
 with_source f (Imm z) r = f
 with_source f (Reg n) r = with_kind f n (Scalar r)
 
+-- the facts with a range for each operand of a comparison, that of dst first
 abbrev pub with_pair : Facts → ℕ → Operand → RangePair → Facts
 with_pair f dst src p = with_source (with_kind f dst (Scalar p.0)) src p.1
 
--- a comparison of a register with itself refines nothing
+-- a register is compared with itself, which refines nothing
 abbrev pub is_same : ℕ → Operand → Bool
 is_same dst (Imm z) = false
 is_same dst (Reg n) = n == dst
 
+-- the edges of a comparison of two numbers, in the ranges a and b, which it refines on each edge
 abbrev pub number_edges : Bool → Condition → Facts → ℕ → Operand → Range → Range → Edges
 number_edges wide cond f dst src a b =
     if is_same dst src then record { falling = Some f; jumping = Some f } else
@@ -52,23 +56,25 @@ number_edges wide cond f dst src a b =
 
 -- ---- tests of pointers for null
 
--- the edges of a test that jumps on null, or on not null, from the facts for each case
+-- the edges of a test that jumps on null (true), or on not null, from the facts for each case
 abbrev pub null_edges : Bool → Option Facts → Option Facts → Edges
 null_edges true null value = record { falling = value; jumping = null }
 null_edges false null value = record { falling = null; jumping = value }
 
--- a look-up is settled on both edges
+-- the edges of a null test of the look-up at a site, which is settled on both
 abbrev pub settled_edges : Bool → ℕ → Facts → Edges
 settled_edges jumps site f =
     null_edges jumps (Some (facts_settled site true f)) (Some (facts_settled site false f))
 
--- any other pointer is not null
+-- the edges of a null test of a pointer or a map of kind k; only a look-up may be null
 abbrev pub pointer_edges : Condition → Facts → Kind → Edges
 pointer_edges cond f (MaybeValue m site) = settled_edges (not (holds_of_pointers cond)) site f
 pointer_edges cond f k = null_edges (not (holds_of_pointers cond)) None (Some f)
 
 -- ---- numbers and pointers
 
+-- the edges of a conditional jump on operands of these kinds: a comparison of numbers or a null
+-- test
 abbrev pub branch_edges : Bool → Condition → Facts → ℕ → Operand → Kind → Kind → Result Edges Reason
 branch_edges wide cond f dst src (Scalar a) (Scalar b) = Ok (number_edges wide cond f dst src a b)
 branch_edges wide cond f dst src (Scalar a) k = Err PointerComparison

@@ -20,10 +20,12 @@ use Rattle.tagged_model.specs.Named.{Shapes}
 use Rattle.transfer.specs.declared.calls.ShapedMap.{ShapedMap}
 use Rattle.transfer.specs.Arithmetic.{check_readable}
 
+-- the map of descriptor m with its shape, if it has one
 abbrev pub shaped : ℕ → Option MapShape → Result ShapedMap Reason
 shaped m None = Err HelperArgument
 shaped m (Some shape) = Ok (record { descriptor = m; shape = shape })
 
+-- the map that an argument of this kind is
 abbrev pub map_kind : Shapes → Kind → Result ShapedMap Reason
 map_kind shapes (kind.MapRef m) = shaped m (shapes m)
 map_kind shapes k = Err HelperArgument
@@ -36,13 +38,15 @@ room_of p off n (Some shape) =
     then Ok tt
     else Err OutsideValue
 
+-- n bytes at an argument of this kind may be read; or the first reason against it
 abbrev pub input_kind : Shapes → Facts → ℕ → Kind → Result (Unit {0}) Reason
 input_kind shapes f n (kind.Stack x) = stack_input f x n
 input_kind shapes f n (kind.Value p) = room_of p (pos 0) n (shapes p.map)
 input_kind shapes f n (kind.MaybeValue m site) = Err MaybeNull
 input_kind shapes f n k = Err HelperArgument
 
--- the facts after a write of r.lo to r.hi bytes
+-- the facts after a write of r.lo to r.hi bytes at an argument of this kind; a write into the value
+-- of a map changes no fact
 abbrev pub output_facts : Shapes → Facts → Range → Kind → Result Facts Reason
 output_facts shapes f r (kind.Stack x) = stack_filled f x r.lo r.hi
 output_facts shapes f r (kind.Value p) =
@@ -50,6 +54,7 @@ output_facts shapes f r (kind.Value p) =
 output_facts shapes f r (kind.MaybeValue m site) = Err MaybeNull
 output_facts shapes f r k = Err HelperArgument
 
+-- the range of an argument that has to be a number
 abbrev pub number_kind : Kind → Result Range Reason
 number_kind (kind.Scalar r) = Ok r
 number_kind k = Err HelperArgument
@@ -58,21 +63,24 @@ number_kind k = Err HelperArgument
 abbrev pub lengths_end : ℕ
 lengths_end = 2 ^ 29
 
+-- the range of an argument that has to be a length: above 0, and below `lengths_end`
 abbrev pub length_kind : Kind → Result Range Reason
 length_kind (kind.Scalar r) =
     if r.lo == 0 || nat_le lengths_end r.hi then Err LengthUnbounded else Ok r
 length_kind k = Err HelperArgument
 
+-- the argument has to be the context
 abbrev pub context_kind : Kind → Result (Unit {0}) Reason
 context_kind kind.Ctx = Ok tt
 context_kind k = Err HelperArgument
 
--- the kinds of the first registers from 1 on, if all may be read
+-- passes on the kinds of registers 1 and 2, if both may be read
 abbrev pub readable_two : Facts → (Kind → Kind → Result Facts Reason) → Result Facts Reason
 readable_two f go =
     and_then_ok (check_readable (kind_at f 1))
     (λ a. and_then_ok (check_readable (kind_at f 2)) (λ b. go a b))
 
+-- passes on the kinds of registers 1 to 4, if all may be read
 abbrev pub readable_four : Facts → (Kind → Kind → Kind → Kind → Result Facts Reason)
     → Result Facts Reason
 readable_four f go =
@@ -81,10 +89,12 @@ readable_four f go =
     and_then_ok (check_readable (kind_at f 3))
     (λ c. and_then_ok (check_readable (kind_at f 4)) (λ d. go a b c d)))
 
+-- the kind of all 64-bit numbers
 abbrev pub any_number : Kind
 any_number = kind.Scalar (full 64)
 
--- the facts after a call at a slot
+-- the facts after a call at slot `at`, or the first condition that fails; the slot is the site of a
+-- look-up
 abbrev pub call_facts : Shapes → ℕ → Helper → Facts → Result Facts Reason
 call_facts shapes at LookUp f =
     readable_two f (λ a b.

@@ -39,12 +39,12 @@ use Rattle.transfer.specs.Calls.{room_of, any_number, call_facts}
 
 -- ---- operands
 
--- the second operand: a constant, modulo 2 ^ n, or a register
+-- the kind of the second operand: a constant, modulo 2 ^ 64 (true) or 2 ^ 32, or a register
 abbrev pub source_kind : Facts → Bool → Operand → Kind
 source_kind f wide (Imm z) = kind.Scalar (constant (unsigned (width wide) z))
 source_kind f wide (Reg r) = kind_at f r
 
--- the first operand, which a move does not read
+-- the kind of the first operand, which a move does not read
 abbrev pub first_kind : AluOp → Kind → Result Kind Reason
 first_kind alu.Mov k = Ok (kind.Scalar (constant 0))
 first_kind op k = check_readable k
@@ -55,15 +55,17 @@ assigns f dst r = and_then_ok r (λ k. falls (with_kind f dst k))
 
 -- ---- memory
 
--- the context: words of four bytes, each loaded whole
+-- this is the offset of a word of the context: words have four bytes, and each is loaded whole
 abbrev pub is_word : ℤ → Bool
 is_word (pos y) = (y % 4 == 0) && nat_lt y (4 * context_words)
 is_word (negsuc y) = false
 
+-- the kind of a load at offset y of the context: a whole word, zero-extended (false)
 abbrev pub context_read : ℤ → AccessSize → Bool → Result Kind Reason
 context_read y Word false = if is_word y then Ok (kind.Scalar (full 32)) else Err ContextAccess
 context_read y size signed = Err ContextAccess
 
+-- the kind of a load, `off` bytes from an address of this kind; or the first reason against it
 abbrev pub load_kind : Shapes → Facts → AccessSize → Bool → ℤ → Kind → Result Kind Reason
 load_kind shapes f size signed off (kind.Stack x) = stack_read f (x +ℤ off) size signed
 load_kind shapes f size signed off kind.Ctx = context_read off size signed
@@ -72,10 +74,13 @@ load_kind shapes f size signed off (kind.Value p) =
 load_kind shapes f size signed off (kind.MaybeValue m site) = Err MaybeNull
 load_kind shapes f size signed off k = Err NotPointer
 
--- only numbers are stored outside the stack, and a store there changes no fact
+-- the facts after a store of a value of kind v outside the stack: only numbers may be stored there,
+-- and no fact changes
 abbrev pub stored_outside : Facts → Kind → Result Facts Reason
 stored_outside f v = if is_pointer v then Err PointerStored else Ok f
 
+-- the facts after a store of a value of kind v, `off` bytes from an address of this kind; or the
+-- first reason against it
 abbrev pub store_facts : Shapes → Facts → AccessSize → ℤ → Kind → Kind → Result Facts Reason
 store_facts shapes f size off (kind.Stack x) v = stack_write f (x +ℤ off) size v
 store_facts shapes f size off kind.Ctx v = Err ContextAccess
@@ -86,25 +91,30 @@ store_facts shapes f size off k v = Err NotPointer
 
 -- ---- atomic operations: they load a number and store one at its address, so no other fact changes
 
+-- the kind is that of a number, or else this is the reason
 abbrev pub number_or : Reason → Kind → Result (Unit {0}) Reason
 number_or reason (kind.Scalar r) = Ok tt
 number_or reason k = Err reason
 
+-- the facts after an atomic operation at offset y of the stack: it loads a number and stores one
 abbrev pub stack_changed : Facts → ℤ → AccessSize → Result Facts Reason
 stack_changed f y size =
     and_then_ok (stack_read f y size false)
     (λ k. and_then_ok (number_or PartOfSpill k) (λ _. stack_write f y size any_number))
 
--- the offset of an access within a value is known, and a multiple of the size
+-- the offset `off` bytes from a pointer into a value is known, and a multiple of the size
 abbrev pub is_known_multiple : ValuePointer → ℤ → AccessSize → Bool
 is_known_multiple p off size = int_eq p.lo p.hi && is_multiple (p.lo +ℤ off) (bytes_of size)
 
+-- the facts after an atomic operation `off` bytes from a pointer into a value: they are unchanged
 abbrev pub value_changed : Facts → ValuePointer → ℤ → AccessSize → Option MapShape
     → Result Facts Reason
 value_changed f p off size o =
     and_then_ok (room_of p off (bytes_of size) o)
     (λ _. if is_known_multiple p off size then Ok f else Err UnalignedAtomic)
 
+-- the facts after an atomic operation with an operand of kind v, `off` bytes from an address of
+-- this kind
 abbrev pub changed_facts : Shapes → Facts → AccessSize → ℤ → Kind → Kind → Result Facts Reason
 changed_facts shapes f size off (kind.Stack x) v =
     and_then_ok (number_or PointerArithmetic v) (λ _. stack_changed f (x +ℤ off) size)
@@ -117,6 +127,7 @@ changed_facts shapes f size off k v = Err NotPointer
 -- ---- maps and calls: it is a fault of the program's shape if a descriptor names no map, or one
 -- without this direct value, or if a helper is unknown
 
+-- the kind of the map with descriptor m, if it names one
 abbrev pub map_of : ℕ → Option MapShape → Result Kind Reason
 map_of m None = Err DescriptorNotMap
 map_of m (Some shape) = Ok (kind.MapRef m)
@@ -129,22 +140,25 @@ value_of m offset (Some shape) =
     then Ok (kind.Value (value_span m (pos offset) (pos offset)))
     else Err NoDirectValue
 
+-- the helper, if it is known
 abbrev pub known : Option Helper → Result Helper Reason
 known None = Err UnknownHelper
 known (Some h) = Ok h
 
 -- ---- the end of a run
 
+-- a run may end with a number as result: there is no edge then
 abbrev pub exits_with : Kind → Result Edges Reason
 exits_with (kind.Scalar r) = ends
 exits_with k = Err ResultNotScalar
 
+-- the end of a run, whose result is in register 0
 abbrev pub exit_edges : Facts → Result Edges Reason
 exit_edges f = and_then_ok (check_readable (kind_at f 0)) exits_with
 
 -- ---- operators
 
--- of two operands
+-- the edge after an operator of two operands, whose result goes to dst
 abbrev pub operator_edges : Bool → AluOp → ℕ → Operand → Facts → Result Edges Reason
 operator_edges wide op dst src f =
     and_then_ok (first_kind op (kind_at f dst))
@@ -152,14 +166,14 @@ operator_edges wide op dst src f =
     and_then_ok (check_readable (source_kind f wide src))
     (λ b. assigns f dst (arithmetic_kind wide op a b)))
 
--- of one operand
+-- the edge after an operator of one operand, whose result goes to dst
 abbrev pub unary_edges : Bool → Operator → ℕ → ℕ → Facts → Result Edges Reason
 unary_edges wide op dst src f =
     and_then_ok (check_readable (kind_at f src)) (λ k. assigns f dst (of_scalar wide op k))
 
 -- ---- accesses and wide loads
 
--- at an address of this kind
+-- the edge after an access, `off` bytes from an address of kind k
 abbrev pub access_edges : Shapes → Facts → Access → ℤ → Kind → Result Edges Reason
 access_edges shapes f (loads size signed dst) off k =
     assigns f dst (load_kind shapes f size signed off k)
@@ -170,6 +184,7 @@ access_edges shapes f (changes size op src) off k =
     and_then_ok (check_readable (kind_at f src))
     (λ v. and_then_ok (changed_facts shapes f (access_size size) off k v) falls)
 
+-- the kind of what a wide load puts into its register
 abbrev pub wide_kind : Shapes → WideValue → Result Kind Reason
 wide_kind shapes (immediate n) = Ok (kind.Scalar (constant n))
 wide_kind shapes (map_ref m) = map_of m (shapes m)
@@ -177,6 +192,8 @@ wide_kind shapes (value_ref m off) = value_of m off (shapes m)
 
 -- ---- the transfer function of each group of instructions, at a slot
 
+-- the facts on the edges out of an instruction at slot `at`, by its group (`View` of `insn_set`),
+-- or why it may not be run
 abbrev pub effect_of : Shapes → ℕ → View → Facts → Result Edges Reason
 effect_of shapes at (binary wide op dst src) f = operator_edges wide op dst src f
 effect_of shapes at (unary wide op dst src) f = unary_edges wide op dst src f
@@ -193,6 +210,6 @@ effect_of shapes at (call id) f =
     and_then_ok (known (helper_of id)) (λ h. and_then_ok (call_facts shapes at h f) falls)
 effect_of shapes at exit f = exit_edges f
 
--- of an instruction
+-- the facts on the edges out of an instruction at slot `at`, or why it may not be run
 abbrev pub effect : Shapes → ℕ → Insn → Facts → Result Edges Reason
 effect shapes at i f = effect_of shapes at (view i) f

@@ -10,11 +10,13 @@ use Rattle.reg_kinds.specs.declared.facts.Facts.{Facts}
 use Rattle.reg_kinds.specs.Kinds.{kind_at, slot_at}
 use Rattle.transfer.specs.Sound.{IsKindAt, IsSlotAt, AreWellFormedAt}
 
+-- a kind that is well formed at a slot is well formed at each later one
 kind_raised : (at n : ℕ) (k : Kind) → at < n → IsKindAt at k → IsKindAt n k
 kind_raised at n (kind.Scalar r) lt h = h
 kind_raised at n (kind.MaybeValue m site) lt h = omega arith
 kind_raised at n k lt h = tt
 
+-- a stack slot that is well formed at a slot of the program is well formed at each later one
 slot_raised : (at n : ℕ) (s : Slot) → at < n → IsSlotAt at s → IsSlotAt n s
 slot_raised at n (Bytes mask) lt h = h
 slot_raised at n (Spill k) lt h = kind_raised at n k lt h

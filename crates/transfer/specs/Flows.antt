@@ -7,7 +7,7 @@ use Rattle.transfer.specs.declared.branches.Flow.TheVariants.{Ends, Falls, Write
 use Rattle.reg_kinds.specs.Stack.{ChangesAtMost}
 use Rattle.transfer.specs.Branches.{Edges, with_pair, settled_edges}
 
--- the edges, if the code leaves facts f
+-- the edges that the flow means, if the code leaves facts f
 abbrev pub edges_of : Flow → Facts → Edges
 edges_of Ends f = record { falling = None; jumping = None }
 edges_of Falls f = record { falling = Some f; jumping = None }

@@ -35,14 +35,14 @@ IsUnknownHelper (names.Helper id) = helper_of id ≡ None
 IsUnknownHelper (names.Map fd) = ⊥
 IsUnknownHelper (names.Value fd off) = ⊥
 
--- it names a map, or a value of one, by a descriptor that has no shape
+-- the instruction names a map, or a value of one, by a descriptor that has no shape
 abbrev pub IsUnshapedMap : Shapes → Reference → Type 0
 IsUnshapedMap shapes names.Nothing = ⊥
 IsUnshapedMap shapes (names.Helper id) = ⊥
 IsUnshapedMap shapes (names.Map fd) = shapes fd ≡ None
 IsUnshapedMap shapes (names.Value fd off) = shapes fd ≡ None
 
--- it names a direct value that its map does not have
+-- the instruction names a direct value that its map does not have
 abbrev pub IsNoValue : Shapes → Reference → Type 0
 IsNoValue shapes names.Nothing = ⊥
 IsNoValue shapes (names.Helper id) = ⊥
@@ -50,18 +50,20 @@ IsNoValue shapes (names.Map fd) = ⊥
 IsNoValue shapes (names.Value fd off) =
     (shape : MapShape) × (shapes fd ≡ Some shape) × (has_direct_value shape off ≡ false)
 
--- the reason is one of these, and applies to the instruction, or it is from the kinds of the
--- operands
+-- an instruction of this group (`View` of `insn_set`) may be rejected for this reason: it is one of
+-- the shape, and applies to the instruction, or it is from the kinds of the operands
 abbrev pub IsReasonFor : Shapes → View → Reason → Type 0
 IsReasonFor shapes v UnknownHelper = IsUnknownHelper (profile_of v).reference
 IsReasonFor shapes v DescriptorNotMap = IsUnshapedMap shapes (profile_of v).reference
 IsReasonFor shapes v NoDirectValue = IsNoValue shapes (profile_of v).reference
 IsReasonFor shapes v reason = IsSafetyReason reason
 
+-- the instruction may be rejected for this reason: it is one of the shape, and applies to the
+-- instruction, or it is from the kinds of the operands
 abbrev pub IsReasonOf : Shapes → Insn → Reason → Type 0
 IsReasonOf shapes i reason = IsReasonFor shapes (view i) reason
 
--- an instruction is rejected only for such a reason
+-- an instruction is rejected only for a reason that applies to it
 abbrev pub TransferReasons : Type 0
 TransferReasons =
     (shapes : Shapes) (at : ℕ) (i : Insn) (f : Facts) (reason : Reason)

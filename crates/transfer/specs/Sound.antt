@@ -27,22 +27,26 @@ use Rattle.insn_set.specs.Flow.{falls_to, jumps_to}
 -- ---- facts well formed at slot n: a range ends below 2 ^ 64, a mask has eight bits, and a look-up
 -- was at a slot below
 
+-- a kind in facts that are well formed at slot n
 abbrev pub IsKindAt : ℕ → Kind → Type 0
 IsKindAt n (Scalar r) = r.hi < 2 ^ 64
 IsKindAt n (MaybeValue m site) = site < n
 IsKindAt n k = Unit {0}
 
+-- a stack slot in facts that are well formed at slot n
 abbrev pub IsSlotAt : ℕ → Slot → Type 0
 IsSlotAt n (Bytes mask) = mask < 256
 IsSlotAt n (Spill k) = IsKindAt n k
 
+-- the facts are well formed at slot n
 pub record AreWellFormedAt (n : ℕ) (f : Facts) : Type 0 where
   pub registers : (r : ℕ) → IsKindAt n (kind_at f r)
   pub slots : (i : ℕ) → IsSlotAt n (slot_at f i)
 
 -- ---- the edge that a step takes
 
--- whether an instruction jumps in this state: a conditional jump does if its condition holds
+-- whether an instruction, by its group (`View` of `insn_set`), jumps in this state: a conditional
+-- jump does if its condition holds
 abbrev pub jumps_in : View → RunState → Bool
 jumps_in (jump off) s = true
 jumps_in (branch wide cond dst src off) s =
@@ -51,6 +55,7 @@ jumps_in (branch wide cond dst src off) s =
     (λ a. and_then (operand_value s wide src) (λ b. compared wide cond src a b))) false
 jumps_in v s = false
 
+-- whether an instruction jumps in this state
 abbrev pub takes_jump : Insn → RunState → Bool
 takes_jump i s = jumps_in (view i) s
 
@@ -90,10 +95,13 @@ TransferIsSound =
 
 -- ---- the facts on the edges are well formed at each later slot
 
+-- the facts on an edge, if there are any, are well formed at slot n
 abbrev pub AreWellFormedOn : ℕ → Option Facts → Type 0
 AreWellFormedOn n None = Unit {0}
 AreWellFormedOn n (Some f) = AreWellFormedAt n f
 
+-- if the facts before an instruction are well formed at its slot, those on its edges are well
+-- formed at each later slot
 abbrev pub TransferKeepsWellFormed : Type 0
 TransferKeepsWellFormed =
     (shapes : Shapes) (at n : ℕ) (i : Insn) (f : Facts) (edges : Edges)
@@ -106,8 +114,7 @@ TransferKeepsWellFormed =
 -- ---- calls
 
 -- after a call the state is at the same slot, and these facts describe it, by a witness that may be
--- different:
--- it has the result of a new look-up
+-- different: it has the result of a new look-up
 pub record CallIsAdmitted (g : Facts) (shapes : Shapes) (s u : RunState) : Type 0 where
   pub witness : Witness
   pub still : Describes witness g shapes u

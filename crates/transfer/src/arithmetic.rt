@@ -11,7 +11,7 @@ use reg_kinds::{Kind, Reason, ValuePointer};
 use tagged_model::FARTHEST_OFFSET;
 use words::{AluOp, Operator};
 
-/// The direction in which a number moves a pointer.
+/// The direction in which a number moves a pointer: forwards in a sum, backwards in a difference.
 #[derive(Clone, Copy, Debug, PartialEq, Eq)]
 pub(crate) enum Direction {
     Forwards,
@@ -41,7 +41,7 @@ fn distance(range: Range) -> Option<(i64, i64)>
     }
 }
 
-/// The offset moved forwards by `by` bytes; `None` if it is then farther than `FARTHEST_OFFSET`.
+/// The offset moved forwards by `by` bytes; `None` if it is then farther than `FARTHEST_OFFSET` from 0, in either direction.
 fn moved_forwards(offset: i32, by: i64) -> Option<i32>
     ensures value { result ≡ moved_offset Forwards offset by }
     ensures moved { IfSome result (λ to. to ≡ offset +ℤ by) }
@@ -54,7 +54,7 @@ fn moved_forwards(offset: i32, by: i64) -> Option<i32>
     }
 }
 
-/// The offset moved backwards by `by` bytes; `None` if it is then farther than `FARTHEST_OFFSET`.
+/// The offset moved backwards by `by` bytes; `None` if it is then farther than `FARTHEST_OFFSET` from 0, in either direction.
 fn moved_backwards(offset: i32, by: i64) -> Option<i32>
     ensures value { result ≡ moved_offset Backwards offset by }
     ensures moved { IfSome result (λ to. to ≡ offset -ℤ by) }
@@ -84,7 +84,8 @@ fn stack_moved(way: Direction, offset: i32, range: Range) -> Result<Kind, Reason
     }
 }
 
-/// A pointer into a value, moved by a number from `least` to `greatest`; `None` if it may be too far then.
+/// A pointer into a value, moved by a number from `least` to `greatest`; `None` if it may be too far then. Backwards, the greatest number
+/// leads to the least offset.
 fn value_by(
     way: Direction,
     pointer: ValuePointer,
@@ -133,7 +134,7 @@ fn pointer_moved(way: Direction, pointer: Kind, range: Range) -> Result<Kind, Re
     }
 }
 
-/// The range of an operator's results.
+/// The range of an operator's results on numbers in the ranges `a` and `b`, of 64 bits (`wide`) or 32.
 #[inline(always)]
 pub(crate) fn result_range(wide: bool, op: Operator, a: Range, b: Range) -> Range
     ensures { result ≡ range_of (width wide) op a b }
@@ -162,7 +163,8 @@ pub(crate) fn of_scalar(wide: bool, op: Operator, kind: Kind) -> Result<Kind, Re
     of_scalars(wide, op, kind, kind)
 }
 
-/// The kind of a 64-bit sum, of numbers or of a pointer and a number.
+/// The kind of a 64-bit sum, of numbers or of a pointer and a number in either order. `PointerArithmetic` if it is neither, or if the
+/// pointer may not be moved so; `OffsetTooLarge` if it may be too far then.
 fn sum(a: Kind, b: Kind) -> Result<Kind, Reason>
     ensures { result ≡ sum_kind a b }
 {
@@ -174,7 +176,8 @@ fn sum(a: Kind, b: Kind) -> Result<Kind, Reason>
     }
 }
 
-/// The kind of a 64-bit difference, of numbers or of a pointer and a number.
+/// The kind of a 64-bit difference, of numbers or a pointer minus a number. `PointerArithmetic` if it is neither, or if the pointer may not
+/// be moved so; `OffsetTooLarge` if it may be too far then.
 fn difference(a: Kind, b: Kind) -> Result<Kind, Reason>
     ensures { result ≡ difference_kind a b }
 {
@@ -193,7 +196,9 @@ fn is_maybe(kind: Kind) -> bool
     matches!(kind, Kind::MaybeValue { .. })
 }
 
-/// The kind of the result of an operator of two operands.
+/// The kind of an operator's result on two operands. A 64-bit move copies any value, 64-bit sums and differences move pointers, and
+/// everything else is for numbers. `MaybeNull` if a look-up that may be null is moved, `OffsetTooLarge` if a pointer may be too far then,
+/// `PointerArithmetic` for all else that is not allowed.
 pub(crate) fn arithmetic(wide: bool, op: AluOp, a: Kind, b: Kind) -> Result<Kind, Reason>
     ensures { result ≡ arithmetic_kind wide op a b }
 {

@@ -19,15 +19,16 @@ pub enum Flow {
     Ends,
     /// The falling edge, with the facts after the instruction.
     Falls,
-    /// The same after an instruction that may change this slot of the stack.
+    /// The falling edge, after an instruction that may change this slot of the stack.
     WritesSlot(usize),
-    /// The same after an instruction that may change each slot of the stack.
+    /// The falling edge, after an instruction that may change each slot of the stack.
     Writes,
-    /// The jumping edge, with the same facts.
+    /// The jumping edge, with the facts after the instruction.
     Jumps,
-    /// Both edges, with the same facts.
+    /// Both edges, with the facts after the instruction.
     Either,
-    /// After a comparison of two numbers, each edge that can be taken, on which both operands have these ranges.
+    /// After a comparison of two numbers, each edge that can be taken, on which the operands have these ranges, `dst` the first; `None`
+    /// for an edge that can't be taken.
     Compares {
         dst: Reg,
         src: Operand,
@@ -41,7 +42,7 @@ pub enum Flow {
     },
 }
 
-/// Sets the ranges of both operands of a comparison.
+/// Sets the ranges of both operands of a comparison, that of `dst` first. A constant has none to set.
 #[inline(always)]
 pub fn set_ranges(facts: &mut Facts, dst: Reg, src: &Operand, pair: (Range, Range))
     ensures { facts.new ≡ with_pair facts.old dst src.now pair }
@@ -62,7 +63,7 @@ fn is_same(dst: Reg, src: Operand) -> bool
     }
 }
 
-/// The edges with these ranges of both operands.
+/// The edges of a comparison of `dst` with `src`, with the ranges of both on each edge; `None` for one that can't be taken.
 fn compared(
     dst: Reg,
     src: &Operand,
@@ -79,7 +80,8 @@ fn compared(
     }
 }
 
-/// The edges of a comparison of two numbers.
+/// The edges of a comparison of two numbers, in the ranges `a` and `b`, which it refines on each edge; not if a register is compared with
+/// itself.
 #[inline(always)]
 fn compare_numbers(
     wide: bool,
@@ -99,7 +101,7 @@ fn compare_numbers(
     compared(dst, &src, where_not, where_taken)
 }
 
-/// The edges of a null test of a pointer: a look-up is settled on both, any other pointer is not null.
+/// The edges of a null test of a pointer or a map, for equality or difference: a look-up is settled on both, any other pointer is not null.
 fn test_pointer(condition: Condition, pointer: Kind) -> Flow
     ensures edges { (f : AnyFacts) → edges_of result f ≡ pointer_edges condition f pointer }
     ensures stack { (f : AnyFacts) → KeepsStack result f f }
@@ -125,7 +127,8 @@ fn is_null_test(wide: bool, condition: Condition, src: Operand) -> bool
     wide && tests_equality && src == Operand::Imm(0)
 }
 
-/// The edges of a conditional jump. `PointerComparison` if the operands are not both numbers, and it is not a null test.
+/// The edges of a conditional jump on operands of the kinds `a` and `b`. `PointerComparison` if they are not both numbers, and it is not a
+/// null test.
 #[inline(always)]
 pub(crate) fn branch(
     wide: bool,

@@ -21,7 +21,7 @@ pub(crate) struct ShapedMap {
     shape: MapShape,
 }
 
-/// The map of an argument. `HelperArgument` if it is no map.
+/// The map of an argument. `HelperArgument` if it is no map, or its descriptor names none.
 fn map_kind(named: &[Named], kind: Kind) -> Result<ShapedMap, Reason>
     ensures { result ≡ map_kind (shapes_named named.now) kind }
 {
@@ -34,7 +34,7 @@ fn map_kind(named: &[Named], kind: Kind) -> Result<ShapedMap, Reason>
     }
 }
 
-/// The offset moved forwards by `by` bytes.
+/// The offset plus `by` bytes, which may be negative.
 pub(crate) fn behind(offset: i32, by: i16) -> i64
     ensures { result ≡ offset +ℤ by }
 {
@@ -72,7 +72,8 @@ pub(crate) fn room_of(
     room_in(low, last, count, shape.value_size)
 }
 
-/// Checks that an argument points to `count` bytes that may be read.
+/// Checks that an argument points to `count` bytes that may be read. The error is that of the read; `MaybeNull` for a look-up that may be
+/// null, `HelperArgument` if it is no pointer to the stack or to a value.
 fn input(named: &[Named], facts: &Facts, count: u32, kind: Kind) -> Result<(), Reason>
     ensures { result ≡ input_kind (shapes_named named.now) facts.now count kind }
 {
@@ -84,7 +85,8 @@ fn input(named: &[Named], facts: &Facts, count: u32, kind: Kind) -> Result<(), R
     }
 }
 
-/// Updates the facts for a write, at an argument's address, of a number of bytes in the range `length`.
+/// Updates the facts for a write, at an argument's address, of a number of bytes in the range `length`; in the value of a map no fact
+/// changes. The errors are `OutsideStack`, `OutsideValue`, `MaybeNull` for a look-up that may be null, else `HelperArgument`.
 fn output(facts: &mut Facts, named: &[Named], length: Range, kind: Kind) -> Result<(), Reason>
     requires { length.hi < lengths_end }
     ensures ok { OnOk result (output_facts (shapes_named named.now) facts.old length kind
@@ -101,7 +103,7 @@ fn output(facts: &mut Facts, named: &[Named], length: Range, kind: Kind) -> Resu
     }
 }
 
-/// The range of an argument. `HelperArgument` if it is no number.
+/// The range of an argument that has to be a number. `HelperArgument` if it is none.
 fn check_number(kind: Kind) -> Result<Range, Reason>
     ensures { result ≡ number_kind kind }
 {
@@ -143,7 +145,8 @@ fn any_number() -> Kind
     Kind::Scalar(Range::full(true))
 }
 
-/// Updates the facts for a call at `slot`, if its arguments are right; otherwise returns the reason.
+/// Updates the facts for a call at `slot`, which becomes the site of a look-up; or returns the first of its conditions that fails, and the
+/// facts are unchanged.
 pub(crate) fn call(
     facts: &mut Facts,
     named: &[Named],

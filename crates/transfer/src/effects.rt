@@ -30,7 +30,7 @@ use words::{AccessSize, AluOp, Operator};
 /// The size of the context in bytes.
 const CONTEXT_SIZE: i16 = 4 * CONTEXT_WORDS as i16;
 
-/// A constant as a machine word; on 32 bits it is read modulo 2^32.
+/// A constant as a machine word: sign-extended if `wide`, else modulo 2^32.
 fn constant_word(wide: bool, imm: i32) -> u64
     ensures { result ≡ unsigned (width wide) imm }
 {
@@ -41,7 +41,7 @@ fn constant_word(wide: bool, imm: i32) -> u64
     }
 }
 
-/// The kind of the second operand.
+/// The kind of the second operand. An instruction of 64 bits (`wide`) sign-extends a constant, one of 32 bits reads it modulo 2^32.
 #[inline(always)]
 fn source(facts: &Facts, wide: bool, src: &Operand) -> Kind
     ensures { result ≡ source_kind facts.now wide src.now }
@@ -52,7 +52,7 @@ fn source(facts: &Facts, wide: bool, src: &Operand) -> Kind
     }
 }
 
-/// The kind of the first operand, which a move does not read. `UnreadableRegister` if it may not be read.
+/// The kind of the first operand, which a move does not read: its kind is then that of 0. `UnreadableRegister` if it may not be read.
 #[inline(always)]
 fn first(op: AluOp, kind: Kind) -> Result<Kind, Reason>
     ensures { result ≡ first_kind op kind }
@@ -79,7 +79,8 @@ fn context_read(offset: i16, size: AccessSize, signed: bool) -> Result<Kind, Rea
     }
 }
 
-/// The offset of a stack access. `OutsideStack` if it does not fit in the type, since it is outside the stack then.
+/// The offset of a stack access, `offset` bytes from a pointer at offset `from`. `OutsideStack` if it does not fit in the type, since it is
+/// outside the stack then; the access itself checks an offset that fits.
 fn stack_offset(from: i32, offset: i16) -> Result<i32, Reason>
     ensures ok { IfOk result (λ at. at ≡ from +ℤ offset) }
     ensures outside { IfErr result (λ reason. (reason ≡ OutsideStack)
@@ -89,7 +90,7 @@ fn stack_offset(from: i32, offset: i16) -> Result<i32, Reason>
         .ok_or(Reason::OutsideStack)
 }
 
-/// The kind of a loaded value.
+/// The kind of a value that is loaded `offset` bytes from an address of the kind `base`, or the first reason against the load.
 #[inline(always)]
 fn load(
     facts: &Facts,
@@ -128,7 +129,8 @@ fn store_outside(value: Kind) -> Result<(), Reason>
     }
 }
 
-/// Updates the facts for a store. Returns the slot of the stack that it may change, if any.
+/// Updates the facts for a store of a value of the kind `value`, `offset` bytes from an address of the kind `base`, or returns the first
+/// reason against it. Returns the stack slot that it may change, if any.
 #[inline(always)]
 fn store(
     facts: &mut Facts,
@@ -147,6 +149,7 @@ fn store(
 {
     match base {
         Kind::Stack(from) => {
+            // This reason comes before that of an offset which does not fit.
             if let Kind::Unreadable = value {
                 return Err(Reason::UnreadableRegister);
             }
@@ -164,7 +167,7 @@ fn store(
     }
 }
 
-/// Checks that a value is a number. `reason` if not.
+/// Checks that a value is a number. The error is `reason` if it is not.
 fn number_or(reason: Reason, value: Kind) -> Result<(), Reason>
     ensures { result ≡ number_or reason value }
 {
@@ -174,7 +177,8 @@ fn number_or(reason: Reason, value: Kind) -> Result<(), Reason>
     }
 }
 
-/// Updates the facts for an atomic operation in the stack. Returns the slot.
+/// Updates the facts for an atomic operation at `offset` from the stack's upper end: a number is loaded, and any number stored. Returns the
+/// stack slot. `PartOfSpill` if a pointer is there, else the errors of a load and a store.
 fn change_stack(facts: &mut Facts, offset: i32, size: AccessSize) -> Result<usize, Reason>
     ensures ok { OnOk result (stack_changed facts.old offset size ≡ Ok facts.new) }
     ensures stack { IfOk result (λ slot. ChangesAtMost (Some slot) facts.old facts.new) }
@@ -193,14 +197,15 @@ fn is_multiple(offset: i64, size: AccessSize) -> bool
     offset.unsigned_abs() % u64::from(size.bytes()) == 0
 }
 
-/// Whether the offset of an access within a value is known, and a multiple of the size.
+/// Whether the offset of an access, `offset` bytes from a pointer into a value, is known and a multiple of the size.
 fn is_known_multiple(pointer: ValuePointer, offset: i16, size: AccessSize) -> bool
     ensures { result ≡ is_known_multiple pointer offset size }
 {
     pointer.lo == pointer.hi && is_multiple(behind(pointer.lo, offset), size)
 }
 
-/// Updates the facts for an atomic operation. Returns the slot of the stack that it may change, if any.
+/// Updates the facts for an atomic operation with an operand of the kind `value`, `offset` bytes from an address of the kind `base`, or
+/// returns the first reason against it. Returns the stack slot that it may change, if any; in the value of a map no fact changes.
 fn change(
     facts: &mut Facts,
     named: &[Named],
@@ -248,7 +253,7 @@ fn map_of(named: &[Named], descriptor: u32) -> Result<Kind, Reason>
     }
 }
 
-/// An offset in a value, as signed number.
+/// An offset in a value, which is below 4,096, as a signed number.
 fn signed_offset(offset: u32) -> i32
     requires { offset < longest_value }
     ensures { result ≡ pos offset }
@@ -272,7 +277,7 @@ fn value_of(named: &[Named], descriptor: u32, offset: u32) -> Result<Kind, Reaso
     Ok(Kind::Value(ValuePointer::new(descriptor, at, at)))
 }
 
-/// Sets the kind of the destination register.
+/// Sets the kind of the destination register, and returns the falling edge.
 #[inline(always)]
 fn assign(facts: &mut Facts, dst: Reg, kind: Kind) -> Flow
     ensures flow { result ≡ Falls }
@@ -294,7 +299,7 @@ fn written(slot: Option<usize>) -> Flow
     }
 }
 
-/// The ranges of both operands, if both are numbers.
+/// The ranges of both operands, that of `dst` first; `None` unless both are numbers.
 #[inline(always)]
 fn numbers(facts: &Facts, wide: bool, dst: Reg, src: &Operand) -> Option<(Range, Range)>
     ensures numbers { IfSome result (λ p. (kind_at facts.now dst ≡ Scalar p.0)
@@ -312,7 +317,7 @@ fn numbers(facts: &Facts, wide: bool, dst: Reg, src: &Operand) -> Option<(Range,
     }
 }
 
-/// An operator of two operands, one of which may be a pointer, or a move.
+/// Updates the facts for an operator of two operands, one of which may be a pointer, or for a move.
 #[inline(never)]
 fn operate_on_any(
     facts: &mut Facts,
@@ -334,7 +339,8 @@ fn operate_on_any(
     Ok(())
 }
 
-/// An operator of two operands.
+/// Updates the facts for an operator of two operands. 64-bit moves, and operators other than moves on two numbers, are done here, the rest
+/// by `operate_on_any`.
 #[inline(always)]
 fn operate(facts: &mut Facts, wide: bool, op: AluOp, dst: Reg, src: Operand) -> Result<(), Reason>
     ensures ok { OnOk result (operator_edges wide op dst src facts.old ≡ falls facts.new) }
@@ -358,7 +364,7 @@ fn operate(facts: &mut Facts, wide: bool, op: AluOp, dst: Reg, src: Operand) -> 
     }
 }
 
-/// An operator of one operand.
+/// Updates the facts for an operator of one operand. `UnreadableRegister` if that may not be read, `PointerArithmetic` if it is no number.
 #[inline(always)]
 fn operate_on_one(
     facts: &mut Facts,

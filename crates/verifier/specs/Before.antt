@@ -24,7 +24,8 @@ joined (Some f) (Some g) = Some (facts_join f g)
 abbrev pub only_if : Bool → Option Facts → Option Facts
 only_if leads f = if leads then f else None
 
--- an instruction that may not be run has no edges
+-- the join of the facts that an instruction at slot n passes on to slot i along its edges; one that
+-- may not be run has no edges
 abbrev pub edges_into : Insn → ℕ → ℕ → Result Edges Reason → Option Facts
 edges_into insn n i (Err reason) = None
 edges_into insn n i (Ok edges) =
@@ -37,12 +38,13 @@ facts_sent shapes code n i known =
     and_then known
     (λ f. and_then (begins_at code n) (λ insn. edges_into insn n i (effect shapes n insn f)))
 
--- the join of the facts that the slots below n pass on to slot i
+-- the join of the facts that the slots below n pass on to slot i, and of those at entry for slot 0
 unfoldable pub facts_from_below : Shapes → List Insn → ℕ → ℕ → Option Facts
 facts_from_below shapes code i zero = if i == 0 then Some entry else None
 facts_from_below shapes code i (suc n) =
     joined (facts_from_below shapes code i n)
     (facts_sent shapes code n i (facts_from_below shapes code n n))
 
+-- the facts before slot i; None if no edge that can be taken leads there
 abbrev pub facts_before : Shapes → List Insn → ℕ → Option Facts
 facts_before shapes code i = facts_from_below shapes code i i

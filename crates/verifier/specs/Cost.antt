@@ -13,7 +13,7 @@ use Rattle.verifier.specs.Shape.{leads_into}
 
 -- ---- paths
 
--- control passes from it to no other instruction
+-- an exit: control passes from it to no other instruction
 abbrev pub is_exit : Insn → Bool
 is_exit i = not (falls i || jumps i)
 
@@ -28,12 +28,14 @@ IsPath code at (i ∷ is) =
 
 -- ---- what is counted
 
+-- what an instruction names is a helper
 abbrev pub is_helper : Reference → Bool
 is_helper names.Nothing = false
 is_helper (names.Helper id) = true
 is_helper (names.Map fd) = false
 is_helper (names.Value fd off) = false
 
+-- the instruction calls a helper
 abbrev pub is_call : Insn → Bool
 is_call i = is_helper (profile i).reference
 
@@ -49,6 +51,7 @@ IsMostOf measure code n =
     ((path : List Insn) → IsPath code 0 path → measure path ≤ n)
     × ((path : List Insn) × IsPath code 0 path × (measure path ≡ n))
 
--- of instructions, and of calls, perhaps on another path
+-- the cost of a program: the most instructions on a path, and the most calls, perhaps on another
+-- path
 abbrev pub IsCostOf : Cost → List Insn → Type 0
 IsCostOf cost code = IsMostOf length code cost.instructions × IsMostOf calls_in code cost.calls

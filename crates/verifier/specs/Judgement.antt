@@ -20,9 +20,11 @@ abbrev pub cause_number : Cause → ℕ
 cause_number (Slots kind) = 100 + fault_number kind
 cause_number (Verdict reason) = number reason
 
+-- the refusal of slots that are no program, from the codec's fault
 abbrev pub refusal_of_slots : CodecFault → Refusal
 refusal_of_slots fault = record { slot = fault.slot; cause = Slots fault.kind }
 
+-- the refusal of a program that breaks a rule, from its fault
 abbrev pub refusal_of_program : VerifyFault → Refusal
 refusal_of_program fault = record { slot = fault.slot; cause = Verdict fault.reason }
 
@@ -32,7 +34,7 @@ refusal_text refusal =
     codes "refused: slot "
     ++ (decimal refusal.slot ++ (codes " reason " ++ decimal (cause_number refusal.cause)))
 
--- the slots are no program, or their program breaks a rule
+-- the bytes of slots are no program, or their program breaks a rule, at this slot
 abbrev pub IsRefusedFor : List Named → List ℕ → ℕ → Cause → Type 0
 IsRefusedFor named slots slot (Slots kind) =
     IsProgramFault slots (record { slot = slot; kind = kind })
@@ -42,8 +44,8 @@ IsRefusedFor named slots slot (Verdict reason) =
     × (slots ≡ program_bytes insns)
     × IsRefused insns named slot reason
 
--- the slots are this program's, which is accepted, or this is their refusal; there is at most one
--- judgement
+-- the bytes of slots are this program's, which is accepted, or this is their refusal; there is at
+-- most one judgement
 abbrev pub Judges : List Named → List ℕ → Result (List Insn) Refusal → Type 0
 Judges named slots (Ok insns) =
     IsProgram insns × (slots ≡ program_bytes insns) × IsAccepted insns named

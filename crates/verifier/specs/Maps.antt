@@ -20,6 +20,7 @@ distinct (fd ∷ fds) = fd ∷ without fd (distinct fds)
 abbrev pub maps_of : List Insn → List ℕ
 maps_of code = distinct (filter_map descriptor code)
 
+-- the descriptor is in the list
 abbrev pub is_among : List ℕ → ℕ → Bool
 is_among fds fd = list_any (λ other. other == fd) fds
 

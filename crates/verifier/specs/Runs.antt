@@ -20,6 +20,7 @@ executed_by i (goes t) rest = i ∷ rest t
 executed_by i (ends n) rest = i ∷ []
 executed_by i faults rest = []
 
+-- what a run executes from state s, from the instruction at its slot, if one begins there
 abbrev pub executed_at : Option Insn → RunState → (RunState → List Insn) → List Insn
 executed_at None s rest = []
 executed_at (Some i) s rest = executed_by i (act i s) rest
@@ -29,7 +30,7 @@ unfoldable pub executed : List Insn → ℕ → RunState → List Insn
 executed code zero s = []
 executed code (suc n) s = executed_at (begins_at code s.at) s (executed code n)
 
--- those of the run of a program with these maps, on a context and a packet
+-- the instructions that the run of a program executes, with these maps, on a context and a packet
 abbrev pub executed_of : List Insn → MapsByDescriptor → List ℕ → List ℕ → List Insn
 executed_of code maps words packet =
     executed code (slot_count code) (start_of_run maps words packet)
@@ -44,7 +45,7 @@ RunsArePaths shapes code =
     → IsPath code 0 (executed_of code maps words packet)
     × (length (executed_of code maps words packet) ≡ steps_of code maps words packet)
 
--- no run takes more steps, or executes more calls
+-- no run takes more steps than the cost has instructions, or executes more calls than it has calls
 abbrev pub RunsCostAtMost : Cost → Shapes → List Insn → Type 0
 RunsCostAtMost cost shapes code =
     (maps : MapsByDescriptor) (words packet : List ℕ)

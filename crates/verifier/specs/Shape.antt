@@ -23,18 +23,21 @@ use Rattle.insn_set.specs.Flow.{falls_to, jumps_to, falls, jumps, written_regist
 abbrev pub is_first_slot : List Insn → ℕ → Bool
 is_first_slot code n = is_some (begins_at code n)
 
+-- there is a number, and it is i
 abbrev pub is_slot : Option ℕ → ℕ → Bool
 is_slot None i = false
 is_slot (Some n) i = n == i
 
--- the edges of an instruction at slot n that lead to slot i; a jump to the same or an earlier slot
--- is no edge
+-- the falling edge of an instruction at slot n leads to slot i
 abbrev pub falls_into : Insn → ℕ → ℕ → Bool
 falls_into insn n i = falls insn && falls_to insn n == i
 
+-- the jumping edge of an instruction at slot n leads to slot i; a jump to the same or an earlier
+-- slot is no edge
 abbrev pub jumps_into : Insn → ℕ → ℕ → Bool
 jumps_into insn n i = jumps insn && is_slot (jumps_to insn n) i && nat_lt n i
 
+-- an edge of the instruction at slot n, if one begins there, leads to slot i
 abbrev pub leads_into : Option Insn → ℕ → ℕ → Bool
 leads_into None n i = false
 leads_into (Some insn) n i = falls_into insn n i || jumps_into insn n i
@@ -47,18 +50,20 @@ reached_from code i zero = i == 0
 reached_from code i (suc n) =
     reached_from code i n || (reached_from code n n && leads_into (begins_at code n) n i)
 
+-- slot i can be reached; edges lead to later slots, so those from the slots below are all
 abbrev pub is_reachable : List Insn → ℕ → Bool
 is_reachable code i = reached_from code i i
 
 -- ---- the faults of an instruction
 
--- it calls an unknown helper
+-- the helper that is named is unknown
 abbrev pub is_unknown_helper : Reference → Bool
 is_unknown_helper names.Nothing = false
 is_unknown_helper (names.Helper id) = not (is_some (helper_of id))
 is_unknown_helper (names.Map fd) = false
 is_unknown_helper (names.Value fd off) = false
 
+-- the instruction calls an unknown helper
 abbrev pub calls_unknown : Insn → Bool
 calls_unknown i = is_unknown_helper (profile i).reference
 
@@ -66,15 +71,17 @@ abbrev pub is_map : Target → Bool
 is_map (target.Map shape) = true
 is_map target.Program = false
 
+-- the descriptor that is named is not open
 abbrev pub is_not_open : List Named → Option ℕ → Bool
 is_not_open named None = false
 is_not_open named (Some fd) = not (is_some (target_of named fd))
 
+-- the descriptor that is named is open, but its object is no map
 abbrev pub is_not_map : List Named → Option ℕ → Bool
 is_not_map named None = false
 is_not_map named (Some fd) = not (option_map_or is_map (target_of named fd) true)
 
--- it loads a direct value that the map does not have
+-- the map of the direct value that is named has none at this offset
 abbrev pub is_no_value : List Named → Reference → Bool
 is_no_value named names.Nothing = false
 is_no_value named (names.Helper id) = false
@@ -82,13 +89,16 @@ is_no_value named (names.Map fd) = false
 is_no_value named (names.Value fd off) =
     not (option_map_or (λ shape. has_direct_value shape off) (shapes_named named fd) true)
 
+-- the instruction loads a direct value that the map does not have
 abbrev pub lacks_value : List Named → Insn → Bool
 lacks_value named i = is_no_value named (profile i).reference
 
+-- a jump to this slot, None if it is below 0, leads to no instruction
 abbrev pub leads_outside : List Insn → Option ℕ → Bool
 leads_outside code None = true
 leads_outside code (Some n) = not (is_first_slot code n)
 
+-- a jump from slot `at` to this slot, None if it is below 0, leads to no later slot
 abbrev pub leads_backward : Option ℕ → ℕ → Bool
 leads_backward None at = true
 leads_backward (Some n) at = nat_le n at
@@ -112,10 +122,11 @@ shape_reason code named i at = first_reason (
     ∷ (lacks_value named i, NoDirectValue)
     ∷ [])
 
--- the fault at a slot; None if no instruction begins there
+-- the first fault of the instruction at a slot; None if no instruction begins there
 abbrev pub shape_of : List Insn → List Named → ℕ → Option Insn → Option Reason
 shape_of code named at None = None
 shape_of code named at (Some i) = shape_reason code named i at
 
+-- the first fault of the shape at a slot of a program; None if no instruction begins there
 unfoldable pub structure_fault : List Insn → List Named → ℕ → Option Reason
 structure_fault code named at = shape_of code named at (begins_at code at)

@@ -13,10 +13,11 @@ use Rattle.tagged_model.specs.declared.shape.Named.{Named}
 use Rattle.verifier.specs.Shape.{leads_outside, leads_backward, is_reachable, is_slot, calls_unknown, is_not_open, is_not_map, lacks_value, first_reason, shape_reason, shape_of, structure_fault}
 use Rattle.verifier.specs.Verdict.{HasNoFault}
 
+-- a reason is not none
 no_reason : (reason : Reason) → Some reason ≡ None → ⊥
 no_reason reason e = cc
 
--- if no reason is found, no condition holds
+-- if no line gives a reason, the condition of the first does not hold, and the others give none
 passed : (line : Bool × Reason) (lines : List (Bool × Reason))
     → first_reason (line ∷ lines) ≡ None
     → (line.0 ≡ false) × (first_reason lines ≡ None)

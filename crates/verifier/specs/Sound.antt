@@ -41,7 +41,7 @@ StepIsSound =
     → effect (shapes_of code named) s.at i f ≡ Ok edges
     → CoversStep (shapes_of code named) i s edges (act i s)
 
--- the facts before the state's slot describe it
+-- the facts before the state's slot describe it, by some witness
 pub record IsAdmitted (shapes : Shapes) (code : List Insn) (s : RunState) : Type 0 where
   pub witness : Witness
   pub facts : Facts

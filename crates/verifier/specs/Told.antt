@@ -34,24 +34,24 @@ abbrev pub IsToldBelow : ℕ → Shapes → List Insn → Option (List (ℕ × F
     → Option (List (ℕ × Facts)) → Type 0
 IsToldBelow n shapes code old new = new ≡ with_more old (reached shapes code n)
 
--- for an accepted program, those of all slots
+-- for an accepted program: the watcher has received the facts before all slots
 abbrev pub IsToldWhole : List Insn → List Named → Option (List (ℕ × Facts))
     → Option (List (ℕ × Facts)) → Type 0
 IsToldWhole code named old new = IsToldBelow (slot_count code) (shapes_of code named) code old new
 
--- out of memory, and the watcher has received those of the slots below some slot
+-- out of memory: the watcher has received the facts before the slots below some slot
 abbrev pub IsToldPart : List Insn → List Named → Option (List (ℕ × Facts))
     → Option (List (ℕ × Facts)) → VerifyFault → Type 0
 IsToldPart code named old new fault =
     (fault ≡ memory_fault) × (n : ℕ) × IsToldBelow n (shapes_of code named) code old new
 
--- a fault of the shape, and the watcher has received nothing
+-- a fault of the shape: the watcher has received nothing
 abbrev pub IsToldOfShape : List Insn → List Named → Option (List (ℕ × Facts))
     → Option (List (ℕ × Facts)) → VerifyFault → Type 0
 IsToldOfShape code named old new fault =
     IsFirstFault (structure_fault code named) fault.slot fault.reason × (new ≡ old)
 
--- a fault of safety, and the watcher has received those of the slots up to the fault's
+-- a fault of safety: the watcher has received the facts before the slots up to the fault's
 abbrev pub IsToldOfSafety : List Insn → List Named → Option (List (ℕ × Facts))
     → Option (List (ℕ × Facts)) → VerifyFault → Type 0
 IsToldOfSafety code named old new fault =
@@ -59,7 +59,7 @@ IsToldOfSafety code named old new fault =
     × IsFirstFault (safety_fault (shapes_of code named) code) fault.slot fault.reason
     × IsToldBelow (fault.slot + 1) (shapes_of code named) code old new
 
--- for a program that is rejected
+-- what the watcher has received if the program is not accepted: out of memory, or a fault
 abbrev pub IsToldRefused : List Insn → List Named → Option (List (ℕ × Facts))
     → Option (List (ℕ × Facts)) → VerifyFault → Type 0
 IsToldRefused code named old new fault =

@@ -16,6 +16,7 @@ use Rattle.verifier.specs.Shape.{structure_fault}
 use Rattle.verifier.specs.Before.{facts_before}
 use Rattle.verifier.specs.Maps.{shapes_of}
 
+-- the reason why an instruction may not be run, if there is one
 abbrev pub reason_of : Result Edges Reason → Option Reason
 reason_of (Ok edges) = None
 reason_of (Err reason) = Some reason
@@ -31,17 +32,19 @@ pub record IsFirstFault (fault_at : ℕ → Option Reason) (slot : ℕ) (reason 
   pub here : fault_at slot ≡ Some reason
   pub below : (n : ℕ) → n < slot → fault_at n ≡ None
 
+-- no slot has a fault
 abbrev pub HasNoFault : (ℕ → Option Reason) → Type 0
 HasNoFault fault_at = (n : ℕ) → fault_at n ≡ None
 
--- the shape is checked before safety; the shapes of maps are those of the objects that the
--- descriptors name
+-- the program is rejected at a slot for a reason: the first fault of its shape or, if that has
+-- none, of safety, with the shapes of the maps that its descriptors name
 abbrev pub IsRefused : List Insn → List Named → ℕ → Reason → Type 0
 IsRefused code named slot reason =
     IsFirstFault (structure_fault code named) slot reason
     ⊎ (HasNoFault (structure_fault code named)
     × IsFirstFault (safety_fault (shapes_of code named) code) slot reason)
 
+-- no slot has a fault of the shape or of safety
 abbrev pub IsAccepted : List Insn → List Named → Type 0
 IsAccepted code named =
     HasNoFault (structure_fault code named) × HasNoFault (safety_fault (shapes_of code named) code)

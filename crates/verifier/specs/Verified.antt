@@ -9,12 +9,13 @@ use Rattle.insn_set.specs.Flow.{falls, jumps, jump_target}
 use Rattle.verifier.specs.Maps.{maps_of, entries_of}
 use Rattle.verifier.specs.Verdict.{IsAccepted}
 
--- its instructions, and the objects that its descriptors named when it was accepted
+-- an accepted program: its instructions, and the objects that its descriptors named when it was
+-- accepted
 pub record Accepted : Type 0 where
   pub code : List Insn
   pub entries : List Named
 
--- the shapes with which it was accepted, by their descriptors
+-- the shapes with which a program was accepted, by their descriptors
 abbrev pub shapes_in : Accepted → Shapes
 shapes_in a = shapes_named a.entries
 
@@ -23,7 +24,8 @@ abbrev pub IsAcceptedAs : List Insn → List Named → Accepted → Type 0
 IsAcceptedAs code named a =
     (a.code ≡ code) × (a.entries ≡ entries_of (maps_of code) named) × IsAccepted code named
 
--- it was accepted with these objects, whatever its descriptors name at present
+-- the program was accepted with the objects of its entries, whatever its descriptors name at
+-- present
 pub record IsVerified (a : Accepted) : Type 0 where
   pub named : List Named
   pub accepted : IsAccepted a.code named

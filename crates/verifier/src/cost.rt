@@ -59,7 +59,7 @@ impl Counts {
         }
     }
 
-    /// With an instruction more, which names this.
+    /// The counts with one more instruction, which names `reference`: a call if that is a helper.
     #[inline(always)]
     pub(crate) fn with(self, reference: Reference) -> Counts
         requires instructions { self.instructions ≤ MAX_SLOTS }
@@ -74,7 +74,7 @@ impl Counts {
     }
 }
 
-/// Adds the counts on a jump to those on the other jumps to its target, if there is a jump.
+/// Joins the counts on a jump into those on the other jumps to its target: the greater ones count. Nothing is done if there is no target.
 #[inline(always)]
 fn send(jumping: &mut [Counts], target: Option<usize>, counts: Counts)
     requires { IfSome target (λ to. to < length jumping.old) }
@@ -111,7 +111,7 @@ impl Paths {
         }
     }
 
-    /// Adds the paths on jumps to the slot, which have these counts.
+    /// Joins the counts on the jumps to the slot of the pass into those on the falling edge: the greater ones count.
     #[inline(always)]
     pub(crate) fn join(&mut self, jumping: Counts)
         ensures instructions { self.new.here.instructions
@@ -124,7 +124,7 @@ impl Paths {
         }
     }
 
-    /// Whether a path leads to this slot, at which the pass is.
+    /// Whether a path leads to `slot`, which is that of the pass.
     #[inline(always)]
     pub(crate) fn lead_to(&self, slot: usize) -> bool
         ensures { result ≡ (nat_lt 0 self.now.here.instructions || slot == 0) }
@@ -151,7 +151,8 @@ impl Paths {
         self.here.instructions += 1;
     }
 
-    /// Adds the instruction at `slot` to the paths, which take its edges.
+    /// Adds the instruction at `slot` to the paths, which take its edges: on a jump their counts go to its target in `jumping`, and at an
+    /// exit the paths end. `row` has the instruction's properties.
     #[inline(always)]
     pub(crate) fn add(&mut self, jumping: &mut [Counts], insn: &Insn, row: &Profile, slot: usize)
         requires room { slot ≤ MAX_SLOTS }

@@ -25,7 +25,7 @@ impl Model for EdgeFacts {
 }
 
 impl EdgeFacts {
-    /// Joins the facts on another edge into these.
+    /// Joins the facts on another edge into these; if there are none, copies them. Parts of the stack that change get the number `fresh`.
     pub(crate) fn join(&mut self, edge: &NumberedFacts, fresh: usize)
         ensures { IsJoinedBy fresh self.old edge.now self.new }
     {

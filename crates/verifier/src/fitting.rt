@@ -82,6 +82,7 @@ impl Verified {
             return Err(ReplaceFault::OtherShapes);
         }
         laws::same_shapes_are_accepted();
+        // By the contract of `code` the instructions are a program (`IsProgram`).
         self.program.code();
         self.found.entries = entries_of(alloc, named, &self.found.maps)?;
         Ok(())

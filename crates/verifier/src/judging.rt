@@ -27,7 +27,8 @@ pub(crate) struct Findings {
     pub(crate) cost: Cost,
 }
 
-/// Verifies a program, and passes the facts before its instructions to a watcher, as `verify_watched` does.
+/// Verifies a program, and passes the facts before its instructions to a watcher, as `verify_watched` does. What a rejected program leaves
+/// in `working` is removed, so that the next one, which may be of another tenant, does not take longer.
 pub(crate) fn judge<W: Watcher>(
     alloc: Global,
     program: &Program,

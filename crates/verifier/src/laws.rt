@@ -12,7 +12,7 @@ ghost use Rattle.verifier.specs.Runs.{AcceptedRunsArePaths};
 ghost use Rattle.verifier.specs.Sound.{StepIsSound, StepsGoOn, NeverFaults};
 ghost use Rattle.verifier.specs.Verdict.{IsAccepted, IsRefused};
 
-/// A refusal is unique: one slot and one reason.
+/// A rejected program has one slot and one reason for which it is rejected.
 pub fn one_refusal()
     ensures { (code : List Insn) (named : List Named) (m n : ℕ) (a b : Reason)
         → IsRefused code named m a → IsRefused code named n b → (m ≡ n) × (a ≡ b) }
@@ -55,7 +55,7 @@ pub fn loaded_maps_have_shapes()
     ensures { LoadedMapsHaveShapes }
 {}
 
-/// The maps of a program are those that its instructions load, each listed once.
+/// The maps of a program are those that its instructions load, each listed once; no other descriptor has a shape.
 pub fn maps_are_listed()
     ensures { MapsAreListed }
 {}

@@ -13,7 +13,7 @@ use insn_codec::{Insn, Program};
 use std::alloc::{AllocError, Global};
 use tagged_model::Named;
 
-/// Appends the descriptor of a load of a map, or of a value of one, unless it is listed already.
+/// Appends the descriptor of the map that an instruction loads, or of which it loads a value, unless it is listed already.
 fn add_descriptor(maps: &mut Vec<u32>, insn: &Insn) -> Result<(), AllocError>
     ensures { OnOk result (maps.new.items ≡ with_descriptor maps.old.items (descriptor insn.now)) }
 {
@@ -59,6 +59,7 @@ pub(crate) fn loaded_maps(
     }
     let code = program.code();
     for slot in 0..code.len() {
+        // At a second slot this entry means nothing, and `add_at` finds no instruction.
         if names_map(&code[slot]) {
             add_at(&mut maps, program, slot)?;
         }
@@ -66,14 +67,14 @@ pub(crate) fn loaded_maps(
     Ok(maps)
 }
 
-/// Whether a descriptor is listed.
+/// Whether a descriptor is in the list `maps`.
 fn is_among(maps: &[u32], fd: u32) -> bool
     ensures { result ≡ is_among maps.now fd }
 {
     maps.contains(&fd)
 }
 
-/// The entries of `named` with these descriptors.
+/// The entries of `named` whose descriptors are in the list `maps`.
 pub(crate) fn entries_of(
     alloc: Global,
     named: &[Named],

@@ -31,7 +31,7 @@ impl NumberedFacts {
         }
     }
 
-    /// Gives all parts of the stack a number that no other has.
+    /// Gives all parts of the stack the new number `fresh`, since any of them may have changed.
     pub(crate) fn renumber(&mut self, fresh: usize)
         ensures { self.new ≡ renumbered self.old fresh }
     {
@@ -39,7 +39,7 @@ impl NumberedFacts {
         self.includes = [0; STACK_PARTS];
     }
 
-    /// Gives the part of a stack slot a number that no other has.
+    /// Gives the part of a stack slot the new number `fresh`, since it may have changed.
     #[inline(always)]
     fn renumber_part(&mut self, slot: usize, fresh: usize)
         requires { slot < stack_slots }
@@ -50,7 +50,7 @@ impl NumberedFacts {
         self.includes[part] = 0;
     }
 
-    /// Gives each part of the stack a number that no other has, if it may have changed by this flow.
+    /// Gives each part of the stack that may have changed by this flow the new number `fresh`.
     #[inline(always)]
     pub(crate) fn note(&mut self, flow: &Flow, fresh: usize)
         requires { IsInStack flow.now }
@@ -68,7 +68,8 @@ impl NumberedFacts {
         }
     }
 
-    /// Joins a part of the stack on another edge into that of these facts. If it changes, it gets the number `fresh`.
+    /// Joins a part of the stack on another edge into that of these facts, which then includes it. If this changes the part, it gets the
+    /// number `fresh`.
     #[inline(never)]
     fn join_other_part(&mut self, edge: &NumberedFacts, fresh: usize, part: usize)
         requires { part < stack_parts }
@@ -80,7 +81,8 @@ impl NumberedFacts {
         self.includes[part] = edge.numbers[part];
     }
 
-    /// The same. Nothing is done if the part is known to include the other.
+    /// Joins a part of the stack on another edge into that of these facts, unless that is known to change nothing. If this changes the
+    /// part, it gets the number `fresh`.
     #[inline(always)]
     fn join_stack_part(&mut self, edge: &NumberedFacts, fresh: usize, part: usize)
         requires { part < stack_parts }

@@ -1,4 +1,7 @@
-//! Whether each instruction may be run with the facts before it.
+//! Whether each instruction may be run with the facts before it. The facts *in hand* are first these, and then those on its falling edge.
+//!
+//! A part of the stack that changes gets a new number. At each slot these are `8 * slot + 2` for the join before the instruction, `+ 3` for
+//! its writes, `+ 4` and `+ 5` for the two edges of a null test, and `+ 6` for the join at the jump's target.
 
 ghost use Rattle.std.specs.Prelude.{◌≡◌, ◌⊎◌, ◌+◌, ◌*◌, ◌<◌, ℕ, [], option_map, if◌then◌else◌, Some, None, IfSome, IfOk, IfErr, OnOk};
 ghost use Rattle.tagged_model.specs.Named.{shapes_named};
@@ -37,8 +40,8 @@ pub(crate) struct Pass {
     taken: NumberedFacts,
 }
 
-/// Sends the facts on the jumping edge of a comparison to the jump's target, if it can be taken. Of the facts in hand only the ranges
-/// of both operands change.
+/// Sends the facts on the jumping edge of a comparison to the jump's target, if it can be taken (`jumps` has the operands' ranges there).
+/// Of the facts in hand only these ranges change. Parts of the stack that change at the target get the number `fresh`.
 #[inline(always)]
 fn send_compared(
     hand: &mut NumberedFacts,
@@ -70,7 +73,8 @@ struct Compared {
     src: Operand,
 }
 
-/// Sends the facts on the jumping edge of a comparison, and leaves those on the falling edge. Returns whether that can be taken.
+/// Sends the facts on the jumping edge of a comparison to `target`, and leaves those on the falling edge in hand. `jumps` and `falls` have
+/// the operands' ranges on these edges; `None` if one can't be taken. Returns whether the falling edge can be taken.
 #[inline(always)]
 fn leave_comparison(
     hand: &mut NumberedFacts,
@@ -99,7 +103,8 @@ fn leave_comparison(
     }
 }
 
-/// Settles a null test on both edges. `taken` is space for the facts on the jumping edge.
+/// Settles the look-up at slot `site` on both edges of the null test at `slot`: the facts on the jumping edge are sent to `target`, those
+/// on the falling edge are left in hand. `taken` is space for the former.
 fn leave_null_test(
     hand: &mut NumberedFacts,
     entries: &mut TargetFacts,
@@ -121,7 +126,8 @@ fn leave_null_test(
     entries.send(target, taken, 8 * slot + 6)
 }
 
-/// Sends the facts after an instruction along the edges of this flow, of which the jumping one leads to `target`.
+/// Sends the facts after the instruction at `slot` along the edges of this flow, of which the jumping one leads to `target`; those on the
+/// falling edge are left in hand. Returns whether the falling edge can be taken.
 #[inline(always)]
 fn leave_by(
     hand: &mut NumberedFacts,
@@ -170,8 +176,8 @@ fn leave_by(
     }
 }
 
-/// Sends the facts after the instruction at `slot` along its edges: those on the falling edge stay in hand. Returns whether the
-/// falling edge can be taken.
+/// Sends the facts after the instruction at `slot` along its edges: those on the falling edge are left in hand. Returns whether the falling
+/// edge can be taken. Only a flow that may jump needs the target.
 #[inline(always)]
 fn leave(
     hand: &mut NumberedFacts,
@@ -203,8 +209,8 @@ fn leave(
     }
 }
 
-/// Passes the facts in hand to the watcher, and moves past the instruction at `slot`, if it may be run with them. Returns whether
-/// the falling edge can be taken.
+/// Passes the facts in hand to the watcher, and moves past the instruction at `slot`, if it may be run with them: they are then those on
+/// its falling edge. Returns whether that edge can be taken.
 #[inline(always)]
 fn run_past<W: Watcher>(
     hand: &mut NumberedFacts,
@@ -267,7 +273,8 @@ impl Pass {
         self.entries.clear();
     }
 
-    /// Moves past the instruction at `slot`, if it may be run with the current facts. If there are none, no run reaches it.
+    /// Moves past the instruction at `slot`, if it may be run with the facts in hand. If there are none, no run reaches it, and nothing is
+    /// done.
     #[inline(always)]
     fn go_past<W: Watcher>(
         &mut self,

@@ -42,7 +42,7 @@ fn is_unknown_helper(reference: Reference) -> bool
     }
 }
 
-/// Whether the direct value that is named does not exist: its map has none at this offset.
+/// Whether a direct value is named that its map does not have: `false` also if the descriptor names no map, which is another fault.
 fn is_no_value(named: &[Named], reference: Reference) -> bool
     ensures { result ≡ is_no_value named.now reference }
 {
@@ -110,7 +110,8 @@ fn is_simple(row: &Profile, next: usize, slots: usize, paths: &Paths) -> bool
     }
 }
 
-/// The first fault of the instruction at `slot`, whatever the registers hold.
+/// The first fault of the instruction at `slot`, whatever the registers hold. `row` has its properties, and `is_reached` is whether the
+/// slot can be reached.
 #[inline(always)]
 fn other_reason(
     program: &Program,
@@ -140,7 +141,7 @@ fn other_reason(
     }
 }
 
-/// Adds the instruction at `slot` to the paths, or finds its first fault. It may be of any kind.
+/// Adds the instruction at `slot`, of any kind, to the paths, or finds its first fault. `jumping` has the counts on the jumps to each slot.
 #[inline(always)]
 fn pass_other(
     program: &Program,
@@ -170,7 +171,8 @@ fn pass_other(
     }
 }
 
-/// Adds the instruction at `slot` to the paths, or finds its first fault.
+/// Adds the instruction at `slot`, with the properties `row`, to the paths, or finds its first fault. A simple one has none. `jumping` has
+/// the counts on the jumps to each slot.
 #[inline(always)]
 fn pass(
     program: &Program,

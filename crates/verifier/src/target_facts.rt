@@ -14,6 +14,7 @@ use std::marker::Model;
 /// Contracts see the list of these facts by slot, up to the last slot that a jump has led to.
 #[derive(Drop)]
 pub(crate) struct TargetFacts {
+    /// An entry for each slot up to the last one that a jump has led to; `None` if no facts are there.
     facts: Vec<Option<Box<NumberedFacts>>>,
     /// Boxes of entries that are over, for reuse.
     spare: Vec<Box<NumberedFacts>>,
@@ -53,7 +54,8 @@ fn keep(spare: &mut Vec<Box<NumberedFacts>>, entry: Box<NumberedFacts>) -> Resul
     Ok(())
 }
 
-/// Joins the facts of a jump into an entry, in place. The first jump's facts get a box of their own.
+/// Joins the facts of a jump into an entry, in place. The first jump's facts are copied to a box, if possible a spare one. Parts of the
+/// stack that change get the number `fresh`.
 fn join_entry(
     entry: &mut Option<Box<NumberedFacts>>,
     facts: &NumberedFacts,
@@ -111,7 +113,8 @@ impl TargetFacts {
         self.facts.clear();
     }
 
-    /// Joins the facts of the jumps to `slot` into those that are known there otherwise, and empties the entry.
+    /// Joins the facts of the jumps to `slot` into `known`, those on the falling edge, and empties the entry, whose box is kept. Parts of
+    /// the stack that change get the number `fresh`.
     pub(crate) fn join_at(
         &mut self,
         slot: usize,
@@ -139,7 +142,7 @@ impl TargetFacts {
         append_empty(&mut self.facts, slot + 1)
     }
 
-    /// Joins the facts of a jump into the entry of its target, if it has one.
+    /// Joins the facts of a jump into the entry of its target, if it has one. Parts of the stack that change get the number `fresh`.
     pub(crate) fn send(
         &mut self,
         target: Option<usize>,
@@ -155,7 +158,7 @@ impl TargetFacts {
         Ok(())
     }
 
-    /// Joins the facts of a jump to `slot` into the entry.
+    /// Joins the facts of a jump to `slot` into the entry of this slot. Parts of the stack that change get the number `fresh`.
     pub(crate) fn put(
         &mut self,
         slot: usize,
@@ -169,7 +172,8 @@ impl TargetFacts {
         self.put_within(slot, facts, fresh)
     }
 
-    /// Joins the facts of a jump to `slot` into the entry, which is in the list.
+    /// Joins the facts of a jump to `slot` into the entry of this slot, which is in the list. Parts of the stack that change get the number
+    /// `fresh`.
     fn put_within(
         &mut self,
         slot: usize,

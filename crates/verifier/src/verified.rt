@@ -78,6 +78,7 @@ impl Verified {
     pub fn runs_are_paths(&self)
         ensures { RunsArePaths (shapes_in self.now) self.now.code }
     {
+        // By the contract of `code` the instructions are a program (`IsProgram`).
         self.program.code();
         laws::accepted_runs_are_paths();
     }
@@ -89,6 +90,7 @@ impl Verified {
             → AreRunInputs (shapes_in self.now) maps words packet
             → result_of self.now.code maps words packet ≢ Fault }
     {
+        // By the contract of `code` the instructions are a program (`IsProgram`).
         self.program.code();
         laws::accepted_programs_never_fault();
     }
@@ -98,6 +100,7 @@ impl Verified {
     pub fn goes_ahead(&self)
         ensures { GoesAhead self.now.code }
     {
+        // By the contract of `code` the instructions are a program (`IsProgram`).
         self.program.code();
     }
 }

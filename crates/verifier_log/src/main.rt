@@ -6,7 +6,7 @@ use log_text::run_log_words;
 use std::process::ExitCode;
 use std::{env, io};
 
-/// Runs the program on its arguments. An error means that the arguments could not be read.
+/// Runs the program on its arguments, those after its name, and returns the exit status. An error means that they could not be read.
 fn run(rt: &HostRuntime) -> io::Result<u8> {
     let alloc = rt.alloc();
     let given: Vec<String> = env::args(rt)?.skip(1).collect(alloc)?;

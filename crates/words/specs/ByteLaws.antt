@@ -111,6 +111,7 @@ bytes_written bytes new offset h =
     (drop-append_seam (take offset bytes) (new ++ drop (offset + length new) bytes))
     ∙ take-append_seam new (drop (offset + length new) bytes)
 
+-- bytes below an offset are those of the list, whatever follows it from this offset on
 before : (bytes rest : List ℕ) (offset from n : ℕ)
     → from + n ≤ offset
     → offset ≤ length bytes
@@ -133,6 +134,7 @@ before bytes rest offset from n h k =
     (drop (offset - from) (drop from bytes)) less)
     ∙ ap (take n) (take-append-drop (offset - from) (drop from bytes))
 
+-- from an offset past the written bytes on, the list is unchanged
 behind : (bytes new : List ℕ) (offset from : ℕ)
     → offset + length new ≤ from
     → offset ≤ length bytes
@@ -181,6 +183,7 @@ over_within bytes new offset size at fits room =
     (λ above. outside k lt long (inr (omega arith)) (inr above)) (cases_lt k (at + length new)))
     (cases_lt k at))
   where
+    -- a byte that is not written is that of the list in both
     outside : (k : ℕ)
         → k < size
         → length (bytes_at bytes offset size) ≡ size
@@ -194,6 +197,7 @@ over_within bytes new offset size at fits room =
         (written_out (bytes_at bytes offset size) new at k (omega arith) near
         ∙ byte_of bytes offset size k lt)
 
+    -- a byte that is written is the new one in both
     inside : (k : ℕ)
         → k < size
         → length (bytes_at bytes offset size) ≡ size
@@ -236,6 +240,7 @@ over_part bytes new start size at fits room =
     (cases_lt q (start + size)))
     (cases_lt q start))
   where
+    -- a byte outside the part is that of the list in both
     outside : (q : ℕ)
         → length (written_at (bytes_at bytes start size) at new) ≡ size
         → (q < start) ⊎ (start + length (written_at (bytes_at bytes start size) at new) ≤ q)
@@ -246,6 +251,7 @@ over_part bytes new start size at fits room =
         written_out bytes (written_at (bytes_at bytes start size) at new) start q (omega arith) far
         ∙ sym (written_out bytes new (start + at) q (omega arith) near)
 
+    -- a byte of the part, after it is written back, is that of the part's own bytes
     through : (q : ℕ)
         → start ≤ q
         → q < start + size
@@ -261,6 +267,7 @@ over_part bytes new start size at fits room =
         ∙ written_in bytes (written_at (bytes_at bytes start size) at new) start (q - start)
         (omega arith) (omega arith)
 
+    -- a byte of the part that is not written is that of the list
     kept : (q : ℕ)
         → start ≤ q
         → q < start + size
@@ -276,6 +283,7 @@ over_part bytes new start size at fits room =
         ∙ ap (λ (x : ℕ). get_or bytes x 0) there
         ∙ sym (written_out bytes new (start + at) q (omega arith) near)
 
+    -- a byte of the part that is written is the new one
     fresh : (q : ℕ)
         → start ≤ q
         → at ≤ q - start
@@ -293,6 +301,7 @@ over_part bytes new start size at fits room =
         (ap (λ (x : ℕ). get_or (written_at bytes (start + at) new) x 0) (sym there)
         ∙ written_in bytes new (start + at) (q - start - at) (omega arith) (omega arith))
 
+    -- a byte of the part is the same in both
     inside : (q : ℕ)
         → start ≤ q
         → q < start + size

@@ -16,6 +16,6 @@ low_bytes (suc n) x = x % 256 ∷ low_bytes n (x / 256)
 abbrev pub bytes_at : List ℕ → ℕ → ℕ → List ℕ
 bytes_at bytes offset n = take n (drop offset bytes)
 
--- the list with new written over it at an offset
+-- the list with the bytes new instead of as many from an offset on
 abbrev pub written_at : List ℕ → ℕ → List ℕ → List ℕ
 written_at bytes offset new = take offset bytes ++ (new ++ drop (offset + length new) bytes)

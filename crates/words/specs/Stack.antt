@@ -6,29 +6,31 @@ use Rattle.std.specs.Prelude.{ℕ, ◌+◌, ◌-◌, ◌*◌, ◌/◌, ◌%◌, 
 use Rattle.words.specs.declared.stack.AccessSize.{AccessSize}
 use Rattle.words.specs.declared.stack.AccessSize.TheVariants.{Byte, Half, Word, Double}
 
--- the size in bytes, and the number of slots of eight bytes
+-- the size of the stack in bytes
 abbrev pub stack_size : ℕ
 stack_size = 512
 
+-- the number of slots of the stack, of eight bytes each
 abbrev pub stack_slots : ℕ
 stack_slots = stack_size / 8
 
 -- ---- sizes of loads and stores
 
+-- the number of bytes of an access of this size
 abbrev pub bytes_of : AccessSize → ℕ
 bytes_of Byte = 1
 bytes_of Half = 2
 bytes_of Word = 4
 bytes_of Double = 8
 
--- a double word, that is, the size of a slot
+-- whether it is a double word, that is, the size of a slot
 abbrev pub is_double : AccessSize → Bool
 is_double Double = true
 is_double _ = false
 
 -- ---- byte indices
 
--- the n bytes at this offset lie in the stack
+-- whether the n bytes at this offset lie in the stack
 abbrev pub is_in_stack : ℤ → ℕ → Bool
 is_in_stack offset n = int_le (negsuc (stack_size - 1)) offset && int_le (offset +ℤ pos n) (pos 0)
 
@@ -41,6 +43,6 @@ byte_index offset = unsigned_abs (offset +ℤ pos stack_size)
 abbrev pub is_aligned : ℤ → ℕ → Bool
 is_aligned offset n = byte_index offset % n == 0
 
--- n bytes from byte index p on touch slot i
+-- whether one of the n bytes from byte index p on is in slot i of the stack
 abbrev pub touches : ℕ → ℕ → ℕ → Bool
 touches p n i = nat_lt p (8 * i + 8) && nat_lt (8 * i) (p + n)

@@ -5,7 +5,7 @@ use Rattle.std.specs.Int.{Width, int_shr, swap_bytes}
 
 -- ---- signed numbers
 
--- a as a signed number, in two's complement
+-- a number below 2 ^ n as a signed one, in two's complement
 abbrev pub signed : ℕ → ℕ → ℤ
 signed n a = if nat_lt a (2 ^ (n - 1)) then pos a else pos a -ℤ pos (2 ^ n)
 
@@ -16,40 +16,49 @@ unsigned n (negsuc m) = 2 ^ n - suc (m % 2 ^ n)
 
 -- ---- sums and products, modulo 2 ^ n
 
+-- a + b
 abbrev pub add : ℕ → ℕ → ℕ → ℕ
 add n a b = (a + b) % 2 ^ n
 
+-- a - b: 2 ^ n is added, since whole numbers are not negative
 abbrev pub subtract : ℕ → ℕ → ℕ → ℕ
 subtract n a b = (a + (2 ^ n - b)) % 2 ^ n
 
+-- a times b
 abbrev pub multiply : ℕ → ℕ → ℕ → ℕ
 multiply n a b = (a * b) % 2 ^ n
 
+-- a with the other sign
 abbrev pub negate : ℕ → ℕ → ℕ
 negate n a = (2 ^ n - a) % 2 ^ n
 
 -- ---- quotients, and the remainders that go with them
 
+-- unsigned; a quotient by 0 is 0
 abbrev pub divide : ℕ → ℕ → ℕ
 divide a b = if b == 0 then 0 else a / b
 
+-- unsigned; a remainder by 0 is the dividend
 abbrev pub remainder : ℕ → ℕ → ℕ
 remainder a b = if b == 0 then a else a % b
 
--- `int_div` rounds toward zero; the least number divided by -1 is 2 ^ (n - 1), which `unsigned`
--- makes the least number again
+-- a quotient by 0 is 0; `int_div` rounds toward zero; the least number divided by -1 is 2 ^ (n -
+-- 1), which `unsigned` makes the least number again
 abbrev pub signed_divide : ℕ → ℕ → ℕ → ℕ
 signed_divide n a b = if b == 0 then 0 else unsigned n (int_div (signed n a) (signed n b))
 
+-- what the signed quotient leaves; a remainder by 0 is the dividend
 abbrev pub signed_remainder : ℕ → ℕ → ℕ → ℕ
 signed_remainder n a b =
     if b == 0 then a else unsigned n (signed n a -ℤ signed n b *ℤ int_div (signed n a) (signed n b))
 
 -- ---- shifts, by the second operand modulo n
 
+-- a times 2 ^ (b % n), modulo 2 ^ n
 abbrev pub shift_left : ℕ → ℕ → ℕ → ℕ
 shift_left n a b = (a * 2 ^ (b % n)) % 2 ^ n
 
+-- unsigned: a divided by 2 ^ (b % n), rounded down
 abbrev pub shift_right : ℕ → ℕ → ℕ → ℕ
 shift_right n a b = a / 2 ^ (b % n)
 

@@ -2,6 +2,7 @@
 
 use crate::{AccessSize, AluOp, ByteOrder, Condition, KeptBits, Operator, words32, words64};
 
+/// On 64 bits: 7 divided by 0 is 0 and leaves 7, 0 less 1 is 2^64 - 1, the low 16 bits 0x3344 in reverse are 0x4433, and 0 is above -1.
 fn words_of_64_bits() {
     let quotient = words64::operate(Operator::Binary(AluOp::Div), 7, 0);
     prove!(quotient == 0);
@@ -15,6 +16,8 @@ fn words_of_64_bits() {
     prove!(above);
 }
 
+/// On 32 bits: the remainder of a division by 0 is the low half of the dividend, a shift by 33 is one by 1, 0 less 1 is 2^32 - 1, and words
+/// with equal low halves are equal.
 fn words_of_32_bits() {
     let remainder = words32::operate(Operator::Binary(AluOp::Mod), 0xffff_ffff_0000_0007, 0);
     prove!(remainder == 7);
@@ -26,6 +29,7 @@ fn words_of_32_bits() {
     prove!(equal);
 }
 
+/// A half word has two bytes, and a word is no double word.
 fn sizes_of_accesses() {
     let bytes = AccessSize::Half.bytes();
     prove!(bytes == 2);

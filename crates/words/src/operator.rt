@@ -16,7 +16,7 @@ pub enum AluOp {
     ShiftRight,
     /// The unsigned remainder; the first operand if the divisor is 0.
     Mod,
-    /// The remainder of the signed quotient; the first operand if the divisor is 0.
+    /// The remainder of the signed quotient, with the sign of the dividend; the first operand if the divisor is 0.
     SignedMod,
     Xor,
     /// The second operand.
@@ -65,7 +65,7 @@ pub enum Operator {
     End { how: ByteOrder, bits: KeptBits },
 }
 
-/// The condition of a conditional jump (RFC 9669, section 4.3).
+/// The condition of a conditional jump (RFC 9669, section 4.3). All but the signed ones compare unsigned numbers.
 #[derive(Clone, Copy, Debug, PartialEq, Eq)]
 pub enum Condition {
     Equal,

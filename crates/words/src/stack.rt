@@ -9,7 +9,7 @@ pub const STACK_SIZE: usize = 512;
 /// The number of eight-byte slots of the stack.
 pub const STACK_SLOTS: usize = STACK_SIZE / 8;
 
-/// The number of bytes that a load or a store moves (RFC 9669, section 5).
+/// The number of bytes that a load or a store moves (RFC 9669, section 5): 1, 2, 4 or 8.
 #[derive(Clone, Copy, Debug, PartialEq, Eq)]
 pub enum AccessSize {
     Byte,

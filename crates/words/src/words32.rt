@@ -10,7 +10,7 @@ use crate::operator::{AluOp, Condition, ExtendedBits, Operator};
 use crate::parts::{low_byte, low_half, low_word};
 use crate::words64;
 
-/// The sum, modulo 2^32.
+/// The sum of the low halves, modulo 2^32.
 #[inline(always)]
 pub fn add(a: u64, b: u64) -> u64
     ensures { result ≡ add 32 (low 32 a) (low 32 b) }
@@ -18,7 +18,7 @@ pub fn add(a: u64, b: u64) -> u64
     u64::from(low_word(a).wrapping_add(low_word(b)))
 }
 
-/// The difference, modulo 2^32.
+/// The difference of the low halves, modulo 2^32.
 #[inline(always)]
 pub fn subtract(a: u64, b: u64) -> u64
     ensures { result ≡ subtract 32 (low 32 a) (low 32 b) }
@@ -26,7 +26,7 @@ pub fn subtract(a: u64, b: u64) -> u64
     u64::from(low_word(a).wrapping_sub(low_word(b)))
 }
 
-/// The product, modulo 2^32.
+/// The product of the low halves, modulo 2^32.
 #[inline(always)]
 pub fn multiply(a: u64, b: u64) -> u64
     ensures { result ≡ multiply 32 (low 32 a) (low 32 b) }
@@ -34,7 +34,7 @@ pub fn multiply(a: u64, b: u64) -> u64
     u64::from(low_word(a).wrapping_mul(low_word(b)))
 }
 
-/// The unsigned quotient; 0 if the divisor is 0.
+/// The unsigned quotient of the low halves; 0 if the divisor is 0.
 #[inline(always)]
 pub fn divide(a: u64, b: u64) -> u64
     ensures { result ≡ divide (low 32 a) (low 32 b) }
@@ -47,7 +47,7 @@ pub fn divide(a: u64, b: u64) -> u64
     }
 }
 
-/// The unsigned remainder; the low half of `a` if the divisor is 0.
+/// The unsigned remainder of the low halves; the low half of `a` if the divisor is 0.
 #[inline(always)]
 pub fn remainder(a: u64, b: u64) -> u64
     ensures { result ≡ remainder (low 32 a) (low 32 b) }
@@ -61,7 +61,7 @@ pub fn remainder(a: u64, b: u64) -> u64
     }
 }
 
-/// The signed quotient, rounded toward zero; 0 if the divisor is 0. -2^31 divided by -1 is -2^31.
+/// The signed quotient of the low halves, rounded toward zero; 0 if the divisor is 0. -2^31 divided by -1 is -2^31.
 #[inline(always)]
 pub fn signed_divide(a: u64, b: u64) -> u64
     ensures { result ≡ signed_divide 32 (low 32 a) (low 32 b) }
@@ -79,7 +79,8 @@ pub fn signed_divide(a: u64, b: u64) -> u64
     }
 }
 
-/// The remainder of the signed quotient; the low half of `a` if the divisor is 0. -2^31 divided by -1 leaves 0.
+/// The remainder of the signed quotient of the low halves, with the sign of the dividend; the low half of `a` if the divisor is 0. -2^31
+/// divided by -1 leaves 0.
 #[inline(always)]
 pub fn signed_remainder(a: u64, b: u64) -> u64
     ensures { result ≡ signed_remainder 32 (low 32 a) (low 32 b) }
@@ -97,7 +98,7 @@ pub fn signed_remainder(a: u64, b: u64) -> u64
     }
 }
 
-/// Bitwise or.
+/// The bitwise or of the low halves.
 #[inline(always)]
 pub fn or(a: u64, b: u64) -> u64
     ensures { result ≡ bit_or (low 32 a) (low 32 b) }
@@ -105,7 +106,7 @@ pub fn or(a: u64, b: u64) -> u64
     u64::from(low_word(a) | low_word(b))
 }
 
-/// Bitwise and.
+/// The bitwise and of the low halves.
 #[inline(always)]
 pub fn and(a: u64, b: u64) -> u64
     ensures { result ≡ bit_and (low 32 a) (low 32 b) }
@@ -113,7 +114,7 @@ pub fn and(a: u64, b: u64) -> u64
     u64::from(low_word(a) & low_word(b))
 }
 
-/// Bitwise exclusive or.
+/// The bitwise exclusive or of the low halves.
 #[inline(always)]
 pub fn exclusive_or(a: u64, b: u64) -> u64
     ensures { result ≡ bit_xor (low 32 a) (low 32 b) }
@@ -121,7 +122,7 @@ pub fn exclusive_or(a: u64, b: u64) -> u64
     u64::from(low_word(a) ^ low_word(b))
 }
 
-/// `a` shifted left by `b` modulo 32.
+/// The low half of `a` shifted left by `b` modulo 32.
 #[inline(always)]
 pub fn shift_left(a: u64, b: u64) -> u64
     ensures { result ≡ shift_left 32 (low 32 a) (low 32 b) }
@@ -129,7 +130,7 @@ pub fn shift_left(a: u64, b: u64) -> u64
     u64::from(low_word(a) << (low_word(b) % 32))
 }
 
-/// `a` shifted right by `b` modulo 32, unsigned.
+/// The low half of `a` shifted right by `b` modulo 32, unsigned.
 #[inline(always)]
 pub fn shift_right(a: u64, b: u64) -> u64
     ensures { result ≡ shift_right 32 (low 32 a) (low 32 b) }
@@ -137,7 +138,7 @@ pub fn shift_right(a: u64, b: u64) -> u64
     u64::from(low_word(a) >> (low_word(b) % 32))
 }
 
-/// `a` shifted right by `b` modulo 32, with its sign bit copied.
+/// The low half of `a` shifted right by `b` modulo 32, with its sign bit copied.
 #[inline(always)]
 pub fn signed_shift_right(a: u64, b: u64) -> u64
     ensures { result ≡ signed_shift_right 32 (low 32 a) (low 32 b) }
@@ -153,7 +154,7 @@ pub fn move_low(b: u64) -> u64
     u64::from(low_word(b))
 }
 
-/// `a` negated, modulo 2^32.
+/// The low half of `a` negated, modulo 2^32.
 #[inline(always)]
 pub fn negate(a: u64) -> u64
     ensures { result ≡ negate 32 (low 32 a) }
@@ -161,7 +162,7 @@ pub fn negate(a: u64) -> u64
     u64::from(0u32.wrapping_sub(low_word(a)))
 }
 
-/// The low bits of `a`, sign-extended to 32 bits.
+/// The low bits of `a`, sign-extended from `from` to 32 bits.
 #[inline(always)]
 pub fn sign_extend(from: ExtendedBits, a: u64) -> u64
     ensures { result ≡ sign_extend 32 (extended_bits from) (low 32 a) }
@@ -261,7 +262,7 @@ pub fn common_bit(a: u64, b: u64) -> bool
     low_word(a) & low_word(b) != 0
 }
 
-/// The result of an operator of two operands on 32 bits.
+/// The result of an operator of two operands on the low halves of two words.
 #[inline(always)]
 pub fn alu(op: AluOp, a: u64, b: u64) -> u64
     ensures { result ≡ operate 32 (Binary op) a b }
@@ -284,7 +285,7 @@ pub fn alu(op: AluOp, a: u64, b: u64) -> u64
     }
 }
 
-/// The result of an operator on 32 bits. A byte-order conversion gives the same 64 bits as in `words64`.
+/// The result of an operator on the low halves of two words. Only a byte-order conversion reads and returns 64 bits, whatever the width.
 #[inline(always)]
 pub fn operate(op: Operator, a: u64, b: u64) -> u64
     ensures { result ≡ operate 32 op a b }

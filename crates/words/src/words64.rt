@@ -63,7 +63,7 @@ pub fn signed_divide(a: u64, b: u64) -> u64
     }
 }
 
-/// The remainder of the signed quotient; `a` if `b` is 0. -2^63 divided by -1 leaves 0.
+/// The remainder of the signed quotient, with the sign of the dividend; `a` if `b` is 0. -2^63 divided by -1 leaves 0.
 #[inline(always)]
 pub fn signed_remainder(a: u64, b: u64) -> u64
     ensures { result ≡ signed_remainder 64 a b }
@@ -133,7 +133,7 @@ pub fn negate(a: u64) -> u64
     0u64.wrapping_sub(a)
 }
 
-/// The low bits of `a`, sign-extended to 64 bits.
+/// The low bits of `a`, sign-extended from `from` to 64 bits.
 #[inline(always)]
 pub fn sign_extend(from: ExtendedBits, a: u64) -> u64
     ensures { result ≡ sign_extend 64 (extended_bits from) a }

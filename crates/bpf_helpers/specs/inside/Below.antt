@@ -3,7 +3,7 @@ use Rattle.std.specs.Prelude.{ℕ}
 use Rattle.arena.specs.Apart.{WritesStayInside}
 use Rattle.bpf_maps.specs.Laws.{CallsRefineValues, AreasKeepElements, DeletesKeepElements}
 
--- the laws of those crates
+-- the laws of the memory and of maps on which the laws of calls depend
 pub record LawsBelow : Type 0 where
   pub writes : WritesStayInside
   pub along : CallsRefineValues ℕ ℕ

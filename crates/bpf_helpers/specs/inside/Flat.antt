@@ -17,44 +17,48 @@ use Rattle.bpf_helpers.specs.States.{CallSite, CallAnswer, site}
 abbrev pub site_of : Caller → Memory → LiveMaps → CallSite
 site_of caller memory maps = site caller.tenant caller.bind.now caller.packet.now memory maps
 
--- the key, and the value, of the map of a handle, at an offset of the part
+-- the bytes of a key, of the size for the map of handle k, at an offset of the part
 abbrev pub key_bytes : CallSite → ℕ → ℕ → List ℕ
 key_bytes site k at =
     bytes_at site.memory.bytes (part_start site.memory site.tenant + at)
     (shape_at site.maps k).key_size
 
+-- the bytes of a value, of the size for the map of handle k, at an offset of the part
 abbrev pub value_bytes : CallSite → ℕ → ℕ → List ℕ
 value_bytes site k at =
     bytes_at site.memory.bytes (part_start site.memory site.tenant + at)
     (shape_at site.maps k).value_size
 
+-- the map of handle k, with the key and the value at these offsets of the part
 abbrev pub pair_there : CallSite → ℕ → ℕ → ℕ → NamedPair
 pair_there site k key value =
     record { map = k; key = key_bytes site k key; value = value_bytes site k value }
 
 -- ---- a look-up
 
--- the address of a value, or null
+-- the address of the value of an element; 0, null, without an element
 abbrev pub value_word : CallSite → ℕ → Option ℕ → ℕ
 value_word site key None = 0
 value_word site key (Some element) =
     base + (part_start site.memory site.tenant + offset_at site.maps key element)
 
--- the address of the value of a key
+-- the address of the value of a key; 0 if the map does not have the key
 abbrev pub key_word : CallSite → NamedKey → ℕ
 key_word site n =
     value_word site n.map (look_up (table_of (keys_at site.maps n.map)) n.key)
 
+-- what a look-up returns, the address of a value or 0; None if its words name nothing
 abbrev pub flat_look_up : CallSite → ℕ → ℕ → Option ℕ
 flat_look_up site map key = option_map (key_word site) (key_named site map key)
 
 -- ---- an update
 
+-- what an update returns for a claim: 0, or the number of the fault's error, negated
 abbrev pub claim_word : Result ℕ MapFault → ℕ
 claim_word (Ok element) = 0
 claim_word (Err fault) = negative (errno fault)
 
--- the value is written to the claimed element
+-- the memory after an update: the value is written to the claimed element, if there is one
 abbrev pub with_claimed : CallSite → NamedPair → Result ℕ MapFault → Memory
 with_claimed site pair (Ok element) =
     with_bytes site.memory
@@ -62,7 +66,7 @@ with_claimed site pair (Ok element) =
     pair.value
 with_claimed site pair (Err fault) = site.memory
 
--- an update of a map, with a key and a value
+-- an update of a map with a key and a value: the claim of an element, and what is after it
 pub record Updates (site : CallSite) (pair : NamedPair) (flags : ℕ)
     (answer : CallAnswer) : Type 0 where
   pub claim : Result ℕ MapFault
@@ -72,7 +76,7 @@ pub record Updates (site : CallSite) (pair : NamedPair) (flags : ℕ)
   pub word_is : answer.word ≡ claim_word claim
   pub memory_is : answer.memory ≡ with_claimed site pair claim
 
--- an update with what its words name
+-- an update of what its words name; if that is nothing, the error is returned and nothing changes
 abbrev pub UpdatesNamed : CallSite → Option NamedPair → ℕ → CallAnswer → Type 0
 UpdatesNamed site None flags answer =
     (answer.word ≡ unnamed_answer Update) × (answer.memory ≡ site.memory)
@@ -81,11 +85,12 @@ UpdatesNamed site (Some pair) flags answer = Updates site pair flags answer
 
 -- ---- a deletion
 
+-- what a deletion returns for its outcome: 0, or the number of the fault's error, negated
 abbrev pub removal_word : Result (Unit {0}) MapFault → ℕ
 removal_word (Ok done) = 0
 removal_word (Err fault) = negative (errno fault)
 
--- a deletion of a key of a map
+-- a deletion of a key of a map: its outcome, what it returns, and the live maps after it
 pub record Deletes (old : LiveMaps) (named : NamedKey) (word : ℕ) (new : LiveMaps) : Type 0 where
   pub outcome : Result (Unit {0}) MapFault
   pub removed : Removes (removal (table_of (keys_at old named.map)) named.key) named.key
@@ -93,14 +98,16 @@ pub record Deletes (old : LiveMaps) (named : NamedKey) (word : ℕ) (new : LiveM
   pub rest : OnlyKeysChange named.map old new
   pub word_is : word ≡ removal_word outcome
 
--- a deletion of what its words name
+-- a deletion of what its words name; if that is nothing, the error is returned and nothing
+-- changes
 abbrev pub DeletesNamed : LiveMaps → Option NamedKey → ℕ → LiveMaps → Type 0
 DeletesNamed old None word new = (word ≡ unnamed_answer Delete) × (new ≡ old)
 DeletesNamed old (Some named) word new = Deletes old named word new
 
 -- ---- bytes of the packet
 
--- a load of packet bytes to an offset of the part, if the words name one
+-- a load of n packet bytes to an offset q of the part; if the words name none, the error is
+-- returned and nothing changes
 abbrev pub LoadsAt : CallSite → ℕ → ℕ → Option ℕ → ℕ → Memory → Type 0
 LoadsAt site offset n None word after =
     (word ≡ unnamed_answer LoadBytes) × (after ≡ site.memory)

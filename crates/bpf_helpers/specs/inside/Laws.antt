@@ -22,7 +22,7 @@ use Rattle.bpf_helpers.specs.inside.Flat.{flat_look_up, Updates, Deletes}
 
 -- ---- the stack
 
--- bytes that are read across slots of the stack are those in the memory
+-- n bytes that are read at offset y of the stack, across its slots, are those in the memory
 abbrev pub StackBytesAreThere : Type 0
 StackBytesAreThere =
     (env : Environment) (l : Layout) (memory : List ℕ) (start : ℕ) (s : RunState)
@@ -32,8 +32,8 @@ StackBytesAreThere =
     → stack_bytes s y n ≡ Some bs
     → bytes_at memory (start + byte_index y) n ≡ bs
 
--- after bytes are written across slots, the memory represents the cells after it: a spilled pointer
--- that they touch is lost, and all other slots are unchanged
+-- after bytes are written at offset y of the stack, across its slots, the memory represents the
+-- cells after it: a spilled pointer that they touch is lost, and all other slots are unchanged
 abbrev pub StackBytesAreWritten : Type 0
 StackBytesAreWritten =
     (env : Environment) (l : Layout) (memory : List ℕ) (start : ℕ) (s t : RunState) (y : ℤ)
@@ -83,6 +83,7 @@ pub record TaggedUpdate : Type 0 where
   pub value : List ℕ
   pub flags : ℕ
 
+-- the result of the machine's update, and its map after it
 abbrev pub update_reply : TaggedUpdate → MapReply
 update_reply asked = updated asked.given.map asked.key asked.value asked.flags
 
@@ -95,6 +96,7 @@ pub record UpdateKeepsSimulation (env : Environment) (l : Layout) (flat : FlatSt
   pub stands : Simulates env layout (with_held flat answer.memory answer.maps)
       (with_map s asked.given.descriptor (update_reply asked).map)
 
+-- after an update, words, bytes and live maps represent the state after the machine's
 abbrev pub UpdatesKeepSimulation : Type 0
 UpdatesKeepSimulation =
     (env : Environment) (l : Layout) (flat : FlatState) (s : RunState)
@@ -138,7 +140,8 @@ pub record LoadKeepsSimulation (env : Environment) (l : Layout) (flat : FlatStat
       (Scalar
       (packet_answer s.packet (slice_index flat.registers 2) (slice_index flat.registers 4)))
 
--- the result of a call goes into register 0; registers 1 to 5 are unknown then
+-- with a word of the result in register 0, the words represent the state after a call that returns
+-- it; registers 1 to 5 have no value then
 abbrev pub ReturnsKeepSimulation : Type 0
 ReturnsKeepSimulation =
     (env : Environment) (l : Layout) (flat : FlatState) (s : RunState) (v : Tagged) (w : ℕ)
@@ -147,11 +150,12 @@ ReturnsKeepSimulation =
 
 -- ---- one map at the start and the end of a run
 
--- the element of the value of the n-th key, of the map of handle k
+-- the element of the key of index n, of the map of handle k
 abbrev pub nth_element : LiveMaps → ℕ → ℕ → ℕ
 nth_element tenant k n = slice_index (values_of (keys_at tenant k).entries) n
 
--- the map represents one whose objects are numbered in order
+-- at the start of a run, the map of handle k represents one whose objects are numbered in the order
+-- of their keys
 abbrev pub MapsBegin : Type 0
 MapsBegin =
     (l : Layout) (start : ℕ) (memory : List ℕ) (tenant : LiveMaps) (k m : ℕ) (value : ℕ → List ℕ)
@@ -164,7 +168,7 @@ MapsBegin =
     → HasMap l (stored_maps start memory tenant) k m
     (first_map (with_values value (table_of (keys_at tenant k))))
 
--- the map has the same pairs as the machine's map after the run
+-- at the end of a run, the map of handle k has the same pairs as the machine's map
 abbrev pub MapsEnd : Type 0
 MapsEnd =
     (l : Layout) (start : ℕ) (memory : List ℕ) (old new : LiveMaps) (k m : ℕ) (t : RunMap)

@@ -6,5 +6,6 @@ use Rattle.bpf_maps.specs.declared.slab_keys.TheConstants.{NO_KEY}
 abbrev pub key_in : ℕ → Option ℕ
 key_in word = if word == NO_KEY then None else Some word
 
+-- the key in each word, by handle, if there is one
 abbrev pub keys_in : List ℕ → List (Option ℕ)
 keys_in words = map key_in words

@@ -15,6 +15,7 @@ use Rattle.bpf_text.specs.declared.fault.TextFaultKind.{TextFaultKind}
 use Rattle.bpf_text.specs.declared.fault.TextFaultKind.TheVariants.{Syntax, Range, UnknownLabel, LabelTwice, TooLong}
 use Rattle.bpf_text.specs.Assembly.{line_slots, slots_on, label_line, passes}
 
+-- the definitions of labels, by their names, as the code keeps them
 abbrev pub Labels : Type 0
 Labels = HashMap (Bor (List ℕ)) Definition (BuildHasherDefault FoldHasher)
 
@@ -27,7 +28,7 @@ abbrev pub or_else : {A : Type 0} → Option A → Option A → Option A
 or_else (Some x) y = Some x
 or_else None y = y
 
--- a definition on line k
+-- line k, counted from 0, with the number of slots before it
 abbrev pub definition_at : List (Option Line) → ℕ → Definition
 definition_at lines k = record { line = k; slot = slots_on (take k lines) }
 
@@ -39,19 +40,22 @@ FindsLabels lines labels n =
 
 -- ---- a line's fault and instruction, given the definitions that are kept
 
+-- the line of the definition that is kept; `line` if none is
 abbrev pub kept_line : Option Definition → ℕ → ℕ
 kept_line None line = line
 kept_line (Some definition) line = definition.line
 
+-- the slot of the definition that is kept; 0 if none is
 abbrev pub kept_slot : Option Definition → ℕ
 kept_slot None = 0
 kept_slot (Some definition) = definition.slot
 
--- A label past the last slot that a program may have is taken to be at that slot: the text has a
--- line that is too long.
+-- The distance from the slot after `slot` to a label. A label past the last slot that a program may
+-- have is taken to be at that slot: the text has a line that is too long.
 abbrev pub kept_distance : Option Definition → ℕ → ℤ
 kept_distance definition slot = pos (min (kept_slot definition) most_slots) -ℤ pos (slot + 1)
 
+-- the fault of an instruction, given the definition of its label and the slots before it
 abbrev pub code_fault : Form → Option Definition → ℕ → Option TextFaultKind
 code_fault form definition before =
     if form_fits form then
@@ -60,10 +64,12 @@ code_fault form definition before =
     Some UnknownLabel) else
     Some Range
 
+-- the fault of a line that defines a label, given the definition that is kept for the label
 abbrev pub label_fault : Option Definition → ℕ → Option TextFaultKind
 label_fault definition line =
     if nat_lt (kept_line definition line) line then Some LabelTwice else None
 
+-- the fault of a line, with its index and the slots before it in `here`
 abbrev pub kept_fault : Labels → Definition → Option Line → Option TextFaultKind
 kept_fault labels here None = Some Syntax
 kept_fault labels here (Some blank) = None
@@ -71,6 +77,7 @@ kept_fault labels here (Some (label name)) = label_fault (definition_of labels n
 kept_fault labels here (Some (code form name)) =
     code_fault form (definition_of labels name) here.slot
 
+-- the written form on a line, before which are these slots; none if it has no instruction
 abbrev pub kept_form : Labels → ℕ → Option Line → List Form
 kept_form labels slot None = []
 kept_form labels slot (Some blank) = []
@@ -78,6 +85,7 @@ kept_form labels slot (Some (label name)) = []
 kept_form labels slot (Some (code form name)) =
     resolved (kept_distance (definition_of labels name) slot) form ∷ []
 
+-- the written forms on the lines from a slot on
 unfoldable pub kept_forms : Labels → ℕ → List (Option Line) → List Form
 kept_forms labels slot [] = []
 kept_forms labels slot (line ∷ lines) =
@@ -88,6 +96,7 @@ abbrev pub IsFormed : Option Line → Type 0
 IsFormed None = Unit {0}
 IsFormed (Some line) = IsWellFormed line
 
+-- the name of the label that a line defines
 abbrev pub label_defined : Option Line → Option (List ℕ)
 label_defined None = None
 label_defined (Some blank) = None

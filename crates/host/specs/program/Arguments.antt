@@ -15,8 +15,9 @@ use Rattle.host.specs.declared.program.texts.TextTask.{TextTask}
 use Rattle.host.specs.declared.program.texts.TextTask.TheVariants.{Assemble, Disassemble}
 
 -- The command line in clap's terms: one of the subcommands `serve`, `asm`, `dis` and `verify`,
--- which is required, and so is the option `--tenants` of `serve`. The arguments of `verify` are
--- those for its maps.
+-- which is required.
+
+-- the option `--tenants` of `serve`, which is required and has a value
 abbrev pub tenants_option : Rule
 tenants_option = record (new_rule (codes "tenants")) {
   long = Some (codes "tenants");
@@ -24,32 +25,41 @@ tenants_option = record (new_rule (codes "tenants")) {
   action = Some Set;
 }
 
+-- the subcommand `serve`, with its option
 abbrev pub serve_command : App
 serve_command = with_rule (new_app (codes "serve")) tenants_option
 
+-- the subcommand `asm`, without options
 abbrev pub asm_command : App
 asm_command = new_app (codes "asm")
 
+-- the subcommand `dis`, without options
 abbrev pub dis_command : App
 dis_command = new_app (codes "dis")
 
+-- any number of arguments, each for a map
 abbrev pub maps_argument : Rule
 maps_argument = record (new_rule (codes "map")) { action = Some Append }
 
+-- the subcommand `verify`, with its map arguments
 abbrev pub verify_command : App
 verify_command = with_rule (new_app (codes "verify")) maps_argument
 
+-- a subcommand is required, and the name of the program is not among the arguments
 abbrev pub asks_for_subcommand : Shape → Shape
 asks_for_subcommand s = record s { no_binary_name = true; subcommand_required = true }
 
+-- the program with the subcommand `serve` only
 abbrev pub program_up_to_serve : App
 program_up_to_serve =
     with_subcommand (on_top asks_for_subcommand (new_app (codes "bpfhost"))) serve_command.top
 
+-- the program with the subcommands `serve`, `asm` and `dis`
 abbrev pub program_up_to_dis : App
 program_up_to_dis =
     with_subcommand (with_subcommand program_up_to_serve asm_command.top) dis_command.top
 
+-- the program with all four subcommands
 abbrev pub program : App
 program = with_subcommand program_up_to_dis verify_command.top
 
@@ -93,6 +103,7 @@ asked_with name rows =
     (if bytes_eq name (codes "dis") then Some (Rewrites Disassemble) else
     (if bytes_eq name (codes "verify") then Some (Verifies (map_arguments rows)) else None)))
 
+-- the task of the subcommand that is chosen, with its arguments; None if none is, or they are wrong
 abbrev pub asked_of : Option (Text × List Row) → Option Asked
 asked_of chosen =
     option_and_then (λ (subcommand : Text × List Row). asked_with subcommand.0 subcommand.1) chosen

@@ -18,5 +18,6 @@ failure_at slot codec.Empty = Slot slot (fault_number codec.Empty)
 failure_at slot codec.TooLong = Slot slot (fault_number codec.TooLong)
 failure_at slot codec.Memory = Memory
 
+-- the failure for a fault of the codec, which has a slot and a kind
 abbrev pub codec_failure : CodecFault → Failure
 codec_failure found = failure_at found.slot found.kind

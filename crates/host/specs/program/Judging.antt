@@ -24,5 +24,6 @@ pub record Accepts (arguments : List Text) (input : List ℕ) : Type 0 where
   pub named : AreMapArguments arguments maps
   pub judged : IsJudgement maps input None
 
+-- if the bytes of the input are known, they have a program that is accepted with these maps
 abbrev pub AcceptsIfKnown : List Text → Option (List ℕ) → Type 0
 AcceptsIfKnown arguments input = IfSome input (Accepts arguments)

@@ -13,17 +13,20 @@ use Rattle.tagged_model.specs.declared.shape.Named.{Named}
 use Rattle.tagged_model.specs.declared.shape.Target.TheVariants.{Map}
 use Rattle.host.specs.program.Decimal.{decimal_number}
 
+-- the name of a kind of maps in a map argument
 abbrev pub kind_name : MapKind → Text
 kind_name Array = codes "array"
 kind_name Hash = codes "hash"
 
+-- the byte of a colon in ASCII
 abbrev pub colon : ℕ
 colon = 58
 
--- a descriptor is one of the numbers of a descriptor table
+-- fd is one of the numbers of a table of descriptors, 3 to 66
 abbrev pub is_descriptor : ℕ → Bool
 is_descriptor fd = is_from_to fds.first_descriptor (fds.first_descriptor + fds.most - 1) fd
 
+-- the descriptor in decimal digits; None if it is not one of the table
 abbrev pub descriptor_number : Text → Option ℕ
 descriptor_number text =
     option_and_then (λ fd. if is_descriptor fd then Some fd else None) (decimal_number text)
@@ -57,6 +60,7 @@ pub record AreMapArguments (arguments : List Text) (maps : List Named) : Type 0 
   pub each : AllZip IsMapArgument arguments maps
   pub apart : AllPairs (λ (a : Named) (b : Named). a.fd ≢ b.fd) maps
 
+-- one of the maps has the descriptor fd
 abbrev pub has_descriptor : ℕ → List Named → Bool
 has_descriptor fd maps = list_any (λ (map : Named). map.fd == fd) maps
 

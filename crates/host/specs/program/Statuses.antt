@@ -55,6 +55,7 @@ failure_after fault.Truncated frames = Truncated frames
 failure_after fault.TooManyFrames frames = TooManyFrames
 failure_after fault.Memory frames = Memory
 
+-- the failure for the fault of a stream, which has a kind and a number of frames
 abbrev pub stream_failure : ServeFault → Failure
 stream_failure ended = failure_after ended.kind ended.frames
 
@@ -68,5 +69,6 @@ failure_on line text.TooLong = Line line (kind_number text.TooLong)
 failure_on line text.Empty = Line line (kind_number text.Empty)
 failure_on line text.Memory = Memory
 
+-- the failure for the fault of a text, which has a line and a kind
 abbrev pub text_failure : TextFault → Failure
 text_failure found = failure_on found.line found.kind

@@ -15,16 +15,20 @@ use thiserror::Error;
 pub enum Failure {
     #[error("wrong words")]
     WrongArguments,
+    /// The number of the argument, from 1.
     #[error("map word {0} is wrong")]
     MapArgument(usize),
+    /// The input of `serve` ended inside a frame, after so many whole ones.
     #[error("truncated after {0} frames")]
     Truncated(u32),
     #[error("too many frames")]
     TooManyFrames,
     #[error("input too long")]
     TooLong,
+    /// Lines are numbered from 1; line 0 is the whole text. `kind` is the number of the fault in `bpf_text`.
     #[error("line {line}: fault {kind}")]
     Line { line: usize, kind: u16 },
+    /// `kind` is the number of the fault in `insn_codec`.
     #[error("slot {slot}: fault {kind}")]
     Slot { slot: usize, kind: u16 },
     #[error("read fault")]
@@ -99,6 +103,7 @@ impl From<clap::Error> for Failure {
     fn from(error: clap::Error) -> Failure {
         match error.kind() {
             ErrorKind::OutOfMemory => Failure::Memory,
+            // Help and version too: there are no such options.
             _ => Failure::WrongArguments,
         }
     }

@@ -1,4 +1,5 @@
-//! The subcommand `serve`: frames in, replies out.
+//! The subcommand `serve`: frames in, replies out. Its contract requires that fewer than 2^64 - 1 calls of each stream have failed
+//! before, since they are counted in 64 bits.
 
 ghost use Rattle.std.specs.Prelude.{◌<◌, ◌≤◌, ◌-◌, ◌^◌, replicate};
 ghost use Rattle.host_core.specs.State.{new_tenant};

@@ -1,4 +1,5 @@
-//! The subcommand `verify`: hex lines in, the verdict on their program out.
+//! The subcommand `verify`: hex lines in, the verdict on their program out. Contracts require that fewer than 2^64 - 1 calls of a stream
+//! have failed before, since they are counted in 64 bits.
 
 ghost use Rattle.std.specs.Prelude.{◌≡◌, ◌∷◌, ◌++◌, ◌<◌, ◌-◌, ◌^◌, [], Option, IfErr, IfOk, string_bytes};
 ghost use Rattle.host.specs.program.Judging.{IsJudgement};
@@ -33,7 +34,7 @@ fn refusal_of_input(alloc: Global, maps: &[Named], input: &[u8]) -> Result<Optio
     }
 }
 
-/// The line of a verdict.
+/// The line of a verdict, with its line feed: `accepted`, or the text of the refusal.
 fn verdict_line(alloc: Global, refusal: Option<Refusal>) -> Result<String, AllocError>
     ensures { IfOk result (λ line. string_bytes line ≡ judgement_text refusal ++ 10 ∷ []) }
 {

@@ -21,7 +21,7 @@ use thiserror::Error;
 #[error("a map is named by FD:KIND:KEY:VALUE:MAX")]
 pub struct BadShape;
 
-/// The text before the first colon, and the text after it.
+/// The text before the first colon, and the text after it; `None` if there is no colon.
 fn first_field(text: &str) -> Option<(&str, &str)>
     ensures first { IfSome result (λ cut. map_fields text.now ≡ cut.0.now ∷ map_fields cut.1.now) }
     ensures last { IfNone result (map_fields text.now ≡ text.now ∷ []) }
@@ -29,7 +29,8 @@ fn first_field(text: &str) -> Option<(&str, &str)>
     text.split_once(':')
 }
 
-/// The first four fields, and the text after them.
+/// The first four fields of an argument, and the text after the fourth colon; `None` if it has fewer colons. A colon in that text is
+/// rejected later, since it is no digit.
 fn five_parts(argument: &str) -> Option<(&str, &str, &str, &str, &str)>
     ensures parts { IfSome result (λ cut. map_fields argument.now
         ≡ cut.0.now ∷ cut.1.now ∷ cut.2.now ∷ cut.3.now ∷ map_fields cut.4.now) }
@@ -42,7 +43,7 @@ fn five_parts(argument: &str) -> Option<(&str, &str, &str, &str, &str)>
     Some((first, second, third, fourth, fifth))
 }
 
-/// The kind of this name.
+/// The kind of maps with this name, `array` or `hash`; `None` for another name.
 fn kind_named(name: &str) -> Option<MapKind>
     ensures named { IfSome result (λ kind. name.now ≡ kind_name kind) }
     ensures only { IfNone result ((kind : AnyKind) → name.now ≢ kind_name kind) }
@@ -54,7 +55,7 @@ fn kind_named(name: &str) -> Option<MapKind>
     }
 }
 
-/// The shape with these fields; `None` if there is no such shape.
+/// The shape with these fields; `None` if one is wrong, or if no map may have this shape (`MapShape::new`).
 fn shape_of(kind: &str, key_size: &str, value_size: &str, max_entries: &str) -> Option<MapShape>
     ensures written { IfSome result (λ shape.
         IsShapeOf shape kind.now key_size.now value_size.now max_entries.now) }
@@ -112,7 +113,7 @@ fn is_open(maps: &[Named], fd: u32) -> bool
     maps.iter().any(|map| map.fd == fd)
 }
 
-/// The map that a further argument names; `None` if it names no map, or a descriptor that is taken.
+/// The map that an argument after those of `maps` names; `None` if it names no map, or the descriptor of one of them.
 fn further_map(maps: &[Named], argument: &str) -> Option<Named>
     ensures named { IfSome result (λ map. IsMapArgument argument.now map
         × (has_descriptor map.fd maps.now ≡ false)) }

@@ -1,4 +1,5 @@
-//! The subcommands `asm` and `dis`: a text in, a text out.
+//! The subcommands `asm` and `dis`: a text in, a text out. Contracts require that fewer than 2^64 - 1 calls of a stream have failed
+//! before, since they are counted in 64 bits.
 
 ghost use Rattle.std.specs.Prelude.{◌≡◌, ◌<◌, ◌-◌, ◌^◌, List, ℕ, length, IfErr, IfOk, IsUtf8, MatchResult, OnOk};
 ghost use Rattle.std.specs.String.{string_bytes};
@@ -17,7 +18,7 @@ use std::alloc::{AllocError, Global};
 /// The longest input of a text, in bytes.
 pub(crate) const LONGEST_INPUT: usize = 1_048_576;
 
-/// Which of the two a run does.
+/// Which of `asm` and `dis` a run does.
 #[derive(Clone, Copy, Debug, PartialEq, Eq)]
 pub(crate) enum TextTask {
     /// A program's text to its hex lines.
@@ -26,7 +27,7 @@ pub(crate) enum TextTask {
     Disassemble,
 }
 
-/// The bytes as text; fault 1 of line 0 if they are not UTF-8.
+/// The bytes as text; if they are not UTF-8, fault 1 (a line of no form) at line 0, the whole text.
 pub(crate) fn text_in(bytes: &[u8]) -> Result<&str, Failure>
     ensures { MatchResult result (λ text. (text.now ≡ bytes.now) × IsUtf8 bytes.now)
         (IsNoText bytes.now) }
@@ -125,6 +126,7 @@ pub(crate) fn read_input<S: Source>(alloc: Global, reader: &mut S) -> Result<Vec
         HasNoInput failure (S.remaining reader.old) (S.remaining reader.new)
         (S.failures reader.old) (S.failures reader.new)) }
 {
+    // One byte more, by which a longer input is noticed.
     let mut input = buffer(alloc, LONGEST_INPUT + 1)?;
     let Ok(count) = fill(reader, &mut input) else {
         return Err(Failure::Read);

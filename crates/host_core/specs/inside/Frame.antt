@@ -23,7 +23,7 @@ pub record ReadsOnly (old new : StreamState) (rest : List ℕ) : Type 0 where
 
 -- ---- one frame
 
--- one frame was served and its reply flushed, or the input was at its end
+-- one frame was served and its reply flushed (true), or the input was at its end (false)
 abbrev pub ServesFrameOrEnds : StreamState → StreamState → Bool → Type 0
 ServesFrameOrEnds old new true =
     ((frame : List ℕ) × (reply : List ℕ) × ServesOneFrame old new frame reply reply)
@@ -31,6 +31,8 @@ ServesFrameOrEnds old new true =
     × NoCallFailed old new
 ServesFrameOrEnds old new false = ReadsOnly old new [] × IsAtEnd new.input × NoCallFailed old new
 
+-- what was read and written of one frame before a fault, and which call failed
+-- or that the input is at its end; two kinds of fault cannot occur inside a frame
 abbrev pub StopsInFrame : StreamState → StreamState → ServeFaultKind → Type 0
 StopsInFrame old new Read =
     ((rest : List ℕ) × IsPartial rest × ReadsOnly old new rest)

@@ -6,12 +6,12 @@ use Rattle.saving.specs.declared.birth.Birth.{Birth}
 use Rattle.saving.specs.Laws.{IsHistory}
 use Rattle.host_core.specs.States.{HostState}
 
--- the state and the births of a new tenant after some commands, whether memory is refused to them
+-- some commands lead a new tenant to this state and these births, whether memory is refused to them
 -- or not
 abbrev pub IsReached : TenantState → List Birth → Type 0
 IsReached s births = (commands : List Command) × IsHistory new_tenant [] commands s births
 
--- those of each tenant
+-- each tenant of a host has a state and births that some commands lead to
 pub record AreReached (h : HostState) : Type 0 where
   pub many : length h.births ≡ length h.states
   pub each : (t : ℕ) (s : TenantState) (births : List Birth)

@@ -12,7 +12,7 @@ pub record ReadsFewer (old new : Option (List ℕ)) (count : ℕ) : Type 0 where
   pub few : length bytes < count
   pub read : Consumes old new bytes
 
--- less than a whole frame was read; if it is truncated, at least one byte of it
+-- less than a whole frame was read; if the input ends in it (`Truncated`), at least one byte
 pub record ReadsPartial (kind : ServeFaultKind) (old new : Option (List ℕ)) : Type 0 where
   pub bytes : List ℕ
   pub partial : IsPartial bytes
@@ -28,7 +28,7 @@ StopsReading Write left failures_before failures_after = ⊥
 StopsReading TooManyFrames left failures_before failures_after = ⊥
 StopsReading Memory left failures_before failures_after = ⊥
 
--- the same, given the reader before and after
+-- why no more was read, given the reader before and after, with its bytes and its failed calls
 abbrev pub StopsAt : {R : Type 0}
     → (R → Option (List ℕ))
     → (R → ℕ)

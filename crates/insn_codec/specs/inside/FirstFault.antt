@@ -12,12 +12,15 @@ use Rattle.insn_codec.specs.inside.Form.{form_at, listed}
 
 -- ---- the second slot of a wide instruction: RFC 9669, sections 3.2 and 5.4
 
--- all fields are zero, except for a number that a load with this source field uses
+-- whether this is the second slot of a wide load with this source field: all fields are zero,
+-- except for a number in the immediate, which a load of a map (source 1) does not use
 abbrev pub is_second : ℕ → SlotFields → Bool
 is_second src next =
     next.opcode == 0 && (next.dst == 0 && next.src == 0) && next.offset == 0
     && (not (src == 1) || next.imm == 0)
 
+-- the fault of the second slot after a first one of this form and source field, at the front of the
+-- bytes after it; None if it is right, or the form has one slot
 abbrev pub second_fault : OpcodeForm → ℕ → List ℕ → Option FaultKind
 second_fault form.Wide src rest =
     if nat_lt (length rest) 8
@@ -39,11 +42,12 @@ fault_in_form f s rest =
 abbrev pub IsFaultOf : OpcodeForm → SlotFields → FaultKind → Type 0
 IsFaultOf f s kind = (rest : List ℕ) → fault_in_form f s rest ≡ Some kind
 
+-- the fault of a first slot whose opcode has this form, or none, with the bytes after it
 abbrev pub fault_by_form : Option OpcodeForm → SlotFields → List ℕ → Option FaultKind
 fault_by_form None s rest = Some Opcode
 fault_by_form (Some f) s rest = fault_in_form f s rest
 
--- the same for the form of an opcode, if it has one
+-- a first slot whose opcode has this form, or none, has the fault, whatever bytes follow it
 abbrev pub IsFaultAt : Option OpcodeForm → SlotFields → FaultKind → Type 0
 IsFaultAt o s kind = (rest : List ℕ) → fault_by_form o s rest ≡ Some kind
 

@@ -18,43 +18,48 @@ use Rattle.insn_codec.specs.declared.opcode.SourceBit.TheVariants.{Imm, Reg}
 use Rattle.insn_codec.specs.inside.OpcodeForm.{OpcodeForm}
 use Rattle.insn_codec.specs.inside.OpcodeForm as form
 
--- the forms that an opcode has: of two operators with one opcode the unsigned one is named, and a
--- double word has no sign extension
+-- whether an opcode has this form: of two operators with one opcode the form has the unsigned one,
+-- and no load of a double word extends the sign
 abbrev pub is_form : OpcodeForm → Bool
 is_form (form.Alu wide op source) = alu_offset op == 0
 is_form (form.Load size signed) = not (signed && is_double size)
 is_form _ = true
 
--- section 5
+-- the access size with this code, two bits of an opcode: section 5
 abbrev pub size_at : ℕ → AccessSize
 size_at code =
     if code == 0
     then size.Word
     else (if code == 1 then size.Half else (if code == 2 then size.Byte else size.Double))
 
--- sections 4.1 and 4.2: NEG has one opcode for each width, and a byte-order conversion one for each
--- order
+-- the form with code 8, a negation, which has only source bit 0: section 4.1
 abbrev pub neg_at : Bool → SourceBit → Option OpcodeForm
 neg_at wide Imm = Some (form.Neg wide)
 neg_at wide Reg = None
 
+-- the form with code 13, a byte-order conversion: in class ALU the source bit selects the order,
+-- and ALU64 has only source bit 0, which swaps (section 4.2)
 abbrev pub end_at : Bool → SourceBit → Option OpcodeForm
 end_at false Imm = Some (form.End Little)
 end_at false Reg = Some (form.End Big)
 end_at true Imm = Some (form.End Swap)
 end_at true Reg = None
 
+-- the form with this source bit and code in class ALU64 (wide) or ALU; None if no instruction has
+-- it
 abbrev pub alu_at : Bool → SourceBit → ℕ → Option OpcodeForm
 alu_at wide source code =
     if code == 8 then neg_at wide source else
     (if code == 13 then end_at wide source else
     option_and_then (λ op. Some (form.Alu wide op source)) (alu_by_number code))
 
--- section 4.3
+-- the conditional jump whose condition has this code, if there is one: section 4.3
 abbrev pub jump_by_condition : Bool → SourceBit → ℕ → Option OpcodeForm
 jump_by_condition wide source code =
     option_and_then (λ c. Some (form.Jump wide c source)) (condition_by_number code)
 
+-- the form with this source bit and code in class JMP (wide) or JMP32; None if no instruction has
+-- it
 abbrev pub jump_at : Bool → SourceBit → ℕ → Option OpcodeForm
 jump_at wide Reg code = jump_by_condition wide Reg code
 jump_at true Imm code =
@@ -63,26 +68,29 @@ jump_at true Imm code =
     (if code == 9 then Some form.Exit else jump_by_condition true Imm code))
 jump_at false Imm code = if code == 0 then Some form.Jal else jump_by_condition false Imm code
 
--- sections 5.1 and 5.2
+-- the load with an opcode of class LDX, if there is one: sections 5.1 and 5.2
 abbrev pub load_at : ℕ → Option OpcodeForm
 load_at opcode = option_and_then (λ l. Some (form.Load l.1 l.0)) (load_by_opcode opcode)
 
--- section 5.1
+-- the store with an opcode of class ST or STX, if there is one: its upper three bits are the mode
+-- MEM, 3, and the next two the size (section 5.1)
 abbrev pub store_at : ℕ → SourceBit → Option OpcodeForm
 store_at opcode source =
     if opcode / 32 == 3 then Some (form.Store (size_at (opcode / 8 % 4)) source) else None
 
--- sections 5.1 and 5.3
+-- the form of an opcode of class STX, if it has one: an atomic operation on four or eight bytes, or
+-- a store of a register (sections 5.1 and 5.3)
 abbrev pub register_store_at : ℕ → Option OpcodeForm
 register_store_at opcode =
     if opcode == 0xc3 then Some (form.Atomic atomic_size.Word) else
     (if opcode == 0xdb then Some (form.Atomic atomic_size.Double) else store_at opcode Reg)
 
--- section 4
+-- the source bit of an opcode of arithmetic or of a jump: section 4
 abbrev pub source_at : ℕ → SourceBit
 source_at opcode = if opcode / 8 % 2 == 0 then Imm else Reg
 
--- section 3.3: by class, the low three bits
+-- the form of an opcode, by its class, the low three bits (section 3.3); None if no instruction has
+-- this opcode
 unfoldable pub form_at : ℕ → Option OpcodeForm
 form_at opcode =
     if opcode % 8 == 0 then (if opcode == 0x18 then Some form.Wide else None) else
@@ -94,12 +102,13 @@ form_at opcode =
     (if opcode % 8 == 6 then jump_at false (source_at opcode) (opcode / 16) else
     alu_at true (source_at opcode) (opcode / 16)))))))
 
--- section 4: the unused operand field is zero
+-- whether the operand field that this source bit does not select is zero: section 4
 abbrev pub one_operand : SourceBit → SlotFields → Bool
 one_operand Imm s = s.src == 0
 one_operand Reg s = s.imm == 0
 
--- section 4.1: the offsets that an operator allows, if it is not a signed one
+-- whether the opcode of this operator, of two with one opcode the unsigned one, allows this offset
+-- (section 4.1): at 1 a division is signed; 8, 16 or 32 are bits from which a move extends the sign
 abbrev pub offset_listed : Bool → AluOp → SourceBit → ℕ → Bool
 offset_listed wide Div source offset = nat_le offset 1
 offset_listed wide Mod source offset = nat_le offset 1
@@ -107,7 +116,8 @@ offset_listed wide Mov Reg offset =
     offset == 0 || offset == 8 || offset == 16 || (wide && offset == 32)
 offset_listed wide op source offset = offset == 0
 
--- each field has a value that the form allows; an unused field is zero (section 3.1)
+-- whether each field of a first slot has a value that its form allows, so that the fault is not
+-- Reserved; a register that is used may be 0 to 15, and an unused field is zero (section 3.1)
 abbrev pub listed : OpcodeForm → SlotFields → Bool
 listed (form.Alu wide op source) s = one_operand source s && offset_listed wide op source s.offset
 listed (form.Neg wide) s = s.src == 0 && s.offset == 0 && s.imm == 0

@@ -8,9 +8,11 @@ use Rattle.words.specs.declared.stack.AccessSize.{AccessSize}
 use Rattle.insn_set.specs.declared.atomic.AtomicSize.{AtomicSize}
 use Rattle.insn_codec.specs.declared.opcode.SourceBit.{SourceBit}
 
--- an operation on two operands, with its width, operator (of two with one opcode, the unsigned one)
--- and second operand; on one; a byte-order conversion; jumps; a call; the exit; a load, with its
--- size and whether it extends the sign; a store; an atomic operation; a wide load
+-- Alu: an operation on two operands, with whether it is of 64 bits, its operator (of two with one
+-- opcode, the unsigned one), and which field has the second operand. Neg: a negation, with whether
+-- it is of 64 bits. End: a byte-order conversion. Ja, Jal: jumps of class JMP and JMP32 without a
+-- condition. Jump: a conditional one, with whether it compares 64 bits. Load: with its size, and
+-- whether it extends the sign. Store, Atomic: with their sizes. Wide: a wide load
 pub data OpcodeForm : Type 0 where
   Alu : Bool → AluOp → SourceBit → OpcodeForm
   Neg : Bool → OpcodeForm

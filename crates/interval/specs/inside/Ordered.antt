@@ -3,14 +3,18 @@ use Rattle.std.proofs.Common.{ℕ, ◌≤◌, arith}
 use Rattle.std.specs.Prelude.{min, max}
 use Rattle.interval.specs.declared.range.Range.{Range}
 
+-- the ends of `span` are in order
 pub at_most_max : (lo hi : ℕ) → lo ≤ max lo hi
 at_most_max lo hi = omega arith
 
+-- the ends of `constant` are in order
 pub at_most_itself : (v : ℕ) → v ≤ v
 at_most_itself v = omega arith
 
+-- the ends of `full` are in order
 pub at_least_zero : (v : ℕ) → 0 ≤ v
 at_least_zero v = omega arith
 
+-- the ends of `hull` are in order
 pub hull_ordered : (a b : Range) → min a.lo b.lo ≤ max a.hi b.hi
 hull_ordered a b = omega (arith, a.ordered, b.ordered)

@@ -1,4 +1,7 @@
 //! Accesses to the stack, to the context and to maps' values.
+//!
+//! A `verb` is what the instruction does with bytes: it `reads`, `writes` or `changes` them. `first` and `last`, both included, are
+//! offsets: of stack bytes from the stack's upper end, of others from the start of their object.
 
 use crate::needs::RefusedProgram;
 use crate::needs::registers::{kind_of, register_of, write_maybe_null, write_register};
@@ -18,11 +21,12 @@ enum Deed {
     /// A load that extends the sign.
     SignedLoad,
     Store,
+    /// An atomic operation, which reads bytes and writes them.
     Change,
 }
 
 impl Deed {
-    /// The verb for it.
+    /// The verb for it, whose subject is the instruction.
     fn verb(self) -> &'static str {
         match self {
             Deed::Load | Deed::SignedLoad => "reads",
@@ -35,16 +39,18 @@ impl Deed {
 /// The memory access of an instruction.
 #[derive(Clone, Copy)]
 struct Access {
-    /// The base register, and the offset of the bytes from it.
+    /// The number of the base register.
     base: u8,
+    /// The offset of the bytes from the base register.
     offset: i64,
+    /// How many bytes it accesses.
     bytes: i64,
-    /// The source register of a store or of an atomic operation, if there is one.
+    /// The number of the source register of a store or of an atomic operation, if it has one.
     given: Option<u8>,
     deed: Deed,
 }
 
-/// The access to this many bytes at an offset from a base register.
+/// The access to `size` bytes at an offset from a base register. `given` is the number of its source register.
 fn access_at(base: Reg, off: i16, size: AccessSize, given: Option<u8>, deed: Deed) -> Access {
     Access {
         base: base.number(),
@@ -107,13 +113,13 @@ pub(crate) fn touched(kind: Kind, offset: i64, bytes: i64) -> (i64, i64) {
     (first, last)
 }
 
-/// Writes which bytes are touched.
+/// Writes which bytes the instruction reads, writes or changes (`verb`), as `it reads bytes -8 to -1`.
 fn write_touched(text: &mut String, verb: &str, first: i64, last: i64) -> Result<(), AllocError> {
     write!(text, "it {verb} ")?;
     write_bytes(text, first, last)
 }
 
-/// Writes that bytes lie outside the stack.
+/// Writes which bytes the instruction reads, writes or changes (`verb`), not all of which lie in the stack.
 pub(crate) fn write_outside_stack(
     text: &mut String,
     verb: &str,
@@ -124,7 +130,7 @@ pub(crate) fn write_outside_stack(
     write!(text, " of the stack, whose bytes are -{STACK_SIZE} to -1")
 }
 
-/// The first and the last of the stack bytes in a range that may be unwritten.
+/// The first and the last of the stack bytes from `first` to `last` that may be unwritten.
 fn unwritten(facts: &Facts, first: i64, last: i64) -> (i64, i64) {
     let mut lowest = None;
     let mut highest = last;
@@ -139,7 +145,7 @@ fn unwritten(facts: &Facts, first: i64, last: i64) -> (i64, i64) {
     (lowest.unwrap_or(first), highest)
 }
 
-/// Writes the stack bytes in a range that may be unwritten, and why.
+/// Writes which of the stack bytes from `first` to `last` may be unwritten, and why.
 pub(crate) fn write_unwritten(
     text: &mut String,
     refusal: &RefusedProgram<'_>,
@@ -152,7 +158,7 @@ pub(crate) fn write_unwritten(
     write_way(text, refusal, Wanted::Stack { first, last })
 }
 
-/// The first spill that overlaps a range of stack bytes, with its lowest byte.
+/// The first spill that overlaps a range of stack bytes: the offset of its lowest byte, and the kind of its pointer.
 fn spill_among(facts: &Facts, first: i64, last: i64) -> Option<(i64, Kind)> {
     for index in 0..STACK_SLOTS {
         let lowest = 8 * index as i64 - 8 * STACK_SLOTS as i64;
@@ -166,7 +172,7 @@ fn spill_among(facts: &Facts, first: i64, last: i64) -> Option<(i64, Kind)> {
     None
 }
 
-/// Writes which bytes a spill has, and the kind of its pointer.
+/// Writes which bytes a spill has, from `lowest` on, and the kind of its pointer.
 fn write_spill(text: &mut String, lowest: i64, kind: Kind) -> Result<(), AllocError> {
     let highest = lowest.saturating_add(7);
     write!(
@@ -177,7 +183,7 @@ fn write_spill(text: &mut String, lowest: i64, kind: Kind) -> Result<(), AllocEr
     text.push_str("), which a load of these 8 bytes alone reads")
 }
 
-/// Writes which spill a range of stack bytes overlaps.
+/// Writes which stack bytes the instruction reads, writes or changes (`verb`), and the spill that they overlap.
 pub(crate) fn write_part_of_spill(
     text: &mut String,
     facts: &Facts,
@@ -193,7 +199,7 @@ pub(crate) fn write_part_of_spill(
     }
 }
 
-/// Writes that a pointer is stored with fewer than eight bytes.
+/// Writes that the pointer in a register is stored by `bytes` bytes, fewer than eight.
 fn write_part_stored(
     text: &mut String,
     facts: &Facts,
@@ -212,7 +218,7 @@ pub(crate) fn value_size_of(named: &[Named], fd: u32) -> u32 {
     }
 }
 
-/// Writes that bytes lie outside a map's value.
+/// Writes which bytes the instruction reads, writes or changes (`verb`), not all of which lie in a value of `map`.
 pub(crate) fn write_outside_value(
     text: &mut String,
     named: &[Named],
@@ -243,7 +249,7 @@ fn write_context(text: &mut String, access: Access) -> Result<(), AllocError> {
     write!(text, "where words of 4 bytes are read at 0, 4, .. {last}")
 }
 
-/// Writes what is known of the source register, which has to be a number.
+/// Writes what is known of the source register `given`, and `needed`, which says that it has to be a number.
 fn write_given(
     text: &mut String,
     facts: &Facts,
@@ -279,7 +285,8 @@ fn write_unaligned_atomic(
     }
 }
 
-/// Writes what is known of an access to the stack, against what it needs.
+/// Writes what is known of an access to the stack, from `first` to `last`, against what it needs. The reason of the last two arms is
+/// `PartOfSpill`: a store breaks that rule by the pointer that it stores, a load or an atomic operation by the spill that it reads.
 fn write_stack_need(
     text: &mut String,
     refusal: &RefusedProgram<'_>,

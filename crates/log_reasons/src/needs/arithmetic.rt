@@ -8,7 +8,7 @@ use std::alloc::AllocError;
 use std::fmt::Write;
 use tagged_model::FARTHEST_OFFSET;
 
-/// Writes the operands; a move reads only the second one.
+/// Writes what is known of the operands; a move reads only the second one.
 fn write_operands(
     text: &mut String,
     refusal: &RefusedProgram<'_>,
@@ -26,7 +26,7 @@ fn write_operands(
     }
 }
 
-/// The register among the operands that may be null.
+/// The register of the operand that may be null: the first if its kind is such, else the second.
 fn maybe_null(refusal: &RefusedProgram<'_>, dst: Reg, src: Operand) -> u8 {
     match (kind_of(refusal.facts, dst.number()), src) {
         (Kind::MaybeValue { .. }, _) => dst.number(),
@@ -35,7 +35,7 @@ fn maybe_null(refusal: &RefusedProgram<'_>, dst: Reg, src: Operand) -> u8 {
     }
 }
 
-/// The rule for arithmetic on a pointer.
+/// The rule for this operator on a pointer, as the rest of a sentence.
 fn rule(wide: bool, op: AluOp) -> &'static str {
     match op {
         AluOp::Add if wide => {
@@ -74,7 +74,7 @@ pub(crate) fn write_need(
     }
 }
 
-/// Writes what is known of the one operand, which has to be a number.
+/// Writes what is known of an operator's only operand, a register, which has to be a number.
 pub(crate) fn write_number_needed(
     text: &mut String,
     refusal: &RefusedProgram<'_>,

@@ -14,17 +14,20 @@ use tagged_model::{Helper, Named, known_helper, shape_of};
 use transfer::LENGTHS_END;
 use words::STACK_SIZE;
 
-/// What an argument is for.
+/// What an argument is.
 #[derive(Clone, Copy, PartialEq, Eq)]
 enum Role {
     Map,
     Context,
+    /// Any number.
     Number,
+    /// A number of bytes, above 0 and below `LENGTHS_END`.
     Length,
-    /// Bytes that are read: a key, or a value.
+    /// A pointer to the bytes of a key, which are read.
     Key,
+    /// A pointer to the bytes of a value, which are read.
     Value,
-    /// Bytes that are written; the length argument says how many.
+    /// A pointer to bytes that are written; the length argument says how many.
     Room,
 }
 
@@ -35,41 +38,49 @@ struct Argument {
     role: Role,
 }
 
+/// The map of a look-up, an update or a delete.
 const MAP: Argument = Argument {
     register: 1,
     role: Role::Map,
 };
 
+/// The key of a look-up, an update or a delete.
 const KEY: Argument = Argument {
     register: 2,
     role: Role::Key,
 };
 
+/// The new value of an update.
 const VALUE: Argument = Argument {
     register: 3,
     role: Role::Value,
 };
 
+/// The flags of an update.
 const FLAGS: Argument = Argument {
     register: 4,
     role: Role::Number,
 };
 
+/// The context, whose packet `LoadBytes` reads.
 const CONTEXT: Argument = Argument {
     register: 1,
     role: Role::Context,
 };
 
+/// The offset in the packet from which `LoadBytes` reads.
 const OFFSET: Argument = Argument {
     register: 2,
     role: Role::Number,
 };
 
+/// The bytes to which `LoadBytes` writes.
 const ROOM: Argument = Argument {
     register: 3,
     role: Role::Room,
 };
 
+/// How many bytes `LoadBytes` reads and writes.
 const LENGTH: Argument = Argument {
     register: 4,
     role: Role::Length,
@@ -94,7 +105,8 @@ pub(crate) fn has_argument(id: i32, register: u8) -> bool {
     }
 }
 
-/// How many bytes an argument points to: the size of a key or a value of the map in register 1, or the length in register 4.
+/// How many bytes an argument points to: the size of a key or a value of the map in register 1, or the greatest length that register 4
+/// may have; 0 if it points to none, or no map or length is known.
 fn count_of(named: &[Named], facts: &Facts, role: Role) -> u32 {
     let (map, length) = (kind_of(facts, 1), kind_of(facts, 4));
     match (role, map, length) {
@@ -105,7 +117,7 @@ fn count_of(named: &[Named], facts: &Facts, role: Role) -> u32 {
     }
 }
 
-/// Whether some of the bytes lie outside the stack.
+/// Whether some of the bytes from `first` to `last`, by their offsets from the stack's upper end, lie outside the stack.
 fn is_outside_stack(first: i64, last: i64) -> bool {
     first < -(STACK_SIZE as i64) || last > -1
 }
@@ -160,7 +172,7 @@ fn refused_argument(refusal: &RefusedProgram<'_>, helper: Helper) -> Option<Argu
     None
 }
 
-/// What an argument has to be.
+/// What an argument has to be, as the rest of a sentence.
 fn needed(role: Role) -> &'static str {
     match role {
         Role::Map => ", and a map is needed",
@@ -172,7 +184,7 @@ fn needed(role: Role) -> &'static str {
     }
 }
 
-/// Writes what is known of the length, against what is needed.
+/// Writes what is known of the length argument, register 4, against what is needed.
 fn write_length(text: &mut String, kind: Kind) -> Result<(), AllocError> {
     let Kind::Scalar(range) = kind else {
         return Ok(());

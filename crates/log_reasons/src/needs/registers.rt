@@ -10,7 +10,7 @@ use std::alloc::AllocError;
 use std::fmt::Write;
 use words::REGISTERS;
 
-/// The kind of a register, by its number.
+/// The kind of a register, by its number; unreadable if there is no such register.
 pub(crate) fn kind_of(facts: &Facts, register: u8) -> Kind {
     let number = usize::from(register);
     if number < REGISTERS {
@@ -20,7 +20,7 @@ pub(crate) fn kind_of(facts: &Facts, register: u8) -> Kind {
     }
 }
 
-/// Writes a register, and what is known of it.
+/// Writes a register and its kind, as `r1 is context`.
 pub(crate) fn write_register(
     text: &mut String,
     facts: &Facts,
@@ -35,7 +35,7 @@ pub(crate) fn write_maybe_null(text: &mut String, register: u8) -> Result<(), Al
     write!(text, "r{register} may be null: test it first")
 }
 
-/// The register of an operand, if it is one.
+/// The number of an operand's register, if it is one.
 pub(crate) fn register_of(src: Operand) -> Option<u8> {
     match src {
         Operand::Reg(reg) => Some(reg.number()),
@@ -43,7 +43,7 @@ pub(crate) fn register_of(src: Operand) -> Option<u8> {
     }
 }
 
-/// The first register if it is unreadable, else the second.
+/// The first register if it is unreadable, else the second: one of the two is.
 fn unreadable_of(facts: &Facts, first: Option<u8>, second: Option<u8>) -> Option<u8> {
     match first {
         Some(register) if kind_of(facts, register) == Kind::Unreadable => first,
@@ -61,7 +61,7 @@ fn unreadable_argument(facts: &Facts, id: i32) -> Option<u8> {
     None
 }
 
-/// The unreadable register that an instruction reads.
+/// The unreadable register that the rejected instruction reads.
 fn unreadable_in(facts: &Facts, insn: &Insn) -> Option<u8> {
     let row = insn.profile();
     match row.reference {
@@ -74,7 +74,7 @@ fn unreadable_in(facts: &Facts, insn: &Insn) -> Option<u8> {
     }
 }
 
-/// Writes which unreadable register is read, and why nothing is known of it.
+/// Writes which unreadable register the instruction reads, and why nothing is known of it.
 pub(crate) fn write_unreadable(
     text: &mut String,
     refusal: &RefusedProgram<'_>,
@@ -89,7 +89,7 @@ pub(crate) fn write_unreadable(
     }
 }
 
-/// Writes what is known of register 0 at the exit.
+/// Writes what is known of register 0 at the exit, which has to be a number.
 pub(crate) fn write_result(
     text: &mut String,
     refusal: &RefusedProgram<'_>,
@@ -98,7 +98,7 @@ pub(crate) fn write_result(
     text.push_str(", and a number is needed")
 }
 
-/// Writes what is known of the operands of a comparison.
+/// Writes what is known of the operands of a comparison, against what it needs.
 pub(crate) fn write_comparison(
     text: &mut String,
     refusal: &RefusedProgram<'_>,

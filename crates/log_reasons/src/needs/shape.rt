@@ -45,12 +45,12 @@ fn write_backward(
     write!(text, "it leads to slot {target}, and jumps go forward only")
 }
 
-/// The descriptor of the map that an instruction names.
+/// The descriptor of the map that an instruction names; 0 if it names none.
 fn fd_of(insn: &Insn) -> u32 {
     insn.profile().reference.descriptor().unwrap_or(0)
 }
 
-/// Writes what a descriptor names instead of a map.
+/// Writes what the instruction's descriptor names instead of a map: nothing, or a program.
 fn write_no_map(text: &mut String, insn: &Insn, what: &str) -> Result<(), AllocError> {
     let fd = fd_of(insn);
     write!(text, "descriptor {fd} names {what}, and a map is needed")
@@ -65,7 +65,7 @@ fn write_falls_off(text: &mut String, refusal: &RefusedProgram<'_>) -> Result<()
     )
 }
 
-/// Writes which helper there is not.
+/// Writes which number of a call is that of no helper, and the numbers of the helpers.
 fn write_unknown_helper(text: &mut String, insn: &Insn) -> Result<(), AllocError> {
     match insn.profile().reference {
         Reference::Helper(id) => {
@@ -104,7 +104,7 @@ fn write_no_value(text: &mut String, named: &[Named], insn: &Insn) -> Result<(),
     }
 }
 
-/// Writes what is wrong with an instruction, whatever the registers hold.
+/// Writes what is wrong with an instruction, whatever the registers hold. The reason of the last arm is `NoDirectValue`.
 pub(crate) fn write_need(
     text: &mut String,
     refusal: &RefusedProgram<'_>,

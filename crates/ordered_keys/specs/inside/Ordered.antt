@@ -4,17 +4,17 @@ use Rattle.indexmap.specs.IndexMap.{IndexMap, index_map_len, spare}
 use Rattle.ordered_keys.specs.Orders.{Order, occurrences, first_element, following}
 use Rattle.ordered_keys.specs.inside.Links.{AreWithin}
 
--- the element that follows one, if one is given, or the first
+-- the element of a list that follows the given one, or the first if none is given
 abbrev pub next_of_elements : Option ℕ → List ℕ → Option ℕ
 next_of_elements None ps = first_element ps
 next_of_elements (Some p) ps = following p ps
 
 module _ {K : Type 0} where
-  -- the entry of an element
+  -- the entry of element p: that at its index, which `indices` has, of the entries of the table
   abbrev pub entry_of : List (K × ℕ) → List ℕ → ℕ → Option (K × ℕ)
   entry_of es indices p = slice_get es (slice_index_or indices p 0)
 
-  -- whether it is the entry at that element
+  -- whether an entry is present, and has element p
   abbrev pub is_entry_of : ℕ → Option (K × ℕ) → Bool
   is_entry_of p None = false
   is_entry_of p (Some e) = nat_eq e.1 p
@@ -47,7 +47,7 @@ module _ {K : Type 0} where
         → slice_get es i ≡ Some e
         → (occurrences e.1 order.elements ≡ 1) × (slice_index_or indices e.1 0 ≡ i)
 
--- entries of equal keys have the same index
+-- no two entries have equal keys: entries of equal keys have the same index
 abbrev pub AreApart : {K : Type 0} → (K → K → Bool) → List (K × ℕ) → Type 0
 AreApart {K} eq es =
     (i j : ℕ) (a b : K × ℕ)
@@ -61,7 +61,7 @@ abbrev pub HasRoom : {K S : Type 0} → ℕ → IndexMap K ℕ S → Type 0
 HasRoom bound table = bound ≤ index_map_len table + spare table
 
 -- the table has room for the entries of all elements, and the rows, of which there are none, for
--- half of them
+-- half of them; `rows` is the number of the rows, and `capacity` that for which they have room
 pub record IsWhole {K S : Type 0} (table : IndexMap K ℕ S) (indices : List ℕ) (order : Order)
     (rows capacity : ℕ) : Type 0 where
   pub indexed : IsIndexed table.entries indices order

@@ -9,5 +9,6 @@ use Rattle.reg_kinds.specs.declared.kind.ValuePointer.{ValuePointer}
 pub at_most_max : (lo hi : ℤ) → lo ≤ℤ int_max lo hi
 at_most_max lo hi = omega (arith, ints, clamps)
 
+-- the range of offsets that includes those of p and q has its ends in order
 pub offsets_ordered : (p q : ValuePointer) → int_min p.lo q.lo ≤ℤ int_max p.hi q.hi
 offsets_ordered p q = omega (arith, ints, clamps, p.ordered, q.ordered)

@@ -11,7 +11,7 @@ use Rattle.saving.specs.Births.{Birth, births_after}
 use Rattle.tenant.specs.Machine.{Answer, Answers}
 use Rattle.tenant.specs.Replies.{Writes}
 
--- the number of bytes after the numbers of a command
+-- the number of bytes after the numbers of a command: of its key, value, slots or packet
 abbrev pub tail_length : Command → ℕ
 tail_length (map_create kind key value max flags) = 0
 tail_length (map_lookup fd key) = length key
@@ -34,7 +34,7 @@ pub record AnswersCommand (command : Command) (head : Head) (reply : List ℕ)
   pub recorded : later ≡ births_after command answer births
   pub no_fault : reply ≢ reply_bytes head.tenant head.command (status_of BadAddress) []
 
--- only one part of the memory changes
+-- only the part of this tenant changes in the memory
 pub record ChangesPart (tenant : ℕ) (old new : Memory) : Type 0 where
   pub parts : new.parts ≡ old.parts
   pub part : new.part ≡ old.part

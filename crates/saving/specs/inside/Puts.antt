@@ -1,5 +1,5 @@
--- The commands that close a descriptor and put the keys of a map, and the ones that are left. This
--- project's own.
+-- The commands that close a descriptor or put the keys of a map, and the entries of a map after a
+-- given one. This project's own.
 use Rattle.std.specs.Prelude.{ℕ, nat_eq, is_none, if◌then◌else◌, List, [], ◌∷◌, map, Option, Some, None}
 use Rattle.command_frames.specs.Command.{Command, close}
 use Rattle.tenant.specs.declared.object.OpenObject.{OpenObject}
@@ -10,15 +10,16 @@ use Rattle.saving.specs.Restored.{put_of}
 abbrev pub closing : ℕ → Option OpenObject → List Command
 closing fd o = if is_none o then close fd ∷ [] else []
 
+-- the commands that put the keys and the values of these entries at descriptor fd
 abbrev pub puts : ℕ → List NumberedEntry → List Command
 puts fd es = map (λ (e : NumberedEntry). put_of fd e.0) es
 
--- the entries after the one at element p
+-- the entries after the one of element p; none if there is none
 abbrev pub rest_behind : {K : Type 0} → ℕ → List (K × ℕ) → List (K × ℕ)
 rest_behind p [] = []
 rest_behind p (e ∷ es) = if nat_eq p e.1 then es else rest_behind p es
 
--- all entries if there is no element, else those after it
+-- all entries if no element is given, else those after the one of this element
 abbrev pub rest_after : {K : Type 0} → Option ℕ → List (K × ℕ) → List (K × ℕ)
 rest_after None es = es
 rest_after (Some p) es = rest_behind p es

@@ -7,7 +7,7 @@ use Rattle.tenant.specs.Kept.{times_listed, AreHeld, map_at}
 use Rattle.tenant.specs.Loaded.{LoadedProgram}
 use Rattle.tenant.specs.State.{TenantState}
 
--- the state with one more open program
+-- the state with this program opened at the descriptor fd
 abbrev pub with_program : TenantState → ℕ → LoadedProgram → TenantState
 with_program s fd l = record s { objects = with_open s.objects fd (object.Program l) }
 

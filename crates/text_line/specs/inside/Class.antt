@@ -6,13 +6,14 @@ use Rattle.text_line.specs.declared.token.ByteClass.TheVariants.{Blank, Name, Di
 use Rattle.text_line.specs.Blanks.{is_blank}
 use Rattle.text_line.specs.Token.{is_name_byte, is_hex_digit}
 
+-- a byte is of this class; `Name` has the bytes of a name after its first
 abbrev pub in_class : ByteClass → ℕ → Bool
 in_class Blank b = is_blank b
 in_class Name b = is_name_byte b
 in_class Digit b = is_ascii_digit b
 in_class HexDigit b = is_hex_digit b
 
--- the class of the digits of a radix
+-- the class is that of the digits of this radix, 10 or 16
 abbrev pub IsDigits : ByteClass → ℕ → Type 0
 IsDigits Digit radix = radix ≡ 10
 IsDigits HexDigit radix = radix ≡ 16

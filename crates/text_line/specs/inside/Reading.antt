@@ -1,4 +1,5 @@
--- How the tokens of a line are read, from the left. This project's own.
+-- How the tokens of a line are read, from the left: `None` if they do not have the form. This
+-- project's own.
 use Rattle.std.specs.Prelude.{ℕ, ◌==◌, Bool, true, false, ◌||◌, ◌&&◌, List, [], ◌∷◌, codes, Option, Some, None, option_and_then, option_map, not, if◌then◌else◌}
 use Rattle.std.specs.Str.{bytes_eq}
 use Rattle.words.specs.declared.operator.AluOp.{AluOp}
@@ -33,6 +34,7 @@ use Rattle.text_line.specs.declared.token.Token.{Token as CodeToken}
 use Rattle.text_line.specs.inside.Shown.{shown_tokens}
 use Rattle.text_line.specs.Token.{Token, name, number, symbol}
 
+-- f of the value, and nothing without one
 infixl 10 ◌>>=◌
 abbrev pub ◌>>=◌ : {A B : Type 0} → Option A → (A → Option B) → Option B
 o >>= f = option_and_then f o
@@ -46,21 +48,25 @@ abbrev pub bool_eq : Bool → Bool → Bool
 bool_eq true b = b
 bool_eq false b = not b
 
--- results of the code, with the tokens and names that they represent
+-- the tokens that a result of the code represents
 abbrev pub seen : Option (Bor (List CodeToken)) → Option (List Token)
 seen o = option_map (λ rest. shown_tokens rest.now) o
 
+-- a part of a line that the code has read, and the tokens after it
 abbrev pub seen_pair : {A : Type 0} → Option (A × Bor (List CodeToken)) → Option (A × List Token)
 seen_pair o = option_map (λ p. (p.0, shown_tokens p.1.now)) o
 
+-- the bytes of a name or a symbol that the code has read, and the tokens after it
 abbrev pub seen_label : Option (Bor (List ℕ) × Bor (List CodeToken)) → Option (List ℕ × List Token)
 seen_label o = option_map (λ p. (p.0.now, shown_tokens p.1.now)) o
 
+-- what the code has read, and the name of the label that it names
 abbrev pub seen_destination : {A : Type 0} → Option (A × Bor (List ℕ)) → Option (A × List ℕ)
 seen_destination o = option_map (λ p. (p.0, p.1.now)) o
 
 -- ---- the names
 
+-- each name of a register: whether it is of 64 bits, else of the low 32, and the register
 abbrev pub registers : List (List ℕ × (Bool × ℕ))
 registers =
     (codes "r0", (true, 0)) ∷ (codes "r1", (true, 1)) ∷ (codes "r2", (true, 2))
@@ -74,73 +80,86 @@ registers =
 
 -- ---- one token
 
+-- the first token, if it is a symbol, and the tokens after it
 abbrev pub leading_symbol : List Token → Option (List ℕ × List Token)
 leading_symbol [] = None
 leading_symbol (name n ∷ ts) = None
 leading_symbol (number v ∷ ts) = None
 leading_symbol (symbol t ∷ ts) = Some (t, ts)
 
+-- the first token, if it is a name, and the tokens after it
 abbrev pub leading_name : List Token → Option (List ℕ × List Token)
 leading_name [] = None
 leading_name (name n ∷ ts) = Some (n, ts)
 leading_name (number v ∷ ts) = None
 leading_name (symbol t ∷ ts) = None
 
+-- the value of the first token, if it is a number (`None` from 2 ^ 64 on), and the tokens after it
 abbrev pub leading_number : List Token → Option (Option ℕ × List Token)
 leading_number [] = None
 leading_number (name n ∷ ts) = None
 leading_number (number v ∷ ts) = Some (v, ts)
 leading_number (symbol t ∷ ts) = None
 
--- the tokens after this symbol, and after this name
+-- the tokens after this symbol, if it is the first
 unfoldable pub after_symbol : List ℕ → List Token → Option (List Token)
 after_symbol expected ts =
     leading_symbol ts >>= λ s. if bytes_eq s.0 expected then Some s.1 else None
 
+-- the tokens after this name, if it is the first
 unfoldable pub after_word : List ℕ → List Token → Option (List Token)
 after_word expected ts = leading_name ts >>= λ n. if bytes_eq n.0 expected then Some n.1 else None
 
 -- ---- parts of a line, and the tokens after them
 
+-- a register: r (64 bits) if wide, else w (the low 32)
 unfoldable pub leading_register : Bool → List Token → Option (ℕ × List Token)
 leading_register wide ts = do
   n ← leading_name ts
   r ← named registers n.0
   if bool_eq r.0 wide then Some (r.1, n.1) else None
 
+-- a number that was read without its sign, with a minus if `negative`
 abbrev pub number_from : Bool → Option (Option ℕ × List Token) → Option (Number × List Token)
 number_from negative o = option_map (λ v. (record { negative = negative; magnitude = v.0 }, v.1)) o
 
+-- a number, after a minus or without a sign
 unfoldable pub leading_constant : List Token → Option (Number × List Token)
 leading_constant ts =
     match_option (after_symbol (codes "-") ts) (number_from false (leading_number ts))
     (λ rest. number_from true (leading_number rest))
 
+-- a number after its sign, + or -
 unfoldable pub leading_signed_number : List Token → Option (Number × List Token)
 leading_signed_number ts =
     match_option (after_symbol (codes "+") ts)
     (after_symbol (codes "-") ts >>= λ rest. number_from true (leading_number rest))
     (λ rest. number_from false (leading_number rest))
 
+-- a register, r if wide, else w, or a constant
 unfoldable pub leading_operand : Bool → List Token → Option (SourceOperand × List Token)
 leading_operand wide ts =
     match_option (leading_register wide ts)
     (option_map (λ n. (source.Number n.0, n.1)) (leading_constant ts))
     (λ r. Some (source.Reg r.0, r.1))
 
+-- no token is left
 abbrev pub is_ended : List Token → Bool
 is_ended [] = true
 is_ended (t ∷ ts) = false
 
+-- what was read, if no token is left
 abbrev pub at_end : {A : Type 0} → A → List Token → Option A
 at_end x ts = if is_ended ts then Some x else None
 
+-- the target of a jump and the name of its label, empty if it is a number; and nothing more
 unfoldable pub parsed_destination : List Token → Option (JumpTarget × List ℕ)
 parsed_destination ts =
     match_option (leading_signed_number ts)
     (leading_name ts >>= λ n. at_end (target.Label, n.0) n.1)
     (λ n. at_end (target.Number n.0, []) n.1)
 
+-- a memory operand, as *(u32 *)(r6 + 0): whether its size is signed, the size, and the address
 unfoldable pub leading_address : List Token → Option (((Bool × AccessSize) × Address) × List Token)
 leading_address ts = do
   ts ← after_symbol (codes "*") ts
@@ -155,7 +174,7 @@ leading_address ts = do
   ts ← after_symbol (codes ")") o.1
   Some ((s, record { base = r.0; offset = o.0 }), ts)
 
--- after `map_value`
+-- an address in a map's value, from the tokens after `map_value`: a descriptor, + and an offset
 abbrev pub leading_map_value : List Token → Option (WideValue × List Token)
 leading_map_value ts = do
   n ← leading_constant ts
@@ -163,6 +182,7 @@ leading_map_value ts = do
   off ← leading_number ts
   Some (value.MapValue n.0 off.0, off.1)
 
+-- the value of a wide load, without its `ll`
 unfoldable pub leading_wide_value : List Token → Option (WideValue × List Token)
 leading_wide_value ts =
     match_option (after_word (codes "map_fd") ts)
@@ -179,12 +199,12 @@ atomic_size_of _ _ = None
 
 -- ---- operations
 
--- one operand, and nothing more
+-- an operator of two operands or a move, from the tokens after its symbol: its source
 unfoldable pub parsed_binary : Bool → AluOp → List Token → Option Operation
 parsed_binary wide op ts =
     leading_operand wide ts >>= λ src. at_end (operation.Binary op src.0) src.1
 
--- after `(`
+-- a move with sign extension, from the tokens after `(`; to a w register not from 32 bits
 unfoldable pub parsed_sign_extension : Bool → List Token → Option Operation
 parsed_sign_extension wide ts = do
   n ← leading_name ts
@@ -193,18 +213,19 @@ parsed_sign_extension wide ts = do
   src ← leading_register wide ts
   if wide || is_short from then at_end (operation.SignExtend from src.0) src.1 else None
 
--- the destination again, and nothing more
+-- an operation that names its destination on both sides of `=`: the destination again
 unfoldable pub parsed_in_place : Bool → ℕ → Operation → List Token → Option Operation
 parsed_in_place wide dst o ts =
     leading_register wide ts >>= λ r. if r.0 == dst then at_end o r.1 else None
 
+-- a byte-order conversion, from the tokens after `=`, of an r register
 abbrev pub parsed_end : ℕ → List Token → Option Operation
 parsed_end dst ts = do
   n ← leading_name ts
   o ← order_by_name n.0
   parsed_in_place true dst (operation.End o.0 o.1) n.1
 
--- after `=`
+-- an operation of one operand, from the tokens after `=`
 unfoldable pub parsed_unary : Bool → ℕ → List Token → Option Operation
 parsed_unary wide dst ts =
     match_option (after_symbol (codes "(") ts)
@@ -212,11 +233,12 @@ parsed_unary wide dst ts =
     (λ rest. parsed_in_place wide dst operation.Neg rest))
     (λ rest. parsed_sign_extension wide rest)
 
+-- the operator is a move, whose symbol is `=`
 abbrev pub is_move : AluOp → Bool
 is_move Mov = true
 is_move _ = false
 
--- after the operator
+-- an operation on dst, from the tokens after the symbol of its operator
 unfoldable pub parsed_operation : Bool → AluOp → ℕ → List Token → Option Operation
 parsed_operation wide op dst ts =
     match_option (parsed_binary wide op ts) (if is_move op then parsed_unary wide dst ts else None)
@@ -224,11 +246,13 @@ parsed_operation wide op dst ts =
 
 -- ---- forms
 
+-- a load into dst, from the tokens after `=`
 unfoldable pub parsed_load : ℕ → List Token → Option Form
 parsed_load dst ts = do
   (((signed, size), at), ts) ← leading_address ts
   at_end (form.Access (access.Load size signed dst) at) ts
 
+-- a store, whose size is not signed
 unfoldable pub parsed_store : List Token → Option Form
 parsed_store ts = do
   (((signed, size), at), ts) ← leading_address ts
@@ -236,7 +260,7 @@ parsed_store ts = do
   (src, ts) ← leading_operand true ts
   if signed then None else at_end (form.Access (access.Store size src) at) ts
 
--- after `lock`
+-- an atomic operation, from the tokens after `lock`
 unfoldable pub parsed_atomic : List Token → Option Form
 parsed_atomic ts = do
   (((signed, size), at), ts) ← leading_address ts
@@ -246,15 +270,18 @@ parsed_atomic ts = do
   (src, ts) ← leading_register true ts
   at_end (form.Access (access.Atomic size op src) at) ts
 
+-- a load of a 64-bit value into dst, from the tokens after `=`
 unfoldable pub parsed_wide_load : ℕ → List Token → Option Form
 parsed_wide_load dst ts = do
   v ← leading_wide_value ts
   ts ← after_word (codes "ll") v.1
   at_end (form.WideLoad dst v.0) ts
 
+-- a wide load or a load into dst, from the tokens after `=`
 abbrev pub parsed_loaded : ℕ → List Token → Option Form
 parsed_loaded dst ts = match_option (parsed_wide_load dst ts) (parsed_load dst ts) (λ f. Some f)
 
+-- a line that begins with its destination: an operation on it, or a load into an r register
 unfoldable pub parsed_assigned : List Token → Option Form
 parsed_assigned ts = do
   n ← leading_name ts
@@ -265,10 +292,11 @@ parsed_assigned ts = do
       (if r.0 && is_move op then parsed_loaded r.1 s.1 else None)
       (λ o. Some (form.Operation r.0 r.1 o))
 
+-- a jump, from the tokens after its first word, and the name of its label
 abbrev pub parsed_jump : Bool → List Token → Option (Form × List ℕ)
 parsed_jump long ts = option_map (λ to. (form.Jump long to.0, to.1)) (parsed_destination ts)
 
--- after `if`
+-- a conditional jump, from the tokens after `if`, and the name of its label
 unfoldable pub parsed_branch : List Token → Option (Form × List ℕ)
 parsed_branch ts = do
   n ← leading_name ts
@@ -280,13 +308,15 @@ parsed_branch ts = do
   to ← parsed_destination ts
   Some (form.Branch r.0 c r.1 src.0 to.0, to.1)
 
+-- a call, from the tokens after `call`
 abbrev pub parsed_call : List Token → Option Form
 parsed_call ts = leading_constant ts >>= λ n. at_end (form.Call n.0) n.1
 
+-- a form that names no label
 abbrev pub without_label : Option Form → Option (Form × List ℕ)
 without_label o = option_map (λ f. (f, [])) o
 
--- by the first word
+-- an instruction, by its first word, and the name of its label, empty if it names none
 unfoldable pub parsed_form : List Token → Option (Form × List ℕ)
 parsed_form ts =
     match_option (after_word (codes "if") ts)
@@ -303,12 +333,14 @@ parsed_form ts =
     (λ rest. parsed_jump false rest))
     (λ rest. parsed_branch rest)
 
+-- the name of the label that the line defines
 unfoldable pub parsed_label : List Token → Option (List ℕ)
 parsed_label ts = do
   n ← leading_name ts
   rest ← after_symbol (codes ":") n.1
   at_end n.0 rest
 
+-- the line of the tokens; `None` if they have none of the forms
 unfoldable pub line_of : List Token → Option Line
 line_of ts =
     if is_ended ts then Some blank

@@ -5,14 +5,16 @@ use Rattle.text_line.specs.declared.token.Token.{Token as CodeToken}
 use Rattle.text_line.specs.declared.token.Token.TheVariants as code
 use Rattle.text_line.specs.Token.{Token, name, number, symbol}
 
+-- the token that one of the code represents
 abbrev pub shown : CodeToken → Token
 shown (code.Name n) = name n.now
 shown (code.Number v) = number v
 shown (code.Symbol s) = symbol s.now
 
+-- the tokens that those of the code represent
 abbrev pub shown_tokens : List CodeToken → List Token
 shown_tokens ts = map shown ts
 
--- a token and the text after it
+-- the token that one of the code represents, and the text after it
 abbrev pub shown_front : Option (CodeToken × Bor (List ℕ)) → Option (Token × List ℕ)
 shown_front r = option_map (λ p. (shown p.0, p.1.now)) r

@@ -10,7 +10,7 @@ use Rattle.text_line.specs.Token.{Token, name, number, symbol, symbols, is_name_
 unfoldable pub symbol_at : List ℕ → Option (List ℕ)
 symbol_at text = find (λ s. starts_with nat_eq text s) symbols
 
--- `0x` and a hexadecimal digit
+-- the text begins with `0x` and a hexadecimal digit
 abbrev pub is_hexadecimal : List ℕ → Bool
 is_hexadecimal text =
     slice_index text 0 == 48 && slice_index text 1 == 120 && is_hex_digit (slice_index text 2)
@@ -19,13 +19,14 @@ is_hexadecimal text =
 abbrev pub run : (ℕ → Bool) → List ℕ → List ℕ
 run test text = take (prefix_len test text) text
 
--- a token and the bytes after it
+-- the name at the front, and the bytes after it; `None` if there is none
 unfoldable pub name_at : List ℕ → Option (Token × List ℕ)
 name_at text =
     if is_name_start (slice_index text 0)
     then Some (name (run is_name_byte text), drop (prefix_len is_name_byte text) text)
     else None
 
+-- the number at the front, hexadecimal or decimal, and the bytes after it
 unfoldable pub number_at : List ℕ → Option (Token × List ℕ)
 number_at text =
     if is_hexadecimal text then
@@ -42,11 +43,13 @@ number_at text =
     )
     else None)
 
+-- x if it is a value, else y
 abbrev pub or_else : {A : Type 0} → Option A → Option A → Option A
 or_else (Some x) y = Some x
 or_else None y = y
 
--- a symbol that begins with a letter is longer than the name that it begins
+-- the token at the front, and the bytes after it: a symbol first, since one that begins with a
+-- letter is longer than the name that it begins
 unfoldable pub token_at : List ℕ → Option (Token × List ℕ)
 token_at text =
     or_else (option_map (λ s. (symbol s, drop (length s) text)) (symbol_at text))

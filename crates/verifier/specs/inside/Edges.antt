@@ -10,19 +10,23 @@ use Rattle.transfer.specs.Effects.{effect}
 use Rattle.verifier.specs.declared.fault.VerifyFault.{VerifyFault}
 use Rattle.verifier.specs.Verdict.{reason_of}
 
--- the facts on an edge out of an instruction; None if it may not be run
+-- the facts on the falling edge out of an instruction; None if it may not be run or has no such
+-- edge
 abbrev pub falling_of : Result Edges Reason → Option Facts
 falling_of (Err reason) = None
 falling_of (Ok edges) = edges.falling
 
+-- the facts on the jumping edge out of an instruction; None if it may not be run or has no such
+-- edge
 abbrev pub jumping_of : Result Edges Reason → Option Facts
 jumping_of (Err reason) = None
 jumping_of (Ok edges) = edges.jumping
 
--- the same from the facts before the instruction at slot n, if there are any
+-- the facts on the falling edge out of the instruction at slot n, from those before it, if any
 abbrev pub falling_from : Shapes → ℕ → Insn → Option Facts → Option Facts
 falling_from shapes n insn known = and_then known (λ f. falling_of (effect shapes n insn f))
 
+-- the facts on the jumping edge out of the instruction at slot n, from those before it, if any
 abbrev pub jumping_from : Shapes → ℕ → Insn → Option Facts → Option Facts
 jumping_from shapes n insn known = and_then known (λ f. jumping_of (effect shapes n insn f))
 
@@ -34,7 +38,8 @@ reason_from shapes n insn known = and_then known (λ f. reason_of (effect shapes
 abbrev pub MayRun : Shapes → ℕ → Insn → Option Facts → Type 0
 MayRun shapes n insn known = reason_from shapes n insn known ≡ None
 
--- it may not be run: the fault has its slot and the first condition that fails
+-- the instruction at slot n may not be run: the fault has its slot and the first condition that
+-- fails
 abbrev pub IsFaultFrom : Shapes → ℕ → Insn → Option Facts → VerifyFault → Type 0
 IsFaultFrom shapes n insn known fault =
     (fault.slot ≡ n) × (reason_from shapes n insn known ≡ Some fault.reason)

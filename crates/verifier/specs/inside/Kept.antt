@@ -5,11 +5,12 @@ use Rattle.verifier.specs.Maps.{maps_of}
 use Rattle.verifier.specs.declared.verified.Verified.TheInside.{Inside}
 use Rattle.verifier.specs.Verified.{Accepted, IsVerified}
 
+-- a `Verified` as contracts see it
 abbrev pub as_accepted : Inside → Accepted
 as_accepted v = record { code = v.program; entries = v.found.entries.items }
 
--- it was accepted, the list of its maps is that of the maps that it loads, and its cost is the
--- program's
+-- the invariant of a `Verified`: its program was accepted, the list of its maps is that of the maps
+-- that it loads, and its cost is the program's
 abbrev pub IsWholeProgram : Inside → Type 0
 IsWholeProgram v =
     IsVerified (as_accepted v)

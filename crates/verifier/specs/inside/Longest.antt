@@ -14,12 +14,15 @@ use Rattle.verifier.specs.Shape.{is_slot, leads_into, is_reachable}
 
 -- ---- what an instruction adds to the measure of a path
 
+-- for the number of instructions, each adds one
 abbrev pub one : Insn → ℕ
 one i = 1
 
+-- for the number of calls, each call of a helper adds one
 abbrev pub one_if_call : Insn → ℕ
 one_if_call i = if is_call i then 1 else 0
 
+-- what all instructions of a path add
 unfoldable pub total : (Insn → ℕ) → List Insn → ℕ
 total weight [] = 0
 total weight (i ∷ is) = weight i + total weight is
@@ -41,6 +44,8 @@ most_from weight code i (suc n) =
 
 -- ---- the most on a path
 
+-- the most on a path that ends with this instruction, from the most on the way to it; 0 if it is no
+-- exit
 abbrev pub at_exit : (Insn → ℕ) → Option Insn → ℕ → ℕ
 at_exit weight None before = 0
 at_exit weight (Some insn) before = if is_exit insn then before + weight insn else 0
@@ -54,6 +59,7 @@ most_ended weight code (suc n) =
 
 -- ---- the counts during the pass
 
+-- no instruction and no call
 abbrev pub no_counts : Counts
 no_counts = record { instructions = 0; calls = 0 }
 
@@ -62,7 +68,8 @@ abbrev pub arriving : (Counts → ℕ) → ℕ → Counts → List Counts → �
 arriving count next falling jumping i =
     max (if next == i then count falling else 0) (count (slice_index_or jumping i no_counts))
 
--- the paths to the slot of the pass have few instructions
+-- the paths to the slot of the pass have few instructions: at most as many as a program may have
+-- slots
 pub record AreFew (paths : Paths) : Type 0 where
   pub instructions : paths.here.instructions ≤ most_slots
   pub calls : paths.here.calls ≤ most_slots

@@ -1,5 +1,7 @@
 -- Numbers of the parts of stacks. A number identifies the facts about a part, so that a part is not
--- joined again if it is known to be joined already. This project's own.
+-- joined again if it is known to be joined already. At slot n the new numbers are 8 * n + 2 for the
+-- join before the instruction, + 3 for its writes, + 4 and + 5 for the two edges of a null test,
+-- and + 6 for the join at the jump's target. This project's own.
 use Rattle.std.specs.Prelude.{◌≡◌, ◌≢◌, ◌⊎◌, ℕ, ◌+◌, ◌*◌, ◌<◌, ◌≤◌, Bool, not, List, length, replicate, slice_index_or, slice_set, Option, Some, None, Ok}
 use Rattle.std.specs.Option.{option_map}
 use Rattle.words.specs.Stack.{stack_slots}
@@ -28,15 +30,16 @@ facts_on o = option_map (λ x. x.facts) o
 abbrev pub entry_of : ℕ → List (Option NumberedFacts) → Option NumberedFacts
 entry_of i entries = slice_index_or entries i None
 
--- for a slot of the stack, the number of its part, and the number of the part that this part
--- includes
+-- the number of the part of stack slot i
 abbrev pub number_of : NumberedFacts → ℕ → ℕ
 number_of x i = slice_index_or x.numbers (part_of i) 0
 
+-- the number of the part that is known to be joined into the part of stack slot i; 0 if there is
+-- none
 abbrev pub included_in : NumberedFacts → ℕ → ℕ
 included_in x i = slice_index_or x.includes (part_of i) 0
 
--- all parts have one number
+-- the facts with number n for all parts of the stack; no join is known
 abbrev pub numbered_by : ℕ → Facts → NumberedFacts
 numbered_by n f = record {
   facts = f;
@@ -44,13 +47,15 @@ numbered_by n f = record {
   includes = replicate stack_parts 0;
 }
 
+-- the facts at program entry, in which all parts have number 1
 abbrev pub at_entry : NumberedFacts
 at_entry = numbered_by 1 entry
 
+-- all parts of the stack have the new number `fresh`
 abbrev pub renumbered : NumberedFacts → ℕ → NumberedFacts
 renumbered x fresh = numbered_by fresh x.facts
 
--- the part of slot i has a new number
+-- the part of stack slot i has the new number `fresh`
 abbrev pub part_renumbered : NumberedFacts → ℕ → ℕ → NumberedFacts
 part_renumbered x i fresh =
     record {
@@ -59,8 +64,9 @@ part_renumbered x i fresh =
       includes = slice_set x.includes (part_of i) 0;
     }
 
--- the join of slot s with slot t, of parts with the numbers n and k: unchanged if the part of s
--- includes that of t; else a part that changes has the number `fresh`
+-- the join of slot s with slot t gives s'. The part of s has number n and includes that of number
+-- m, then n' and m'; the part of t has number k. Nothing changes if m is k; else m' is k, and n' is
+-- `fresh` if the part changes
 abbrev pub IsJoinedSlot : ℕ → Slot → ℕ → ℕ → Slot → ℕ → Slot → ℕ → ℕ → Type 0
 IsJoinedSlot fresh s n m t k s' n' m' =
     ((m ≡ k) × (s' ≡ s) × (n' ≡ n) × (m' ≡ m))
@@ -80,14 +86,14 @@ IsSameAt x z i =
     × (number_of z i ≡ number_of x i)
     × (included_in z i ≡ included_in x i)
 
--- one part of the stack of y is joined into x
+-- z is x, after one part of the stack of y is joined into it
 pub record IsPartJoin (fresh part : ℕ) (x y z : NumberedFacts) : Type 0 where
   pub registers : z.facts.registers ≡ x.facts.registers
   pub parts : length z.numbers ≡ stack_parts
   pub here : (i : ℕ) → i < stack_slots → part_of i ≡ part → IsJoinedAt fresh x y z i
   pub others : (i : ℕ) → i < stack_slots → part_of i ≢ part → IsSameAt x z i
 
--- the join of x and y: of the registers, and of each part of the stack
+-- z is the join of x and y: of the registers, and of each part of the stack
 pub record IsJoin (fresh : ℕ) (x y z : NumberedFacts) : Type 0 where
   pub registers : z.facts.registers
       ≡ tabulate 11 (λ r. kind_join (kind_at x.facts r) (kind_at y.facts r))
@@ -95,13 +101,13 @@ pub record IsJoin (fresh : ℕ) (x y z : NumberedFacts) : Type 0 where
   pub parts : length z.numbers ≡ stack_parts
   pub slots : (i : ℕ) → i < stack_slots → IsJoinedAt fresh x y z i
 
--- the join of y into an edge or an entry, which may have no facts
+-- the facts y are joined into those on an edge or of an entry, which may have none
 abbrev pub IsJoinedBy : ℕ → Option NumberedFacts → NumberedFacts → Option NumberedFacts → Type 0
 IsJoinedBy fresh None y new = new ≡ Some y
 IsJoinedBy fresh (Some x) y None = ⊥
 IsJoinedBy fresh (Some x) y (Some z) = IsJoin fresh x y z
 
--- the join of an entry, if there is one
+-- the facts of an entry, if there are any, are joined into those on an edge
 abbrev pub IsJoinedIf : ℕ → Option NumberedFacts → Option NumberedFacts → Option NumberedFacts
     → Type 0
 IsJoinedIf fresh old None new = new ≡ old
@@ -127,6 +133,7 @@ abbrev pub IsSent : Option ℕ → ℕ → NumberedFacts → List (Option Number
 IsSent None fresh y old new = new ≡ old
 IsSent (Some slot) fresh y old new = IsPut slot fresh y old new
 
+-- facts, if there are any, are sent to a jump's target, if there is one
 abbrev pub IsSentIf : Option ℕ → ℕ → Option NumberedFacts → List (Option NumberedFacts)
     → List (Option NumberedFacts) → Type 0
 IsSentIf target fresh None old new = new ≡ old
@@ -134,6 +141,8 @@ IsSentIf target fresh (Some y) old new = IsSent target fresh y old new
 
 -- ---- the facts on the edges of an instruction
 
+-- the facts with the ranges of both operands of a comparison; numbers are of the stack, so they are
+-- unchanged
 abbrev pub with_ranges : NumberedFacts → ℕ → Operand → RangePair → NumberedFacts
 with_ranges x dst src ranges = record {
   facts = with_pair x.facts dst src ranges;
@@ -141,14 +150,16 @@ with_ranges x dst src ranges = record {
   includes = x.includes;
 }
 
--- a look-up is settled, and all parts of the stack have a new number
+-- the look-up at a site is settled as null (true) or not, and all parts of the stack have the
+-- number `fresh`
 abbrev pub settled : ℕ → Bool → ℕ → NumberedFacts → NumberedFacts
 settled site null fresh x = numbered_by fresh (facts_settled site null x.facts)
 
--- the facts on the falling edge and on the jumping edge of a null test at slot n
+-- the facts on the falling edge of a null test at slot n, from those before it
 abbrev pub falls_settled : ℕ → Bool → ℕ → NumberedFacts → NumberedFacts
 falls_settled site jumps_on_null n x = settled site (not jumps_on_null) (8 * n + 5) x
 
+-- the facts on the jumping edge of a null test at slot n, from those before it
 abbrev pub jumps_settled : ℕ → Bool → ℕ → NumberedFacts → NumberedFacts
 jumps_settled site jumps_on_null n x = settled site jumps_on_null (8 * n + 4) x
 
@@ -164,6 +175,7 @@ on_falling_edge (Compares dst src falls jumps) fresh x = option_map (with_ranges
 on_falling_edge (Settles site jumps_on_null) fresh x =
     Some (settled site (not jumps_on_null) fresh x)
 
+-- the facts on the jumping edge, from the facts that the code leaves
 abbrev pub on_jumping_edge : Flow → ℕ → NumberedFacts → Option NumberedFacts
 on_jumping_edge Ends fresh x = None
 on_jumping_edge Falls fresh x = None
@@ -207,7 +219,8 @@ pub record IsPast (shapes : Shapes) (n : ℕ) (insn : Insn) (old : NumberedFacts
         includes = old.includes;
       }))) entries_old entries_new
 
--- the same, if there are facts before it
+-- the instruction at slot n is passed, as by `IsPast`, if there are facts before it; else nothing
+-- changes
 abbrev pub IsPastIf : Shapes → ℕ → Insn → Option NumberedFacts → List (Option NumberedFacts)
     → Option NumberedFacts → List (Option NumberedFacts) → Type 0
 IsPastIf shapes n insn None entries_old new entries_new = (new ≡ None) × (entries_new ≡ entries_old)
@@ -224,18 +237,21 @@ pub record IsNumberedSlot (held : ℕ → Slot) (bound : ℕ) (s : Slot) (n m : 
   pub below : n < bound
   pub includes : 0 < m → (m < bound) × (slot_join s (held m) ≡ s)
 
--- the same for each slot; `stacks` gives the slot that a number means
+-- each slot of the stack is the one that its numbers mean; `stacks` gives, for slot i and a number,
+-- the slot that is meant
 pub record IsNumbered (stacks : ℕ → ℕ → Slot) (bound : ℕ) (x : NumberedFacts) : Type 0 where
   pub parts : length x.numbers ≡ stack_parts
   pub slots : (i : ℕ)
       → i < stack_slots
       → IsNumberedSlot (stacks i) bound (slot_at x.facts i) (number_of x i) (included_in x i)
 
+-- the numbers of the facts, if there are any, have their meaning
 abbrev pub IsNumberedIf : (ℕ → ℕ → Slot) → ℕ → Option NumberedFacts → Type 0
 IsNumberedIf stacks bound None = Unit {0}
 IsNumberedIf stacks bound (Some x) = IsNumbered stacks bound x
 
--- the facts on the falling edge, and those of the entries from a slot on
+-- the numbers of the facts on the falling edge, and of those in the entries from a slot on, have
+-- one meaning and are below the bound
 pub record AreNumbered (slot bound : ℕ) (falling : Option NumberedFacts)
     (entries : List (Option NumberedFacts)) : Type 0 where
   pub stacks : ℕ → ℕ → Slot

@@ -6,20 +6,22 @@ use Rattle.verifier.specs.Judgement.{refusal_text}
 use Rattle.verifier.specs.declared.refusal.Refusal.{Refusal}
 use Rattle.host.specs.program.Judging.{IsJudgement}
 
--- the line that is written, without its line feed
+-- the line that `verify` writes for a verdict, without its line feed
 abbrev pub judgement_text : Option Refusal → Text
 judgement_text None = codes "accepted"
 judgement_text (Some refusal) = refusal_text refusal
 
+-- the output is the line of this verdict on the input, with its line feed, 10
 abbrev pub IsJudgementLine : List Named → Option Refusal → List ℕ → List ℕ → Type 0
 IsJudgementLine maps refusal input output =
     IsJudgement maps input refusal × (output ≡ judgement_text refusal ++ 10 ∷ [])
 
+-- the output is the line of the verdict on the input
 abbrev pub IsJudgedLine : List Named → List ℕ → List ℕ → Type 0
 IsJudgedLine maps input output =
     (refusal : Option Refusal) × IsJudgementLine maps refusal input output
 
--- the exit status of a run that wrote it: 1 if the slots are rejected
+-- the exit status of a run that wrote a verdict: 1 if the slots are rejected
 abbrev pub judgement_status : Option Refusal → ℕ
 judgement_status None = 0
 judgement_status (Some refusal) = 1

@@ -10,6 +10,7 @@ use Rattle.host.specs.program.Shapes.{colon, IsFirstWrongArgument}
 abbrev pub map_fields : Text → List Text
 map_fields text = slice_split (λ b. b == colon) text
 
+-- the failure names the first wrong map argument by its number, from 1
 abbrev pub IsWrongMapArgument : List Text → Failure → Type 0
 IsWrongMapArgument arguments failure =
     (number : ℕ) × IsFirstWrongArgument arguments number × (failure ≡ MapArgument number)

@@ -3,14 +3,14 @@ use Rattle.std.specs.Prelude.{◌≡◌, ◌⊎◌, IfErr, IsErrAnd, MatchResult
 use Rattle.host.specs.declared.program.failure.Failure.{Failure}
 use Rattle.host.specs.declared.program.failure.Failure.TheVariants.{Memory}
 
--- it returns a value that `view` shows as x, unless it is out of memory
+-- the call returns a value that `view` shows as x, unless it is out of memory
 abbrev pub Gives : {A B : Type 0} → (A → B) → Result A Failure → B → Type 0
 Gives view result x = MatchResult result (λ y. view y ≡ x) (λ failure. failure ≡ Memory)
 
--- it fails for this reason, or out of memory
+-- the call fails for this reason, or out of memory
 abbrev pub Fails : {A : Type 0} → Result A Failure → (Failure → Type 0) → Type 0
 Fails result why = IsErrAnd result (λ failure. why failure ⊎ (failure ≡ Memory))
 
--- if it fails, it is out of memory, or this is the reason
+-- if the call fails, it is out of memory, or this is the reason
 abbrev pub FailsOnly : {A : Type 0} → Result A Failure → (Failure → Type 0) → Type 0
 FailsOnly result why = IfErr result (λ failure. (failure ≡ Memory) ⊎ why failure)

@@ -28,11 +28,12 @@ pub record IsDisassembly (input output : List ℕ) : Type 0 where
   pub read : IsProgramText input insns
   pub text : output ≡ printed insns
 
+-- the output is that of the task for the input
 abbrev pub IsRewritten : TextTask → List ℕ → List ℕ → Type 0
 IsRewritten Assemble input output = IsAssembly input output
 IsRewritten Disassemble input output = IsDisassembly input output
 
--- the input is not UTF-8
+-- the input is not UTF-8, which is fault 1 of line 0
 abbrev pub IsNoText : List ℕ → Failure → Type 0
 IsNoText input failure = (¬ IsUtf8 input) × (failure ≡ Line 0 1)
 
@@ -43,7 +44,7 @@ pub record IsTextRefused (input : List ℕ) (failure : Failure) : Type 0 where
   pub own : IsOwnFault input fault
   pub failure_is : failure ≡ text_failure fault
 
--- a line has a fault, or no line has a slot
+-- a hex line has a fault, or no line has a slot
 pub record IsHexRefused (input : List ℕ) (failure : Failure) : Type 0 where
   pub fault : TextFault
   pub utf8 : IsUtf8 input
@@ -58,6 +59,7 @@ IsUnreadable input failure = IsNoText input failure ⊎ IsHexRefused input failu
 abbrev pub IsNoProgramText : List ℕ → Failure → Type 0
 IsNoProgramText input failure = IsUnreadable input failure ⊎ IsProgramRefused input failure
 
+-- why the task rejects the input
 abbrev pub IsInputRefused : TextTask → List ℕ → Failure → Type 0
 IsInputRefused Assemble input failure = IsNoText input failure ⊎ IsTextRefused input failure
 IsInputRefused Disassemble input failure = IsNoProgramText input failure
@@ -72,7 +74,7 @@ pub record Streams : Type 0 where
   pub read_failures : ℕ
   pub write_failures : ℕ
 
--- those of this reader and this writer
+-- the streams of this reader and this writer
 abbrev pub streams : {R W : Type 0}
     → (R → Option (List ℕ))
     → (R → ℕ)
@@ -153,6 +155,8 @@ pub record CutsOutput (made : List ℕ → List ℕ → Type 0) (old new : Strea
   pub failed : old.write_failures < new.write_failures
   pub sound : new.read_failures ≡ old.read_failures
 
+-- how a run ends without its whole output: there is no input, or it is rejected or memory ran out,
+-- or a write failed
 abbrev pub StopsRewriting : (List ℕ → List ℕ → Type 0) → (List ℕ → Failure → Type 0) → Streams
     → Streams → Failure → Type 0
 StopsRewriting made refused old new failure =

@@ -7,6 +7,7 @@ use Rattle.arena.specs.Memory.{Memory, size_of, part_start, part_bytes, with_byt
 use Rattle.arena.specs.Apart.{IsPart}
 use Rattle.arena.specs.PartLaws.{part_within}
 
+-- refilling all bytes gives the new bytes
 pub refilled_whole : (bytes others : List ℕ) → length others ≡ length bytes → refilled bytes others ≡ others
 refilled_whole bytes others e =
     ap (λ (n : ℕ). take n (others ++ drop (length others) bytes)) (sym e)
@@ -39,6 +40,7 @@ sides m t u offset n from to differ =
       | inr h ↦ inr (omega (arith, below t u m.part h))
     ]
 
+-- bytes that are written in one part do not change another part
 pub stays : (m : Memory) (t u offset : ℕ) (new : List ℕ)
     → IsPart m t → part_start m t ≤ offset
     → offset + length new ≤ part_start m t + m.part
@@ -55,6 +57,7 @@ whole m t new is e =
     refilled_whole m.bytes (written_at m.bytes (part_start m t) new)
     (length-written_at m.bytes new (part_start m t) (omega (arith, part_within m t is)))
 
+-- replacing all bytes of one part does not change another part
 pub others_stay : (m : Memory) (t u : ℕ) (new : List ℕ)
     → IsPart m t → length new ≡ m.part
     → u ≢ t
@@ -63,6 +66,7 @@ others_stay m t u new is e differ =
     ap (λ (bytes : List ℕ). bytes_at bytes (part_start m u) m.part) (whole m t new is e)
     ∙ stays m t u (part_start m t) new is (omega arith) (omega arith) differ
 
+-- a part whose bytes are all replaced has the new bytes
 pub own_is : (m : Memory) (t : ℕ) (new : List ℕ)
     → IsPart m t → length new ≡ m.part → part_bytes (with_part m t new) t ≡ new
 own_is m t new is e =
@@ -70,6 +74,7 @@ own_is m t new is e =
     ∙ ap (bytes_at (written_at m.bytes (part_start m t) new) (part_start m t)) (sym e)
     ∙ bytes_written m.bytes new (part_start m t) (omega (arith, part_within m t is))
 
+-- replacing all bytes of a part does not change the size of the memory
 pub size_stays : (m : Memory) (t : ℕ) (new : List ℕ)
     → IsPart m t → length new ≡ m.part → size_of (with_part m t new) ≡ size_of m
 size_stays m t new is e =

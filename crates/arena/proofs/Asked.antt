@@ -60,5 +60,6 @@ module _ (m : Memory) (t : ℕ) (is : IsPart m t) where
         written to n (bytes_at (part_bytes m t) from n) _ (long from n room) fits (copied_is to from n fits room);
   }
 
+-- loads, stores and copies within a part are those of the bytes of the part
 pub has_accesses : AccessesAreInParts
 has_accesses m t is = has m t is

@@ -7,17 +7,20 @@ use Rattle.arena.specs.Apart.{IsPart}
 use Rattle.arena.specs.PartLaws.{part_within}
 use Rattle.arena.proofs.Apart.{refilled_whole}
 
+-- bytes that are written in a part of the memory are written at this offset in the bytes of the part
 pub part_over : (m : Memory) (t at : ℕ) (new : List ℕ)
     → IsPart m t → at + length new ≤ m.part
     → part_bytes (with_bytes m (part_start m t + at) new) t ≡ written_at (part_bytes m t) at new
 part_over m t at new is room = over_within m.bytes new (part_start m t) m.part at (part_within m t is) room
 
+-- bytes that are written in a part do not change the size of the memory
 pub part_size : (m : Memory) (t at : ℕ) (new : List ℕ)
     → IsPart m t → at + length new ≤ m.part
     → size_of (with_bytes m (part_start m t + at) new) ≡ size_of m
 part_size m t at new is room =
     let fits = part_within m t is in length-written_at m.bytes new (part_start m t + at) (omega arith)
 
+-- putting back a part with bytes written at an offset is writing these bytes there in the memory
 pub part_written : (m : Memory) (t at : ℕ) (new : List ℕ)
     → IsPart m t → at + length new ≤ m.part
     → with_part m t (written_at (part_bytes m t) at new) ≡ with_bytes m (part_start m t + at) new

@@ -178,6 +178,7 @@ module _ (l : Layout) (start : ℕ) (memory after : List ℕ) (old new : LiveMap
       (sym element_new)
       ∙ sym (along.update element t.table key t.count)
 
+  -- after the value is written to the free element of a new key, the live map represents the map with the key
   pub map_with_new : CallsRefineValues ℕ ℕ → HasMap layout (stored_maps start after new) k m (with_object t key value)
   map_with_new along = record {
     live = live;

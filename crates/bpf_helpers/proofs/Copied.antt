@@ -4,6 +4,7 @@ use Rattle.words.specs.Bytes.{bytes_at}
 use Rattle.arena.specs.Memory.{Memory, base, size_of, offset_of, with_bytes, copied}
 use Rattle.arena.specs.PartLaws.{offset_is}
 
+-- a copy writes the n bytes from one offset of the memory at another
 pub copied_is : (m : Memory) (n from to p q : ℕ)
     → from ≡ base + p → to ≡ base + q
     → p + n ≤ size_of m → q + n ≤ size_of m

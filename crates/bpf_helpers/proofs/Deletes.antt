@@ -67,6 +67,7 @@ module _ (below : LawsBelow) (l : Layout) (start : ℕ) (memory : List ℕ) (old
             ∙ o.bytes;
       }
 
+  -- after the element of the key is kept apart, the live map represents the run's map without the key
   pub map_without : HasMap l (stored_maps start memory new) k m (without_key t key)
   map_without = record {
     live = rest.live;
@@ -130,6 +131,7 @@ module _ (below : LawsBelow) (env : Environment) (l : Layout) (flat : FlatState)
             k m map key (has.element number) has there c.1 d.rest)),
       )
 
+  -- a deletion returns what the tagged one does, and words and bytes represent the state after it
   pub delete_stands : (word ≡ (removed map key).answer)
       × Simulates env l (with_held flat flat.memory new) (with_map s m (removed map key).map)
   unfolding Done

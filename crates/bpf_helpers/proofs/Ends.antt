@@ -163,6 +163,7 @@ module _ (l : Layout) (start : ℕ) (memory : List ℕ) (tenant : LiveMaps) (k m
           ∙ sym (value_of value key_table.entries number lt);
     }
 
+-- at the start of a run a live map represents the map whose objects are numbered in the order of the keys
 pub maps_begin : MapsBegin
 maps_begin l start memory tenant k m value live sound none bytes counts addresses =
     let key_table = keys_at tenant k in
@@ -205,6 +206,7 @@ values_same value element values count (e ∷ es) owns same =
     ∙ ap (λ (fs : List (List ℕ × List ℕ)). (e.0, values e.1) ∷ fs)
     (values_same value element values count es owns.1 same)
 
+-- at the end of a run the live map has the same pairs as the tagged machine's map
 pub maps_end : MapsEnd
 maps_end l start memory old new k m t value h ended bytes =
     ap (λ (x : KeyTable). with_values value (table_of x)) ended

@@ -365,6 +365,7 @@ module _ (returned : ReturnsKeepSimulation) (below : LawsBelow) (words : List �
       (λ env l flat s room stands args u told goes.
       look_up_followed env l flat s room stands words args returned below word u told goes)
 
+  -- an update of what its words name simulates the tagged machine's update
   pub update_follows : (reply : CallAnswer) (site : CallSite)
       → UpdatesNamed site
       (pair_named site (slice_index words 0) (slice_index words 1) (slice_index words 2))
@@ -379,6 +380,7 @@ module _ (returned : ReturnsKeepSimulation) (below : LawsBelow) (words : List �
       (λ env l flat s room stands args u told goes.
       update_followed env l flat s room stands words args returned below reply u told goes)
 
+  -- a deletion of what its words name simulates the tagged machine's deletion
   pub delete_follows : (word : ℕ) (new : LiveMaps) (site : CallSite)
       → DeletesNamed site.maps (key_named site (slice_index words 0) (slice_index words 1)) word new
       → CallFollows site words Delete (answers word site.memory new)
@@ -388,6 +390,7 @@ module _ (returned : ReturnsKeepSimulation) (below : LawsBelow) (words : List �
       (λ env l flat s room stands args u told goes.
       delete_followed env l flat s room stands words args returned below word new u told goes)
 
+  -- a load of packet bytes to what its words name simulates the tagged machine's load
   pub load_follows : (word : ℕ) (after : Memory) (site : CallSite)
       → LoadsAt site (slice_index words 1) (slice_index words 3)
       (named_offset site.memory site.tenant (slice_index words 3) (slice_index words 2))

@@ -47,13 +47,20 @@ part_offset_is start part n address at e h =
 -- an object that has an element
 pub record Found (l : Layout) (start : ℕ) (memory : List ℕ) (tenant : LiveMaps)
     (maps : ℕ → Option RunMap) (m number : ℕ) : Type 0 where
+  -- the map of the run
   pub map : RunMap
+  -- the map is that of the descriptor in the run
   pub there : maps m ≡ Some map
+  -- the handle of the live map
   pub key : ℕ
+  -- the handle is that of a live map
   pub live : IsSome (live_at tenant key)
+  -- the element of the object
   pub element : ℕ
+  -- the element is in use, its bytes are the object's value, and they begin at the object's address
   pub has : HasObject (stored_maps start memory tenant) key element (l.object_at m number) (map.values number)
 
+-- each object that the layout counts has an element of a live map
 pub placed_object : (env : Environment) (l : Layout) (start : ℕ) (memory : List ℕ)
     (tenant : LiveMaps) (maps : ℕ → Option RunMap) (m number : ℕ)
     → MapsStandFor env l (stored_maps start memory tenant) maps
@@ -79,6 +86,7 @@ module _ (env : Environment) (l : Layout) (flat : FlatState) (s : RunState)
   start : ℕ
   start = part_start env.memory env.tenant
 
+  -- the part begins at the same offset as at the start of the run
   pub start_same : part_start flat.memory env.tenant ≡ part_start env.memory env.tenant
   start_same = ap (λ (n : ℕ). env.tenant * n) stands.changed.part
 
@@ -100,6 +108,7 @@ module _ (env : Environment) (l : Layout) (flat : FlatState) (s : RunState)
       (omega arith))
       ∙ ap (λ (a : ℕ). Some (bytes_at flat.memory.bytes (a + q) n)) start_same ∙ ap (λ (x : List ℕ). Some x) same
 
+  -- the tenant's part lies in the memory
   pub memory_long : part_start env.memory env.tenant + PART ≤ length flat.memory.bytes
   memory_long =
       let within = part_within env.memory env.tenant room.is_part in
@@ -124,6 +133,7 @@ module _ (env : Environment) (l : Layout) (flat : FlatState) (s : RunState)
       chosen true o e = refl
       chosen false o e = absurd (none-some bs e)
 
+  -- bytes that are read in a value are in the part, at the pointer's address
   pub object_there : (m number : ℕ) (x : ℤ) (w n : ℕ) (bs : List ℕ)
       → pos w ≡ pos (l.object_at m number) +ℤ x → number < l.counts m
       → object_bytes s m number x n ≡ Some bs
@@ -159,6 +169,7 @@ module _ (env : Environment) (l : Layout) (flat : FlatState) (s : RunState)
       ∙ ap (λ (v : List ℕ). bytes_at v y n) is
       ∙ c.1)
 
+  -- bytes that are read through a pointer are in the part, at the pointer's address
   pub input_there : (p : Tagged) (w n : ℕ) (bs : List ℕ)
       → IsWord env l p w → input s p n ≡ Some bs
       → part_input flat.memory env.tenant n w ≡ Some bs

@@ -24,6 +24,7 @@ use Rattle.bpf_helpers.proofs.Many.{also_some}
 use Rattle.bpf_helpers.proofs.Outputs.{outputs_keep_simulation}
 use Rattle.bpf_helpers.specs.States.{Environment, FlatState, with_memory}
 
+-- an argument that is taken as a number is this number
 pub is_number : (v : Tagged) (n : ℕ) → number_given v ≡ Some n → v ≡ Scalar n
 is_number (Scalar m) n e = ap (λ (k : ℕ). Scalar k) (same_Some m n e)
 is_number (Map m) n e = absurd (none-some n e)
@@ -100,6 +101,7 @@ module _ (env : Environment) (l : Layout) (flat : FlatState) (s : RunState)
               ∙ ap (λ (x : ℕ). returns v (Scalar (packet_answer s.packet (slice_index flat.registers 2) x))) (sym last);
         }
 
+    -- if the tagged machine has a load of bytes, the memory with the bytes written represents the state after it
     pub load_stands : (u : RunState) → called LoadBytes s ≡ Some u → LoadKeepsSimulation env l flat s u
     load_stands u e =
         let a =
@@ -132,7 +134,7 @@ module _ (env : Environment) (l : Layout) (flat : FlatState) (s : RunState)
         u c.2 in
         written b.0 c.0 u d.0 (number_word 2 b.0 (omega arith) b.1) (length_word 4 c.0 (omega arith) c.1) d.1 d.2
 
--- the bytes that a load writes are in the part
+-- the bytes that a load of packet bytes writes are in the part
 pub loads_name_bytes : WritesStayInside → LoadsNameBytes
 loads_name_bytes writes env l flat s u room stands e =
     subst IsSome (sym (load_stands env l flat s room stands writes u e).offset_is) refl

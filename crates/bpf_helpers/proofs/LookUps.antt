@@ -36,9 +36,12 @@ is_map (Pointer o x) m e = absurd (none-some m e)
 
 -- the map in a register is this one
 pub record IsGiven (s : RunState) (r : ℕ) (g : GivenMap) : Type 0 where
+  -- the register holds the map of this descriptor
   pub register : s.registers r ≡ Some (Map g.descriptor)
+  -- the run has this map under the descriptor
   pub there : s.maps g.descriptor ≡ Some g.map
 
+-- the map that an argument gives is the one in the register
 pub is_given : (s : RunState) (r : ℕ) (g : GivenMap) → map_argument s r ≡ Some g → IsGiven s r g
 is_given s r g e =
     let a =
@@ -54,14 +57,20 @@ module _ (env : Environment) (l : Layout) (flat : FlatState) (s : RunState)
     (room : IsRoom env.memory env.tenant) (stands : Simulates env l flat s) where
   -- the map that a word names, and the live map that represents it
   pub record IsBound (w m : ℕ) (map : RunMap) : Type 0 where
+    -- the index of the map among those of the run
     pub index : ℕ
+    -- the index is one of a bound map
     pub within : index < length env.bind
+    -- the descriptor of this index is that of the map
     pub named : slice_get env.descriptors index ≡ Some m
+    -- the word names the handle of this index
     pub bound : bound_map env.bind w ≡ Some (slice_index env.bind index)
+    -- the live map of this handle represents the map
     pub has : HasMap l
         (stored_maps (part_start env.memory env.tenant) flat.memory.bytes flat.maps)
         (slice_index env.bind index) m map
 
+  -- the word of a map names the handle of the live map that represents it
   pub map_bound : (w m : ℕ) (map : RunMap) → IsWord env l (Map m) w → s.maps m ≡ Some map → IsBound w m map
   map_bound w m map h e =
       let i = w - 1 in
@@ -124,6 +133,7 @@ module _ (env : Environment) (l : Layout) (flat : FlatState) (s : RunState)
   given_word map key v named is =
       subst (λ o. GivesWord env l (option_map (key_word (site_in env flat)) o) (Some v)) (sym named) is
 
+  -- a look-up on words has a result that represents the result of the tagged machine's look-up
   pub follows : CallsRefineValues ℕ ℕ
       → (u : RunState) → called LookUp s ≡ Some u
       → (v : Tagged)

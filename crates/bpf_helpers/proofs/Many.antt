@@ -13,6 +13,7 @@ use Rattle.bpf_helpers.specs.Layout.{Layout, IsWord, HasCell, HasStack}
 use Rattle.bpf_helpers.specs.inside.Laws.{StackBytesAreThere, StackBytesAreWritten}
 use Rattle.bpf_helpers.specs.States.{Environment}
 
+-- if a second optional result depends on a first one and exists, the first one exists too
 pub also_some : {A B : Type 0} (o : Option A) (f : A → Option B) (y : B)
     → and_then o f ≡ Some y → (x : A) × (o ≡ Some x) × (f x ≡ Some y)
 also_some None f y e = absurd (none-some y e)
@@ -22,7 +23,9 @@ also_some (Some x) f y e = (x, refl, e)
 
 -- the list has the n bytes from offset p on
 pub record AreFrom (byte : ℕ → Option ℕ) (p n : ℕ) (list : List ℕ) : Type 0 where
+  -- the list has n bytes
   pub count : length list ≡ n
+  -- each byte from offset p on is that of its index in the list
   pub each : (k : ℕ) → k < n → byte (p + k) ≡ Some (get_or list k 0)
 
 one_more : (byte : ℕ → Option ℕ) (p n b : ℕ) (list : List ℕ)
@@ -34,6 +37,7 @@ one_more byte p n b list e rest = record { count = ap suc rest.count; each = eac
     each zero lt = ap byte (omega arith) ∙ e
     each (suc k) lt = ap byte (omega arith) ∙ rest.each k (omega arith)
 
+-- if n bytes are gathered from offset p on, each of them is present and is in the list
 pub are_from : (byte : ℕ → Option ℕ) (n p : ℕ) (list : List ℕ) → gathered byte p n ≡ Some list → AreFrom byte p n list
 unfolding gathered
 are_from byte zero p list e =
@@ -55,6 +59,7 @@ stack_byte_there env l memory start s q b has lt e =
     let at : start + q ≡ start + 8 * (q / 8) + q % 8 = omega arith in
     ap (λ (a : ℕ). get_or memory a 0) at ∙ (has (q / 8) (omega arith)).present (q % 8) b (omega arith) e
 
+-- n bytes that are read at an offset of the stack, across its slots, are those in the memory
 pub bytes_there : StackBytesAreThere
 bytes_there env l memory start s y n bs has fits e =
     let i = chosen (is_in_stack y n) (gathered (stack_byte s) (byte_index y) n) bs e in
@@ -133,6 +138,7 @@ module _ (env : Environment) (l : Layout) (memory : List ℕ) (start : ℕ)
   not_whole : (b : ℕ → Option ℕ) (v : Tagged) → bytes b ≡ holds v → ⊥
   not_whole b v e = cc
 
+  -- after bytes are written in the stack, the memory has each cell as the tagged write leaves it
   pub cell_after : (i : ℕ) (c : Cell)
       → i < 64 → HasCell env l memory (start + 8 * i) c
       → HasCell env l (written_at memory (start + p) new) (start + 8 * i) (cell_over i c p new)
@@ -150,6 +156,7 @@ module _ (env : Environment) (l : Layout) (memory : List ℕ) (start : ℕ)
       beside (inl f) = inl (ltb-false p (8 * i + 8) f)
       beside (inr f) = inr (ltb-false (8 * i) (p + length new) f)
 
+-- after bytes are written at an offset of the stack, across its slots, the memory has the cells after it
 pub bytes_over : StackBytesAreWritten
 bytes_over env l memory start s t y bs has fits e =
     let c = cond_some (is_in_stack y (length bs)) (with_cells s (λ i. cell_over i (s.cells i) (byte_index y) bs)) t e in

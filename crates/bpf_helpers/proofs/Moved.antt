@@ -15,7 +15,7 @@ use Rattle.bpf_helpers.specs.Layout.{Layout}
 use Rattle.bpf_helpers.specs.Stands.{HasObject, HasMap, MapsStandFor, StoredMaps, KeepsUnboundValues, Simulates, stored_maps}
 use Rattle.bpf_helpers.specs.States.{Environment, FlatState, with_held}
 
--- the maps of other descriptors have other keys
+-- the maps of different descriptors have different handles
 pub other_key : {env : Environment} {l : Layout} {stored : StoredMaps} {maps : ℕ → Option RunMap}
     → MapsStandFor env l stored maps
     → (i m j n : ℕ) → slice_get env.descriptors i ≡ Some m
@@ -65,7 +65,7 @@ live_keys old new k e = ap (λ (o : Option LiveMap). (live_or o).keys) e
 live_offsets : (old new : LiveMaps) (k p : ℕ) → live_at new k ≡ live_at old k → offset_at new k p ≡ offset_at old k p
 live_offsets old new k p e = ap (λ (o : Option LiveMap). offset (live_or o) p) e
 
--- the bytes, and possibly the values, are different; the keys and their elements are the same
+-- if the element of each object has a new value, the live map represents the map with these values
 pub other_bytes : {l : Layout} {start : ℕ} {before after : List ℕ} {tenant : LiveMaps} {k m : ℕ}
     {t : RunMap} {values : ℕ → List ℕ} (h : HasMap l (stored_maps start before tenant) k m t)
     → ((number : ℕ) → number < t.count
@@ -83,6 +83,7 @@ other_bytes h objects = record {
 
 -- only the map of handle k changes, and its elements have the same addresses
 module _ {old new : LiveMaps} {k : ℕ} (rest : OnlyKeysChange k old new) where
+  -- if only the map of one handle changes, that of another handle represents the same map as before
   pub other_moved : {l : Layout} {start : ℕ} {memory : List ℕ} {j n : ℕ} {u : RunMap}
       → j ≢ k
       → HasMap l (stored_maps start memory old) j n u
@@ -92,6 +93,7 @@ module _ {old new : LiveMaps} {k : ℕ} (rest : OnlyKeysChange k old new) where
       (λ p. live_offsets old new j p (rest.others j differ))
       (subst IsSome (sym (rest.others j differ)) h.live) h
 
+  -- if no key of the live maps changes, they represent the same maps of the run as before
   pub maps_moved : AreasKeepElements
       → keys_at new k ≡ keys_at old k
       → {env : Environment} {l : Layout} {start : ℕ} {memory : List ℕ} {maps : ℕ → Option RunMap}
@@ -116,7 +118,7 @@ module _ {old new : LiveMaps} {k : ℕ} (rest : OnlyKeysChange k old new) where
     laid = rest.laid;
   }
 
--- the same map is set again
+-- if a map of the run is set to itself, the live maps represent the same maps as before
 pub maps_again : {env : Environment} {l : Layout} {stored : StoredMaps} {maps : ℕ → Option RunMap}
     (m : ℕ) {t : RunMap}
     → maps m ≡ Some t → MapsStandFor env l stored maps
@@ -141,6 +143,7 @@ module _ {env : Environment} {l : Layout} {start : ℕ} {memory : List ℕ} {old
     (named : slice_get env.descriptors i ≡ Some m)
     (rest : OnlyKeysChange (slice_index env.bind i) old new)
     (own : HasMap l (stored_maps start memory new) (slice_index env.bind i) m t) where
+  -- if the only live map that changes represents a new map of the run, the live maps represent the run's maps with it
   pub map_replaced : MapsStandFor env l (stored_maps start memory new) (set_at maps m (Some t))
   map_replaced = record {
     count = has.count;
@@ -164,7 +167,7 @@ module _ {env : Environment} {l : Layout} {start : ℕ} {memory : List ℕ} {old
 
 -- ---- a call that changes one map of the run
 
--- the maps that the run does not name are not changed
+-- if only one bound map changes, the values of maps that are not bound are those in the old bytes
 pub others_moved : (bind : List ℕ) (start : ℕ) (old memory : List ℕ) (tenant new : LiveMaps) (i : ℕ)
     → i < length bind
     → ((other : ℕ) → other ≢ slice_index bind i → live_at new other ≡ live_at tenant other)

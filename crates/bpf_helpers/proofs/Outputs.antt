@@ -36,6 +36,7 @@ module _ (env : Environment) (l : Layout) (memory new : List ℕ) (from : ℕ)
   abbrev IsApart : ℕ → ℕ → Type 0
   IsApart offset n = (offset + n ≤ from) ⊎ (from + length new ≤ offset)
 
+  -- after bytes are written outside a cell, the memory has the same cell
   pub cell_kept : (at : ℕ) (c : Cell)
       → IsApart at 8 → HasCell env l memory at c
       → HasCell env l (written_at memory from new) at c
@@ -52,6 +53,7 @@ module _ (env : Environment) (l : Layout) (memory new : List ℕ) (from : ℕ)
       apart j few (inl below) = inl (omega arith)
       apart j few (inr above) = inr (omega arith)
 
+  -- after bytes are written outside the context, the memory has the same context words
   pub words_kept : (at : ℕ) (words : List ℕ)
       → IsApart at 44 → HasWords memory at words
       → HasWords (written_at memory from new) at words
@@ -80,6 +82,7 @@ module _ (env : Environment) (l : Layout) (memory new : List ℕ) (from : ℕ)
 -- ---- the values of maps are disjoint
 
 module _ (tenant : LiveMaps) (laid : IsLaid tenant) where
+  -- the values of different elements of live maps do not overlap
   pub laid_apart : (k p j q : ℕ)
       → IsSome (live_at tenant k) → IsSome (live_at tenant j)
       → p < (shape_at tenant k).max_entries → q < (shape_at tenant j).max_entries
@@ -273,7 +276,7 @@ module _ (bind : List ℕ) (start : ℕ) (old memory new : List ℕ) (tenant : L
       (shape_at tenant key).value_size (omega arith) (inr (omega arith))
       ∙ has key p away live lt
 
-  -- the bytes are written in the value of a map that the run names
+  -- if bytes are written in a value of a bound map, the values of maps that are not bound are those in the old bytes
   pub others_over : (i at y : ℕ)
       → i < length bind
       → IsSome (live_at tenant (slice_index bind i))
@@ -298,6 +301,7 @@ module _ (bind : List ℕ) (start : ℕ) (old memory new : List ℕ) (tenant : L
 
 module _ (writes : WritesStayInside) (env : Environment) (l : Layout) (flat : FlatState)
     (s : RunState) (room : IsRoom env.memory env.tenant) (stands : Simulates env l flat s) where
+  -- after bytes are written in the part, the memory has changed at most in the part
   pub changed_after : (q : ℕ) (new : List ℕ)
       → q + length new ≤ PART
       → IsOnlyChanged env.memory env.tenant (with_bytes flat.memory (part_start env.memory env.tenant + q) new)
@@ -324,7 +328,7 @@ module _ (writes : WritesStayInside) (env : Environment) (l : Layout) (flat : Fl
             ∙ stands.changed.others u differ;
       }
 
-  -- bytes are written to the stack
+  -- if the stack's bytes have the new cells, the memory with them represents the state with these cells
   pub stack_stands : (q : ℕ) (new : List ℕ) (cells : ℕ → Cell)
       → q + length new ≤ 512
       → HasStack env l
@@ -489,6 +493,7 @@ module _ (writes : WritesStayInside) (env : Environment) (l : Layout) (flat : Fl
   output_written (Pointer (object.Value m number) x) w bs u h e = object_output m number x w bs u h.0 h.2 e
   output_written p w bs u h e = absurd (none-some u e)
 
+  -- if bytes of a value are written, they lie in the part, and the memory with them represents the state after it
   pub object_overwritten : (m number : ℕ) (x : ℤ) (w : ℕ) (bs : List ℕ) (u : RunState)
       → pos w ≡ pos (l.object_at m number) +ℤ x → number < l.counts m
       → object_written s m number x bs ≡ Some u

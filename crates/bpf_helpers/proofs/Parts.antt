@@ -12,7 +12,7 @@ part_fits m t parts lt =
     let next : suc t * m.part ≡ t * m.part + m.part = omega arith in
     omega arith
 
--- a borrowed part after some of its bytes are written
+-- bytes written at an offset of a borrowed part are written at this offset of the part in the memory
 pub lent_written : WritesAreInParts
     → (m : Memory) (t at n : ℕ) (part new written : List ℕ) → part ≡ part_bytes m t
     → written ≡ new → length new ≡ n
@@ -28,6 +28,7 @@ lent_written law m t at n part new written is same count parts lt room =
     ∙ ap (λ (x : List ℕ). with_part m t (written_at x at new)) is
     ∙ law.memory m t at new (parts, lt) (omega (arith, count))
 
+-- the bytes of a borrowed part are as many as each part has
 pub lent_long : (m : Memory) (t : ℕ) (part : List ℕ)
     → part ≡ part_bytes m t → size_of m ≡ m.parts * m.part
     → t < m.parts

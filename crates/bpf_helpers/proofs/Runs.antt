@@ -67,7 +67,7 @@ has_index (x ∷ xs) m i e = by (has_index xs m) (eqb x m) refl i e
 
 module _ (old : Memory) (t : ℕ) (room : IsRoom old t) (memory : Memory)
     (size : size_of memory ≡ size_of old) (parts : memory.part ≡ old.part) where
-  -- n bytes of a part are bytes of the memory
+  -- the n bytes at an offset of the part are those at this offset from its start in the memory
   pub in_part : (off n : ℕ)
       → off + n ≤ PART
       → bytes_at (part_bytes memory t) off n ≡ bytes_at memory.bytes (part_start old t + off) n
@@ -238,6 +238,7 @@ module _ (env : Environment) (memory : Memory) (registers : List ℕ) (maps : Ma
     elsewhere = λ key p away live lt. value_stays key p live lt;
   }
 
+-- at the start of a run, words, bytes and live maps represent the tagged state at the start
 pub runs_begin : RunsBegin
 runs_begin env memory registers maps words room context first ready given = (
   layout env memory
@@ -286,9 +287,11 @@ module _ (env : Environment) (l : Layout) (flat : FlatState) (s : RunState)
       ∙ sym (in_part env.memory env.tenant room env.memory refl refl (offset_at flat.maps key p)
       (shape_at flat.maps key).value_size (omega arith))
 
+-- after the end of a run on a map, its live pairs are those after the tagged run
 pub runs_end : AreasKeepElements → RunsEnd
 runs_end keep env l flat s new i m room stands named live ended areas =
     map_ends env l flat s room stands keep new i m named live ended areas
 
+-- the values of live maps that are not bound have the same bytes as at the start of the run
 pub others_stay : OthersStay
 others_stay env l flat s key p room stands away live lt = other_stays env l flat s room stands key p away live lt

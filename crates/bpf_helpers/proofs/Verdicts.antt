@@ -29,10 +29,12 @@ verdict_tells t key flags =
     of_object (Some a) =
         cond_both (flags == no_exist) (Refused Exists) (Present a) (Tells (Some a)) (λ _. tt) (λ _. refl)
 
+-- if the verdict on an update has the object of a present key, the look-up of the key finds it
 pub present_found : (t : Table ℕ) (key : List ℕ) (flags number : ℕ)
     → verdict t key flags ≡ Present number → look_up t key ≡ Some number
 present_found t key flags number e = subst (Tells (look_up t key)) e (verdict_tells t key flags)
 
+-- if a deletion has an object to delete, the look-up of the key has found it
 pub removal_found : (kind : MapKind) (o : Option ℕ) (p : ℕ) → removal_of kind o ≡ Ok p → o ≡ Some p
 removal_found Array o p e = absurd (let z : ⊥ = cc in z)
 removal_found Hash None p e = absurd (let z : ⊥ = cc in z)

@@ -13,6 +13,7 @@ use Rattle.bpf_helpers.specs.Stands.{HasMap, stored_maps}
 use Rattle.bpf_helpers.specs.Calls.{Extends}
 use Rattle.bpf_helpers.specs.States.{Environment}
 
+-- each layout has the same objects as itself, at the same addresses
 pub extends_itself : (l : Layout) → Extends l l
 extends_itself l = record { front = refl; more = λ k. omega arith; same = λ k number lt. refl }
 
@@ -22,12 +23,14 @@ module _ (l m : Layout) (e : Extends l m) where
   placed_more object.Context h = (tt, e.front)
   placed_more (object.Value k number) h = (let more = e.more k in omega arith, e.same k number h)
 
+  -- a word represents the same value in a layout with more objects
   pub word_more : (env : Environment) (v : Tagged) (w : ℕ) → IsWord env l v w → IsWord env m v w
   word_more env (Scalar n) w h = h
   word_more env (Map k) w h = h
   word_more env (Pointer o x) w h =
       let p = placed_more o h.2 in (subst (λ (a : ℕ). pos w ≡ pos a +ℤ x) (sym p.1) h.0, h.1, p.0)
 
+  -- the memory has the same cell in a layout with more objects
   pub cell_more : (env : Environment) (memory : List ℕ) (offset : ℕ) (c : Cell)
       → HasCell env l memory offset c → HasCell env m memory offset c
   cell_more env memory offset c h = record { present = h.present; whole = λ v k. word_more env v _ (h.whole v k) }
@@ -47,6 +50,7 @@ module _ (l : Layout) (m a : ℕ) where
       (λ b. let same = ap l.counts (eqb-true k m b) in omega arith)
       (λ _. omega arith)
 
+  -- a new object does not change the address of any other object
   pub extended_same : (k number : ℕ)
       → (k ≡ m → number ≡ l.counts m → ⊥)
       → (extended l m a).object_at k number ≡ l.object_at k number
@@ -57,11 +61,13 @@ module _ (l : Layout) (m a : ℕ) where
       other (eqb-true k m h.0) (eqb-true number (l.counts m) h.1)))
       (λ f. f) (cases_Bool ((k == m) && (number == l.counts m))))
 
+  -- the new object is at its given address
   pub extended_here : (extended l m a).object_at m (l.counts m) ≡ a
   extended_here =
       cond-true ((m == m) && (l.counts m == l.counts m)) a (l.object_at m (l.counts m))
       (and_from (m == m) (l.counts m == l.counts m) (eq-eqb m m refl) (eq-eqb (l.counts m) (l.counts m) refl))
 
+  -- a layout with a new object has all objects of the layout before, at the same addresses
   pub extends : Extends l (extended l m a)
   extends = record {
     front = refl;
@@ -69,7 +75,7 @@ module _ (l : Layout) (m a : ℕ) where
     same = λ k number lt. extended_same k number (λ e f. let same = ap l.counts e in omega arith);
   }
 
--- a map that is not written, in a layout with more objects
+-- in a layout with a new object of one map, a live map represents another map as before
 pub map_extended : (l : Layout) (start : ℕ) (memory : List ℕ) (tenant : LiveMaps) (m a key n : ℕ)
     (u : RunMap)
     → n ≢ m

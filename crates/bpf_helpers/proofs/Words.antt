@@ -25,7 +25,7 @@ module _ (memory : Memory) (t size n address : ℕ) (same : n ≡ size) where
   no_input e =
       ap (λ o. and_then o (λ p. Some (bytes_at memory.bytes (part_start memory t + p) size))) (offset_is None e)
 
--- a range of a part
+-- a range of a borrowed part has the bytes at this offset of the part in the memory
 pub part_range : (memory : Memory) (t at n : ℕ) (part : List ℕ)
     → part ≡ part_bytes memory t → at + n ≤ memory.part
     → slice_range part at (at + n) ≡ bytes_at memory.bytes (part_start memory t + at) n
@@ -37,6 +37,7 @@ part_range memory t at n part is fits =
 -- ---- a map with a key, and with a value
 
 module _ (site : CallSite) (map key : ℕ) where
+  -- if the word of the map names no map, it and a key's address name no key
   pub no_map : bound_map site.bind map ≡ None → key_named site map key ≡ None
   no_map e = ap (λ o. and_then o (key_at site key)) e
 
@@ -48,6 +49,7 @@ module _ (site : CallSite) (map key : ℕ) where
         ap (λ o. and_then o (key_at site key)) bound
         ∙ ap (option_map (λ bs. let n : NamedKey = record { map = k; key = bs } in n)) e
 
+    -- if the bytes at the key's address are in the part, the words name the map with this key
     pub key_is : (bs : List ℕ)
         → key_input site k key ≡ Some bs
         → key_named site map key ≡ Some (record { map = k; key = bs })
@@ -55,9 +57,11 @@ module _ (site : CallSite) (map key : ℕ) where
 
     -- the size that the code has requested is the map's key size
     module _ {n : ℕ} (size : n ≡ (shape_at site.maps k).key_size) where
+      -- if the bytes at the key's address are not in the part, the words name no key
       pub no_key : None ≡ named_offset site.memory site.tenant n key → key_named site map key ≡ None
       no_key e = by_map None (no_input site.memory site.tenant (shape_at site.maps k).key_size n key size e)
 
+      -- if the bytes at the key's address have an offset in the part, the words name the map with the key there
       pub key_found : {at : ℕ}
           → Some at ≡ named_offset site.memory site.tenant n key
           → key_named site map key ≡ Some (record { map = k; key = key_bytes site k at })
@@ -65,7 +69,7 @@ module _ (site : CallSite) (map key : ℕ) where
           key_is (key_bytes site k at)
           (input_is site.memory site.tenant (shape_at site.maps k).key_size n key size at e)
 
-      -- the bytes of the part are the key
+      -- if the bytes at the key's address are in the borrowed part, the words name the map with them as the key
       pub key_there : (at : ℕ) {part : List ℕ}
           → Some at ≡ named_offset site.memory site.tenant n key
           → part ≡ part_bytes site.memory site.tenant → at + n ≤ site.memory.part
@@ -77,6 +81,7 @@ module _ (site : CallSite) (map key : ℕ) where
           key_found offset
           ∙ ap (λ (bs : List ℕ). let o : Option NamedKey = Some (record { map = k; key = bs }) in o) there
 
+  -- if the words of a map and a key name no key, they name no pair with a value
   pub no_pair : (value : ℕ) → key_named site map key ≡ None → pair_named site map key value ≡ None
   no_pair value e = ap (λ o. and_then o (pair_at site value)) e
 
@@ -89,15 +94,18 @@ module _ (site : CallSite) (map key : ℕ) where
         ap (λ o. and_then o (pair_at site value)) named
         ∙ ap (option_map (λ vs. let p : NamedPair = record { map = k.map; key = k.key; value = vs } in p)) e
 
+    -- if the bytes at the value's address are in the part, the words name the key with this value
     pub pair_is : (vs : List ℕ)
         → value_input site k.map value ≡ Some vs
         → pair_named site map key value ≡ Some (record { map = k.map; key = k.key; value = vs })
     pair_is vs e = by_key (Some vs) e
 
     module _ {n : ℕ} (size : n ≡ (shape_at site.maps k.map).value_size) where
+      -- if the bytes at the value's address are not in the part, the words name no pair
       pub no_value : None ≡ named_offset site.memory site.tenant n value → pair_named site map key value ≡ None
       no_value e = by_key None (no_input site.memory site.tenant (shape_at site.maps k.map).value_size n value size e)
 
+      -- if the bytes at the value's address have an offset in the part, the words name the key with the value there
       pub pair_found : {at : ℕ}
           → Some at ≡ named_offset site.memory site.tenant n value
           → pair_named site map key value

@@ -11,6 +11,7 @@ use Rattle.tagged_model.specs.Table.{look_up, is_full, of_absent, of_found, verd
 use Rattle.bpf_maps.specs.KeyTable.{KeyTable, table_of, occurrences, IsSound, IsFree, with_entry, Claims, Removes}
 use Rattle.bpf_maps.proofs.Counts.{in_use}
 
+-- two tables of one shape are equal if their entries and the elements that are kept apart are
 pub same_table : (s : MapShape) {es fs : List (List ℕ × ℕ)} {ks ls : List ℕ}
     → es ≡ fs → ks ≡ ls
     → (let t : KeyTable = record { shape = s; entries = es; kept = ks } in t)
@@ -19,6 +20,7 @@ same_table s e k i = record { shape = s; entries = e i; kept = k i }
 
 -- ---- a delete from a hash map
 
+-- a delete from the fields of a hash map is a delete from the table that contracts see, with the same result
 pub removes : (key : List ℕ) (old seen new : KeyTable) (o : Option ℕ) (answer : Result (Unit {0}) MapFault)
     → old ≡ seen → old.shape.kind ≡ Hash
     → look_up (table_of old) key ≡ o
@@ -31,6 +33,7 @@ removes key old seen new o answer v k e h =
 
 -- ---- a new key of a hash map
 
+-- if a hash map is not full, the claim of an absent key may return any free element, which the key then has
 pub claims_new : (key : List ℕ) (old seen new : KeyTable) (p : ℕ)
     → old ≡ seen → is_full (table_of old) ≡ false
     → IsFree old p → new ≡ with_entry old key p
@@ -39,6 +42,7 @@ claims_new key old seen new p v room free h =
     subst (λ (t : KeyTable). Claims (of_absent Hash (is_full (table_of t)) 0) key t (Ok p) new) v
     (subst (λ (b : Bool). Claims (of_absent Hash b 0) key old (Ok p) new) (sym room) (free, h))
 
+-- if a hash map is full, the claim of an absent key returns TooBig and changes nothing
 pub claims_full : (key : List ℕ) (old seen : KeyTable)
     → old ≡ seen → is_full (table_of old) ≡ true
     → Claims (of_absent Hash (is_full (table_of seen)) 0) key seen (Err TooBig) seen
@@ -65,6 +69,7 @@ present_is t flags k (Some j) g = by (flags == no_exist) g
     by true q = cc
     by false q = cc
 
+-- if the verdict on an update is a present element, the look-up of the key finds this element
 pub present_found : (t : KeyTable) (key : List ℕ) (flags k : ℕ)
     → verdict (table_of t) key flags ≡ Present k → look_up (table_of t) key ≡ Some k
 present_found t key flags k h = by (nat_le flags exist) h
@@ -87,6 +92,7 @@ element_below t key p h e = by (nat_lt p t.shape.max_entries) refl (h.once p)
     by true q l = ltb-true p t.shape.max_entries q
     by false q l = let u = in_use p key t.entries e in absurd (omega arith)
 
+-- an element that a look-up finds is less than `max_entries`
 pub found_within : (t : KeyTable) (key : List ℕ) (o : Option ℕ)
     → IsSound t → o ≡ look_up (table_of t) key
     → IfSome o (λ p. p < t.shape.max_entries)
@@ -113,6 +119,7 @@ claims_within old new flags p key c h = by (verdict (table_of old) key flags) re
         element_below new key p h at
     by New e d = subst (λ (t : KeyTable). p < t.shape.max_entries) (sym d.1) d.0.within
 
+-- an element that a claim returns is less than `max_entries`, if the table after it is sound
 pub claims_within_ok : (old new : KeyTable) (flags : ℕ) (key : List ℕ) (answer : Result ℕ MapFault)
     → Claims (verdict (table_of old) key flags) key old answer new
     → IsSound new

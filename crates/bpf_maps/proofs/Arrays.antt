@@ -20,6 +20,7 @@ module _ (s : MapShape) (array : s.kind ≡ Array) where
   pub length_new : length (new_keys s).entries ≡ s.max_entries
   length_new = ap length entries_are ∙ length_indexed 0 s.max_entries
 
+  -- the table of keys of a new array is sound
   pub sound_array : IsSound (new_keys s)
   sound_array = record {
     once = λ p.
@@ -67,6 +68,7 @@ module _ (s : MapShape) (array : s.kind ≡ Array) where
 -- ---- the same of a table that is that of an array
 
 module _ {t : KeyTable} (array : t.shape.kind ≡ Array) (whole : t ≡ new_keys t.shape) where
+  -- a look-up of an index finds the index as its own element if it is in range, else nothing
   pub found_array : (key : List ℕ) (i : ℕ) (b : Bool)
       → index_key i ≡ key → i < 2 ^ 32
       → nat_lt i t.shape.max_entries ≡ b
@@ -76,12 +78,14 @@ module _ {t : KeyTable} (array : t.shape.kind ≡ Array) (whole : t ≡ new_keys
       ∙ sym (found_new t.shape array key i same small)
       ∙ ap (λ (u : KeyTable). look_up (table_of u) key) (sym whole)
 
+  -- the key after that of an index in range is the key of the next index, if this is in range too
   pub after_present : (key : List ℕ) (i : ℕ)
       → index_key i ≡ key → i < t.shape.max_entries
       → next_of (table_of t) key ≡ (if nat_lt (i + 1) t.shape.max_entries then Some (index_key (i + 1)) else None)
   after_present key i same below =
       ap (λ (u : KeyTable). next_of (table_of u) key) whole ∙ next_new t.shape array key i same below
 
+  -- the key after an absent key is that of index 0
   pub after_absent : (key : List ℕ)
       → look_up (table_of t) key ≡ None
       → next_of (table_of t) key ≡ (if nat_lt 0 t.shape.max_entries then Some (index_key 0) else None)
@@ -137,6 +141,7 @@ sound_hash s hash = record {
   array = λ array. absurd (hash_no_array s.kind hash array);
 }
 
+-- the table of keys of a new map is sound
 pub sound_new : (s : MapShape) → IsSound (new_keys s)
 sound_new s = by s.kind refl
   where

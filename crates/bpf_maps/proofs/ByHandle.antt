@@ -25,9 +25,11 @@ module _ (maps : Slab StoredMap) where
   at_handle (o ∷ os) (suc p) = at_handle os p
 
   module _ (keys : List (Option ℕ)) (p : ℕ) where
+    -- the stored map of a handle is the one that the slab has under the key of the handle
     pub under_key : (key : ℕ) → get_or keys p None ≡ Some key → get_or (by_handle keys maps) p None ≡ get maps key
     under_key key at = at_handle keys p ∙ ap (option_and_then (get maps)) at
 
+    -- a handle without a key has no stored map
     pub no_key : get_or keys p None ≡ None → get_or (by_handle keys maps) p None ≡ None
     no_key at = at_handle keys p ∙ ap (option_and_then (get maps)) at
 
@@ -52,6 +54,7 @@ module _ {A : Type 0} (xs : List (Option A)) (i : ℕ) where
       by_length (inl l) = l
       by_length (inr l) = absurd (none-some x (sym (get_or_past xs i None l) ∙ at))
 
+  -- if a present item of a list is replaced by another, as many items are present as before
   pub replaced_len : (x y : A) → get_or xs i None ≡ Some x → count_by is_some (set xs i (Some y)) ≡ count_by is_some xs
   replaced_len x y at =
       let n : count_by is_some (set xs i (Some y)) + one_if (get_or xs i None) ≡ count_by is_some xs + 1 =
@@ -59,6 +62,7 @@ module _ {A : Type 0} (xs : List (Option A)) (i : ℕ) where
       let one : one_if (get_or xs i None) ≡ 1 = one_in x at in
       omega arith
 
+  -- if an item is put at an index without one, one more is present
   pub filled_len : (y : A)
       → i < length xs → get_or xs i None ≡ None
       → count_by is_some (set xs i (Some y)) ≡ count_by is_some xs + 1
@@ -68,6 +72,7 @@ module _ {A : Type 0} (xs : List (Option A)) (i : ℕ) where
       let none : one_if (get_or xs i None) ≡ 0 = ap one_if at in
       omega arith
 
+  -- if a present item is removed, one fewer is present
   pub emptied_len : (x : A) → get_or xs i None ≡ Some x → count_by is_some (set xs i None) + 1 ≡ count_by is_some xs
   emptied_len x at =
       let n : count_by is_some (set xs i None) + one_if (get_or xs i None) ≡ count_by is_some xs + 0 =
@@ -88,6 +93,7 @@ fewer_keys keys p l free =
 
 -- ---- which handles have a map
 
+-- the list of stored maps has an entry for each of the MAPS handles
 pub by_handle_len : (keys : List (Option ℕ)) (maps : Slab StoredMap)
     → AreKeys keys maps → length (by_handle keys maps) ≡ MAPS
 by_handle_len keys maps is = length-map keys _ ∙ is.long
@@ -98,6 +104,7 @@ some_mapped (Some e) = refl
 
 -- a map is live if its handle has a key, and no other is
 module _ (keys : List (Option ℕ)) (maps : Slab StoredMap) (is : AreKeys keys maps) where
+  -- the list of live maps has an entry for each of the MAPS handles
   pub handles_are : length (live_maps_of (by_handle keys maps)) ≡ MAPS
   handles_are = length-map (by_handle keys maps) _ ∙ by_handle_len keys maps is
 
@@ -117,10 +124,12 @@ module _ (keys : List (Option ℕ)) (maps : Slab StoredMap) (is : AreKeys keys m
   pub lowest_is : position is_none (live_maps_of (by_handle keys maps)) ≡ position is_none keys
   lowest_is = same_lowest (live_maps_of (by_handle keys maps)) keys (handles_are ∙ sym is.long) live_where
 
+-- an option that is present has a value
 pub some_value : {A : Type 0} (o : Option A) → IsSome o → (x : A) × (o ≡ Some x)
 some_value None h = absurd (true≢false (sym h))
 some_value (Some x) h = (x, refl)
 
+-- an option that has no value is None
 pub no_value : {A : Type 0} (o : Option A) → ((x : A) → o ≡ Some x → ⊥) → o ≡ None
 no_value None h = refl
 no_value (Some x) h = absurd (h x refl)
@@ -166,6 +175,7 @@ live_with_key a {handle = handle} {map = map} view same is =
 module _ (keys : List (Option ℕ)) (old new : Slab StoredMap) (is : AreKeys keys old) (p key : ℕ)
     (at : get_or keys p None ≡ Some key)
     (others : (j : ℕ) → j ≢ key → get new j ≡ get old j) where
+  -- a new map under one handle's key does not change the stored maps of the other handles
   pub others_by_handle : (q : ℕ) → q ≢ p → get_or (by_handle keys new) q None ≡ get_or (by_handle keys old) q None
   others_by_handle q ne = by (get_or keys q None) refl
     where
@@ -184,18 +194,23 @@ module _ (keys : List (Option ℕ)) (old : Slab StoredMap) (is : AreKeys keys ol
   abbrev new : Slab StoredMap
   new = with_value old key f
 
+  -- the slab has the new map under the key
   pub changed_stored : get new key ≡ Some f
   changed_stored = get_or-set_same old.slots key (Some f) None (within old.slots key e there)
 
+  -- the maps under the other keys of the slab are not changed
   pub kept_entries : (j : ℕ) → j ≢ key → get new j ≡ get old j
   kept_entries j ne = get_or-set_other old.slots key j (Some f) None ne
 
+  -- the stored map of the handle is the new one
   pub changed_here : get_or (by_handle keys new) p None ≡ Some f
   changed_here = under_key new keys p key at ∙ changed_stored
 
+  -- the stored maps of the other handles are not changed
   pub changed_others : (q : ℕ) → q ≢ p → get_or (by_handle keys new) q None ≡ get_or (by_handle keys old) q None
   changed_others = others_by_handle keys old new is p key at kept_entries
 
+  -- the keys of the handles are still those of the slab
   pub changed_keys : AreKeys keys new
   changed_keys = record {
     long = is.long;
@@ -230,9 +245,11 @@ module _ (keys : List (Option ℕ)) (old new : Slab StoredMap) (is : AreKeys key
   is_new : (q j : ℕ) → q ≡ p → get_or more q None ≡ Some j → key ≡ j
   is_new q j s ej = same_at more new_key s ej
 
+  -- the stored map of the handle is the one under the new key
   pub added_here : get_or (by_handle more new) p None ≡ Some e
   added_here = under_key new more p key new_key ∙ there
 
+  -- a new key of one handle does not change the stored maps of the other handles
   pub added_others : (q : ℕ) → q ≢ p → get_or (by_handle more new) q None ≡ get_or (by_handle keys old) q None
   added_others q ne = by (get_or keys q None) refl
     where
@@ -243,6 +260,7 @@ module _ (keys : List (Option ℕ)) (old new : Slab StoredMap) (is : AreKeys key
       by (Some j) at =
           under_key new more q j (other_key q ne ∙ at) ∙ others j (unused q j at) ∙ sym (under_key old keys q j at)
 
+  -- if the slab has one map more, the keys of the handles, with the new one, are those of the slab
   pub added_keys : slab_len new ≡ slab_len old + 1 → AreKeys more new
   added_keys one = record {
     long = length-set keys p (Some key) ∙ is.long;
@@ -282,9 +300,11 @@ module _ (keys : List (Option ℕ)) (old new : Slab StoredMap) (is : AreKeys key
   not_lost : (q j : ℕ) → get_or fewer q None ≡ Some j → q ≢ p
   not_lost q j ej s = none-some j (sym lost ∙ ap (λ (i : ℕ). get_or fewer i None) (sym s) ∙ ej)
 
+  -- the handle that lost its key has no stored map
   pub removed_here : get_or (by_handle fewer new) p None ≡ None
   removed_here = no_key new fewer p lost
 
+  -- the loss of one handle's key does not change the stored maps of the other handles
   pub removed_others : (q : ℕ) → q ≢ p → get_or (by_handle fewer new) q None ≡ get_or (by_handle keys old) q None
   removed_others q ne = by (get_or keys q None) refl
     where
@@ -295,6 +315,7 @@ module _ (keys : List (Option ℕ)) (old new : Slab StoredMap) (is : AreKeys key
       by (Some j) e =
           under_key new fewer q j (kept_key q ne ∙ e) ∙ others j (another q j ne e) ∙ sym (under_key old keys q j e)
 
+  -- if the slab has one map less, the keys of the handles, without the lost one, are those of the slab
   pub removed_keys : slab_len new + 1 ≡ slab_len old → AreKeys fewer new
   removed_keys one = record {
     long = length-set keys p None ∙ is.long;

@@ -9,6 +9,7 @@ use Rattle.bpf_maps.specs.KeyTable.{KeyTable, Claims, Removes}
 use Rattle.bpf_maps.specs.Live.{LiveMap, LiveMaps, live_at, live_or, keys_at, map_in, SameAreas, KeepsMap}
 use Rattle.bpf_maps.specs.InPart.{IsValueAt, with_value, ValuesAreWritten, LiveMapsRefineValues}
 
+-- what holds in any case holds if a result is an error
 pub on_err : {T E P : Type 0} (r : Result T E) → P → OnErr r P
 on_err (Ok x) p = tt
 on_err (Err e) p = p
@@ -25,6 +26,7 @@ copied_is part copied value start at same there =
 
 -- ---- refusals
 
+-- a claim that returns a fault does not change the table of keys
 pub not_claimed : (v : map.Verdict ℕ) (key : List ℕ) (old new : KeyTable) (fault : MapFault)
     → Claims v key old (Err fault) new → new ≡ old
 not_claimed (map.Refused f) key old new fault h = h.1
@@ -34,6 +36,7 @@ not_claimed (map.Present p) key old new fault h = absurd (no_element h.0)
     no_element e = cc
 not_claimed map.New key old new fault h = absurd h
 
+-- a delete that returns a fault does not change the table of keys
 pub not_removed : (v : Result ℕ MapFault) (key : List ℕ) (old new : KeyTable) (fault : MapFault)
     → Removes v key old (Err fault) new → new ≡ old
 not_removed (Err f) key old new fault h = h.1
@@ -44,9 +47,11 @@ not_removed (Ok p) key old new fault h = absurd (no_element h.0)
 
 module _ (along : LiveMapsRefineValues) (part : List ℕ) (old new : LiveMaps) (k : ℕ)
     (areas : SameAreas old new) (live : IsSome (live_at new k)) where
+  -- a live map whose table of keys is not changed still has the same keys and values
   pub keeps : keys_at new k ≡ keys_at old k → KeepsMap k old part new part
   keeps keys was = (live, (along part old new k areas live).same keys)
 
+  -- a delete from the table of keys deletes the key from the map of values
   pub removed : (v : Result ℕ MapFault) (key : List ℕ) (done : Unit {0})
       → Removes v key (keys_at old k) (Ok done) (keys_at new k)
       → map_in part new k ≡ map.with_deleted (map_in part old k) key
@@ -56,6 +61,7 @@ module _ (along : LiveMapsRefineValues) (part : List ℕ) (old new : LiveMaps) (
       no_fault : ◌≡◌ {A = Result (Unit {0}) MapFault} (Ok done) (Err f) → ⊥
       no_fault e = cc
 
+  -- a map that the call does not change is still live, with the same keys and values
   pub others_stay : (j : ℕ) → live_at new j ≡ live_at old j → KeepsMap j old part new part
   others_stay j same was =
       let still : IsSome (live_at new j) = ap is_some same ∙ was in

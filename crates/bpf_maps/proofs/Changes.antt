@@ -34,10 +34,15 @@ less_than_held {l = l} at is =
 
 -- the map of `handle` is under `key`
 pub record IsUnder (a : Inside) (t : LiveMaps) (handle map key : ℕ) (e : StoredMap) : Type 0 where
+  -- contracts see the fields as these live maps
   pub view : as_live_maps a ≡ t
+  -- the invariant of the live maps holds
   pub whole : IsWellFormedMaps a
+  -- the handle of the call is the number that contracts see
   pub same : handle ≡ map
+  -- the handle has this key
   pub keyed : get_or a.keys handle None ≡ Some key
+  -- the slab has this map under the key
   pub here : get a.maps key ≡ Some e
 
 -- the same, from the clauses of the calls that lead to the map
@@ -50,12 +55,19 @@ is_under view whole same keyed here = record { view = view; whole = whole; same 
 
 -- it is replaced by one with the same shape and area
 pub record IsChange (a : Inside) (t : LiveMaps) (handle map key : ℕ) (old new : StoredMap) : Type 0 where
+  -- the old map is in the slab under the key of the handle
   pub under : IsUnder a t handle map key old
+  -- the offset of the area in the part is not changed
   pub start : new.start ≡ old.start
+  -- the distance from one value to the next is not changed
   pub stride : new.stride ≡ old.stride
+  -- the word with the number of elements and their distance is not changed
   pub elements : new.elements ≡ old.elements
+  -- the shape is not changed
   pub shape : (keys_in new.map).shape ≡ (keys_in old.map).shape
+  -- the new map has at least one reference
   pub held : 1 ≤ new.holds
+  -- the table of keys of the new map is sound
   pub sound : IsSound (keys_in new.map)
 
 -- a map is live
@@ -82,12 +94,15 @@ live_stored a {t = t} {handle = handle} view same live =
 
 -- it is under its key
 module _ {a : Inside} {t : LiveMaps} {handle map key : ℕ} {e : StoredMap} (u : IsUnder a t handle map key e) where
+  -- the stored map of the handle is the one under the key
   pub at_handle : get_or (stored_in a) handle None ≡ Some e
   at_handle = under_key a.maps a.keys handle key u.keyed ∙ u.here
 
+  -- the live map of the handle is the one under the key
   pub live_under : live_at t map ≡ Some (live_of e)
   live_under = live_here a u.view u.same at_handle
 
+  -- the map under the key lies in its area, has a reference, and has a sound table of keys
   pub placed_under : IsInItsArea a.bytes e
   placed_under = u.whole.placed handle e at_handle
 
@@ -102,31 +117,38 @@ module _ {a : Inside} {t : LiveMaps} {handle map key : ℕ} {old new : StoredMap
   others : (p : ℕ) → p ≢ handle → get_or (stored_in now) p None ≡ get_or (stored_in a) p None
   others = changed_others a.keys a.maps c.under.whole.keys handle key c.under.keyed old new c.under.here
 
+  -- before the change, the live map of the handle is the old one
   pub live_old : live_at t map ≡ Some (live_of old)
   live_old = live_under c.under
 
+  -- after the change, the live map of the handle is the new one
   pub live_new : live_at (as_live_maps now) map ≡ Some (live_of new)
   live_new = live_here now refl c.under.same is
 
+  -- the live maps of the other handles are not changed
   pub others_stay : (other : ℕ) → other ≢ map → live_at (as_live_maps now) other ≡ live_at t other
   others_stay other ne =
       others_by (stored_in a) (stored_in now) handle others other (λ e. ne (e ∙ c.under.same))
       ∙ ap (λ (u : LiveMaps). live_at u other) c.under.view
 
+  -- each map that is live after the change was live before it, with the same shape and the same area
   pub areas_stay : SameAreas t (as_live_maps now)
   areas_stay =
       one_changed t (as_live_maps now) map (live_of old) (live_of new) live_old live_new c.shape
       c.start c.stride others_stay
 
+  -- the invariant of the live maps holds after the change
   pub whole_stays : IsWellFormedMaps now
   whole_stays =
       whole_replaced now handle c.under.whole others old new (at_handle c.under) is c.start c.stride
       c.elements c.shape c.held c.sound refl
       (changed_keys a.keys a.maps c.under.whole.keys handle key c.under.keyed old new c.under.here) c.under.whole.room
 
+  -- after the change, the values of all live maps lie in the part and do not overlap
   pub laid_stays : IsLaid (as_live_maps now)
   laid_stays = laid whole_stays
 
+  -- all areas take as many bytes as before the change
   pub room_stays : areas (as_live_maps now) ≡ areas t
   room_stays = sym whole_stays.sum ∙ c.under.whole.sum ∙ ap areas c.under.view
 
@@ -138,12 +160,14 @@ module _ {a : Inside} {t : LiveMaps} {handle map key : ℕ} {old new : StoredMap
 
   -- ---- with the bytes, which the call leaves
 
+  -- if the bytes of the part are not changed, the values of all live maps are not changed
   pub values_stay : (bytes : List ℕ) → SameValues t bytes (as_live_maps now) bytes
   values_stay bytes k p old_live new_live lt = value_stays t (as_live_maps now) k areas_stay new_live bytes p
 
   sound_before : AreSound t
   sound_before = subst AreSound c.under.view (sound_at c.under.whole)
 
+  -- each other map that was live still is, with the same keys and values
   pub others_keep : (bytes : List ℕ) → KeepsOthers map t bytes (as_live_maps now) bytes
   others_keep bytes other ne =
       keeps_live t (as_live_maps now) bytes bytes other (values_stay bytes) (sound_before other) (others_stay other ne)
@@ -154,11 +178,13 @@ module _ {a : Inside} {t : LiveMaps} {handle map key : ℕ} {old new : StoredMap
     keys_stay : keys_at (as_live_maps now) map ≡ keys_at t map
     keys_stay = part_stays (λ l. l.keys) (ap keys_in same)
 
+    -- if only its references change, the map is still live, with the same keys and values
     pub itself_keeps : (bytes : List ℕ) → KeepsMap map t bytes (as_live_maps now) bytes
     itself_keeps bytes =
         keeps_keys t (as_live_maps now) bytes bytes map (values_stay bytes) (sound_before map)
         (ap is_some live_new) keys_stay
 
+    -- if the map had more than one reference, one reference less is the release of a reference
     pub one_held_less : new.holds ≡ old.holds - 1
         → 1 < old.holds → held_at (as_live_maps now) map ≡ one_less (held_at t map)
     one_held_less holds more =

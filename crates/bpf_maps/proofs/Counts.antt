@@ -7,10 +7,12 @@ use Rattle.std.specs.Map.{values_of}
 use Rattle.tagged_model.specs.Table.{is_key, found, without, with_key}
 use Rattle.bpf_maps.specs.KeyTable.{occurrences, IsSized}
 
+-- an element occurs in one list after another as often as in both together
 pub times-append : (p : ℕ) (xs ys : List ℕ) → occurrences p (xs ++ ys) ≡ occurrences p xs + occurrences p ys
 times-append p [] ys = omega arith
 times-append p (x ∷ xs) ys = let h = times-append p xs ys in omega arith
 
+-- an element occurs once in the list of this one element
 pub times_self : (p : ℕ) → occurrences p (p ∷ []) ≡ 1
 times_self p =
     let e : nat_eq p p ≡ true = eq-eqb p p refl in
@@ -27,6 +29,7 @@ pub times-next : (p n : ℕ) (xs : List ℕ)
     → occurrences p (xs ++ n ∷ []) ≡ (if nat_lt p (n + 1) then 1 else 0)
 times-next p n xs h = times-append p xs (n ∷ []) ∙ ap (λ (k : ℕ). k + occurrences p (n ∷ [])) h ∙ one_of p n
 
+-- the elements of two lists of entries, one after the other, are those of the first and then of the second
 pub values_of-append : {K : Type 0} (es fs : List (K × ℕ)) → values_of (es ++ fs) ≡ values_of es ++ values_of fs
 values_of-append [] fs = refl
 values_of-append (e ∷ es) fs = ap (λ r. e.1 ∷ r) (values_of-append es fs)
@@ -77,6 +80,7 @@ times-kept p key element es kept h =
     let a = times-append p kept (element ∷ []) in
     omega arith
 
+-- if all keys have one size, they have it after a key is removed
 pub sized-without : (n : ℕ) (key : List ℕ) (es : List (List ℕ × ℕ)) → IsSized n es → IsSized n (without key es)
 sized-without n key [] h = tt
 sized-without n key (e ∷ es) h = by (is_key key e.0) (sized-without n key es h.1)
@@ -85,6 +89,7 @@ sized-without n key (e ∷ es) h = by (is_key key e.0) (sized-without n key es h
     by true r = h.1
     by false r = (h.0, r)
 
+-- if all keys have one size, they have it after a key of this size is added
 pub sized-with : (n : ℕ) (key : List ℕ) (p : ℕ) (es : List (List ℕ × ℕ))
     → length key ≡ n → IsSized n es → IsSized n (with_key key p es)
 sized-with n key p [] e h = (e, tt)

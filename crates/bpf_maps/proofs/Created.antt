@@ -29,6 +29,7 @@ use Rattle.bpf_maps.proofs.Whole.{laid, sound_at, whole_added, offset_of}
 use Rattle.bpf_maps.proofs.Values.{new_map_in}
 use Rattle.bpf_maps.proofs.Stays.{keeps_live}
 
+-- if a handle is free, and the areas would not exceed LARGEST_SUM, `create` has no fault
 pub no_fault : (t : LiveMaps) (s : MapShape)
     → is_none (free_handle t) ≡ false → areas t + area_by s ≤ LARGEST_SUM
     → create_fault t s ≡ None
@@ -56,6 +57,7 @@ full_fault t s full =
 -- there is no room
 module _ {a : Inside} {t : LiveMaps} (shape : MapShape) {size : ℕ} (view : as_live_maps a ≡ t)
     (h : IsWellFormedMaps a) (size_is : size ≡ area_by shape) where
+  -- if no handle is free, or the areas would exceed LARGEST_SUM, `create` returns NoSpace and changes nothing
   pub creates_full : (position is_none a.keys ≡ None) ⊎ (LARGEST_SUM < a.bytes + size)
       → Creates (create_fault t shape) t shape (Err NoSpace) t
   creates_full full =
@@ -69,25 +71,41 @@ module _ {a : Inside} {t : LiveMaps} (shape : MapShape) {size : ℕ} (view : as_
 
 -- there is room for another map, at this handle
 pub record IsRoom (a : Inside) (t : LiveMaps) (shape : MapShape) (size handle : ℕ) : Type 0 where
+  -- contracts see the fields as these live maps
   pub view : as_live_maps a ≡ t
+  -- the invariant of the live maps holds
   pub whole : IsWellFormedMaps a
+  -- the size is that of the area of a map of this shape
   pub size_is : size ≡ area_by shape
+  -- the handle is the lowest one without a key
   pub free : position is_none a.keys ≡ Some handle
+  -- with the new one, the areas do not exceed LARGEST_SUM
   pub room : a.bytes + size ≤ LARGEST_SUM
 
 -- the map is in the slab, and its key is that of the handle
 pub record IsAdded (a : Inside) (shape : MapShape) (spares : SpareMaps) (keys : List (Option ℕ))
     (maps : Slab StoredMap) (handle key : ℕ) (e : StoredMap) : Type 0 where
+  -- the handle gets this key, and no other handle's key changes
   pub keys_are : keys ≡ set a.keys handle (Some key)
+  -- the slab had no map under this key
   pub was : get a.maps key ≡ None
+  -- the slab has the new map under this key
   pub there : get maps key ≡ Some e
+  -- no map under another key is changed
   pub others : (j : ℕ) → j ≢ key → get maps j ≡ get a.maps j
+  -- the slab has one map more
   pub len : slab_len maps ≡ slab_len a.maps + 1
+  -- the capacity of the slab is not changed
   pub capacity : maps.capacity ≡ a.maps.capacity
+  -- the table of keys is that of a new map of this shape
   pub table : keys_in e.map ≡ new_keys shape
+  -- the area begins after the stack, the context and all other areas
   pub start : e.start ≡ STACK_AND_CONTEXT + a.bytes
+  -- the distance from one value to the next is the value's size, rounded up to a multiple of eight
   pub stride : e.stride ≡ (shape.value_size + 7) / 8 * 8
+  -- the elements are those of a map of this shape, as one word
   pub elements : e.elements ≡ word_of (elements_of shape)
+  -- the map has one reference
   pub holds : e.holds ≡ 1
 
 -- the fields with it
@@ -114,6 +132,7 @@ module _ {a : Inside} {t : LiveMaps} {shape : MapShape} {size handle : ℕ} (r :
       by None is = refl
       by (Some key) is = absurd (true≢false (sym is))
 
+  -- the free handle is less than MAPS
   pub below : handle < MAPS
   below = let l = front.0 in let long = h.keys.long in omega arith
 
@@ -129,6 +148,7 @@ module _ {a : Inside} {t : LiveMaps} {shape : MapShape} {size handle : ℕ} (r :
       ∙ no_fault (as_live_maps a) shape (ap is_none (ap free_handle view ∙ lowest))
       (let s = h.sum in let z = r.size_is in let m = r.room in omega arith)
 
+  -- before the creation, the handle has no live map
   pub was_none : live_at t handle ≡ None
   was_none = ap (λ (u : LiveMaps). live_at u handle) (sym view) ∙ none_by (stored_in a) (stored_in a) handle empty
 
@@ -174,12 +194,14 @@ module _ {a : Inside} {t : LiveMaps} {shape : MapShape} {size handle : ℕ} (r :
     others_stay q ne =
         others_by (stored_in a) (stored_in after) handle others q ne ∙ ap (λ (u : LiveMaps). live_at u q) view
 
+    -- a map that was live before the creation is not changed
     pub older_stay : (k : ℕ) → IsSome (live_at t k) → live_at (as_live_maps after) k ≡ live_at t k
     older_stay k live = others_stay k (λ e. true≢false (sym live ∙ ap is_some (ap (live_at t) e ∙ was_none)))
 
     keys_one : keys_at (as_live_maps after) handle ≡ new_keys shape
     keys_one = told_of (λ l. l.keys) live_new ∙ d.table
 
+    -- with the new map stored, the result and the effect are those of a `create` that returns the handle
     pub creates_one : Creates (create_fault t shape) t shape (Ok handle) (as_live_maps after)
     creates_one =
         subst (λ (o : Option MapFault). Creates o t shape (Ok handle) (as_live_maps after)) (sym no_fault_here)
@@ -202,6 +224,7 @@ module _ {a : Inside} {t : LiveMaps} {shape : MapShape} {size handle : ℕ} (r :
     elements_there : e.elements ≡ word_of (elements_of (keys_in e.map).shape)
     elements_there = d.elements ∙ ap (λ (q : KeyTable). word_of (elements_of q.shape)) (sym d.table)
 
+    -- the invariant of the live maps holds with the new map
     pub whole_one : IsWellFormedMaps after
     whole_one =
         let x : area_by (keys_in e.map).shape ≡ area_by shape = ap (λ (q : KeyTable). area_by q.shape) d.table in
@@ -214,6 +237,7 @@ module _ {a : Inside} {t : LiveMaps} {shape : MapShape} {size handle : ℕ} (r :
         (added_keys a.keys a.maps maps h.keys handle key free below d.was e d.there d.others d.len))
         (omega arith)
 
+    -- with the new map, the values of all live maps lie in the part and do not overlap
     pub laid_one : IsLaid (as_live_maps after)
     laid_one = laid whole_one
 
@@ -221,6 +245,7 @@ module _ {a : Inside} {t : LiveMaps} {shape : MapShape} {size handle : ℕ} (r :
     pub last_one : start_at (as_live_maps after) handle ≡ STACK_AND_CONTEXT + areas t
     last_one = told_of (λ l. l.start) live_new ∙ d.start ∙ ap (λ (n : ℕ). STACK_AND_CONTEXT + n) (h.sum ∙ ap areas view)
 
+    -- all areas take more bytes than before, by the area of the new map
     pub more_one : areas (as_live_maps after) ≡ areas t + area_by shape
     more_one =
         let bytes = whole_one.sum in
@@ -238,12 +263,14 @@ module _ {a : Inside} {t : LiveMaps} {shape : MapShape} {size handle : ℕ} (r :
       enough : STACK_AND_CONTEXT + a.bytes + size ≤ length bytes
       enough = let m = r.room in omega arith
 
+      -- zeros in the new area do not change the stack and the context
       pub front_kept : take STACK_AND_CONTEXT later ≡ take STACK_AND_CONTEXT bytes
       front_kept =
           ap (take STACK_AND_CONTEXT) written
           ∙ front_same bytes (replicate size 0) (STACK_AND_CONTEXT + a.bytes) size
           (length-replicate size 0) enough STACK_AND_CONTEXT (omega arith)
 
+      -- each value of the new map is zeros
       pub cleared_one : (p : ℕ)
           → p < shape.max_entries
           → value_in later (as_live_maps after) handle p ≡ replicate shape.value_size 0
@@ -273,6 +300,7 @@ module _ {a : Inside} {t : LiveMaps} {shape : MapShape} {size handle : ℕ} (r :
           (length-replicate size 0) enough (offset (live_of f) p)
           s.value_size (omega arith)
 
+      -- zeros in the new area do not change the values of the maps that were live
       pub values_kept : SameValues t bytes (as_live_maps after) later
       values_kept j p old_live new_live l =
           same_or_other j handle
@@ -286,11 +314,13 @@ module _ {a : Inside} {t : LiveMaps} {shape : MapShape} {size handle : ℕ} (r :
           ∙ ap (λ (x : Option LiveMap). take (live_or x).keys.shape.value_size (drop (offset (live_or x) p) bytes))
           (sym f.2))
 
+      -- with its values in the part, the map of the handle is a new map of this shape whose values are zeros
       pub fresh_one : map_in later (as_live_maps after) handle ≡ new_table (λ i. replicate shape.value_size 0) shape
       fresh_one =
           new_map_in later (as_live_maps after) handle shape (replicate shape.value_size 0) keys_one
           (λ array. cleared_one)
 
+      -- each map that was live still is, with the same keys and values
       pub maps_kept : KeepsMaps t bytes (as_live_maps after) later
       maps_kept k live =
           keeps_live t (as_live_maps after) bytes later k values_kept
@@ -299,6 +329,7 @@ module _ {a : Inside} {t : LiveMaps} {shape : MapShape} {size handle : ℕ} (r :
 
 -- ---- a creation that returns a key
 
+-- if `create` returns a handle, this was the lowest free one, has a new map, and nothing else has changed
 pub created : (f : Option MapFault) (old new : LiveMaps) (s : MapShape) (k : ℕ)
     → Creates f old s (Ok k) new → IsCreated old s k new
 created None old new s k h = h

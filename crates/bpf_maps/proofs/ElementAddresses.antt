@@ -30,6 +30,7 @@ few_elements : (d : MapKind) (n : ℕ) → n < 2 ^ 32 → element_count d n < 2 
 few_elements Array n small = small
 few_elements Hash n small = omega arith
 
+-- the low half of the word of elements is their number, and the high half the distance of their values
 pub elements_from : (s : MapShape) (w : ℕ)
     → w ≡ word_of (elements_of s)
     → (w % 2 ^ 32 ≡ (elements_of s).count) × (w / 2 ^ 32 ≡ (elements_of s).stride)
@@ -93,15 +94,19 @@ module _ (t : LiveMaps) (k : ℕ) (e : Elements) (is : e ≡ elements_at t k) (s
       within : i < (shape_at t k).max_entries
       within = let count = is_array.1 in omega arith
 
+      -- the look-up of an index in range finds the index
       pub element : Some i ≡ look_up (table_of (keys_at t k)) key
       element = found_at true (lt-ltb i (shape_at t k).max_entries within)
 
+      -- the value of an index in range lies in the part
       pub element_lies : LiesInPart (offset_at t k i) (shape_at t k).value_size
       element_lies = laid_inside t laid k i live within
 
+      -- the value of an index in range is at most PART bytes after that of index 0
       pub element_small : i * e.stride ≤ PART
       element_small = let lies = element_lies.within in let at = offset_along i in omega arith
 
+      -- the address that is computed from that of index 0 is the address of the value that the look-up finds
       pub element_address : (first part : ℕ)
           → first ≡ part + offset_at t k 0
           → (first + i * e.stride) % 2 ^ 64 ≡ value_address part t k (look_up (table_of (keys_at t k)) key)

@@ -59,15 +59,18 @@ apart_elements value stride start p q round ne =
 
 -- the start of a later area after that
 module _ (end size start : ℕ) where
+  -- an area that begins at the end of the removed one or later is moved down by its size
   pub lower : end ≤ start → start_without end size start ≡ start - size
   lower l = ap (λ (b : Bool). if b then start - size else start) (le-leb end start l)
 
+  -- an area that begins before the end of the removed one is not moved
   pub same : start < end → start_without end size start ≡ start
   same l = ap (λ (b : Bool). if b then start - size else start) (lt-leb end start l)
 
 -- an area of n bytes at s, apart from the area of `size` bytes at `gone` that is freed: it lies before that one and is not moved, or
 -- it lies after it and is moved down
 module _ (gone size s n : ℕ) (apart : (gone + size ≤ s) ⊎ (s + n ≤ gone)) where
+  -- the area lies before the removed one and is not moved, or after it and is moved down by its size
   pub before_or_behind : ((s + n ≤ gone) × (start_without (gone + size) size s ≡ s))
       ⊎ ((gone + size ≤ s) × (start_without (gone + size) size s ≡ s - size))
   before_or_behind =

@@ -94,6 +94,7 @@ module _ (part : List ℕ) (t : LiveMaps) (k p : ℕ) (bytes : List ℕ) (is : I
     size = length_same part bytes start (length bytes) refl room ∙ is.whole;
   }
 
+-- a value that is written is that of the element and of its key, and no other value changes
 pub value_written : (part : List ℕ) (t : LiveMaps) (k p : ℕ) (bytes : List ℕ)
     → IsValueAt part t k p bytes → ValueIsWritten part t k p bytes
 value_written = value_is_written
@@ -208,6 +209,7 @@ module _ (along : CallsRefineValues ℕ (List ℕ)) (tell : MapVerdictsMatchLook
         ∙ ap (λ v. updated v (map_in part old k) key bytes)
         (sym (along.verdict value (table_of (keys_at old k)) key flags))
 
+-- if the areas are not changed, the map of values changes as the map of elements does
 pub goes_along : CallsRefineValues ℕ (List ℕ)
     → MapVerdictsMatchLookUps ℕ
     → (part : List ℕ) (old new : LiveMaps) (k : ℕ) → SameAreas old new

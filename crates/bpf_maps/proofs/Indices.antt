@@ -13,6 +13,7 @@ itself i = i
 
 -- ---- the key of an index
 
+-- the key of an index has four bytes
 pub length_of_key : (i : ℕ) → length (index_key i) ≡ 4
 unfolding index_key
 length_of_key i = refl
@@ -39,6 +40,7 @@ same_key i j hi hj = by (nat_eq i j) refl (is_key (index_key i) (index_key j)) r
 behind_first : (a b : ℕ) → b ≤ a → nat_eq a b ≡ false → b + 1 ≤ a
 behind_first a b h f = grind (arith, nat_tests)
 
+-- the look-up of an index in a range of indices finds the index if it is in the range, else nothing
 pub found_index : (first n k : ℕ)
     → first + n ≤ 2 ^ 32 → k < 2 ^ 32
     → first ≤ k
@@ -68,6 +70,7 @@ found_index first (suc n) k h s l =
 
 -- ---- the key that follows
 
+-- the first key of a range of indices is that of its first index, unless the range is empty
 pub first_index : (first n : ℕ)
     → first_key (indexed itself first n) ≡ (if nat_lt 0 n then Some (index_key first) else None)
 unfolding indexed
@@ -141,6 +144,7 @@ after_other n key h =
 
 -- ---- the elements
 
+-- a range of n indices has n entries
 pub length_indexed : (first n : ℕ) → length (indexed itself first n) ≡ n
 unfolding indexed
 length_indexed first zero = refl
@@ -163,6 +167,7 @@ times_indexed p first (suc n) =
     let e : below p (first + 1 + n) ≡ below p (first + suc n) = ap (below p) (omega arith) in
     omega arith
 
+-- each index of an array is the element of one of its entries, and no other number is an element
 pub once_indexed : (p n : ℕ) → occurrences p (values_of (indexed itself 0 n)) ≡ (if nat_lt p n then 1 else 0)
 once_indexed p n =
     let t = times_indexed p 0 n in
@@ -170,6 +175,7 @@ once_indexed p n =
     let s : below p (0 + n) ≡ below p n = ap (below p) (omega arith) in
     omega arith
 
+-- the keys of a range of indices have four bytes
 pub sized_indexed : (first n : ℕ) → IsSized 4 (indexed itself first n)
 unfolding indexed
 sized_indexed first zero = tt

@@ -2,6 +2,7 @@
 use Rattle.std.proofs.Common.{◌≡◌, ℕ, zero, suc, ◌-◌, ◌≤◌, List, [], ◌∷◌, ◌++◌, length, drop, replicate, ap, ◌∙◌, arith}
 use Rattle.std.proofs.lemmas.List.{length-replicate}
 
+-- n zeros whose front is overwritten by a key are still n bytes, with zeros after the key
 pub filled : (bytes : List ℕ) (n : ℕ)
     → length bytes ≤ n
     → (length (bytes ++ drop (length bytes) (replicate n 0)) ≡ n)

@@ -17,6 +17,7 @@ use Rattle.tagged_model.specs.declared.shape.MapShape.{MapShape}
 use Rattle.bpf_maps.proofs.Counts.{IsSum, times-append, times_self, values_of-append, sum-without, sum-split, sized-without, sized-with}
 use Rattle.bpf_maps.proofs.Shapes.{hash_no_array}
 
+-- the table of keys of a well-formed hash map is sound
 pub sound : {a : Inside} → IsWellFormedHash a → IsSound (shown a)
 sound {a} h = record {
   once = λ p.
@@ -159,6 +160,7 @@ module _ {a : Inside} (h : IsWellFormedHash a) (element : ℕ)
       ∙ take-suc a.spare.items n element (omega arith)
       ∙ ap (λ (p : ℕ). rest ++ p ∷ []) (sym last)
 
+  -- without the last spare element, the same elements are kept apart
   pub same_kept : take a.kept rest ≡ take a.kept a.spare.items
   same_kept =
       let len = a.spare.ok.0 in let more = fewer in take-take a.kept (vec_len a.spare - 1) a.spare.items (omega arith)
@@ -180,6 +182,7 @@ module _ {a : Inside} (h : IsWellFormedHash a) (element : ℕ)
       let g = h.once element in
       omega arith
 
+  -- the last spare element is free
   pub is_free : IsFree (shown a) element
   is_free =
       let z = zero_by (nat_lt element a.shape.max_entries) _ counted in
@@ -191,6 +194,7 @@ module _ {a : Inside} (h : IsWellFormedHash a) (element : ℕ)
         kept = omega arith;
       }
 
+  -- a hash map with a spare element that is not kept apart is not full
   pub not_full : is_full (table_of (shown a)) ≡ false
   not_full =
       let g = h.all in

@@ -16,8 +16,11 @@ with_map e map = record { map = map; start = e.start; stride = e.stride; element
 -- the map of `handle`, which is under `key`, has another table
 pub record IsKeyChange (a : Inside) (t : LiveMaps) (handle map key : ℕ) (old : StoredMap)
     (table : BpfMap) : Type 0 where
+  -- the old map is in the slab under the key of the handle
   pub under : IsUnder a t handle map key old
+  -- the new table has the shape of the old one
   pub shape : (keys_in table).shape ≡ (keys_in old.map).shape
+  -- the new table is sound
   pub sound : IsSound (keys_in table)
 
 module _ {a : Inside} {t : LiveMaps} {handle map key : ℕ} {old : StoredMap} {table : BpfMap}
@@ -36,15 +39,19 @@ module _ {a : Inside} {t : LiveMaps} {handle map key : ℕ} {old : StoredMap} {t
     sound = c.sound;
   }
 
+  -- before the change, the live map of the handle has the old table of keys
   pub keys_before : keys_in old.map ≡ keys_at t map
   keys_before = sym (told_of (λ l. l.keys) (live_old change))
 
+  -- after the change, the live map of the handle has the new table of keys
   pub keys_after : keys_in table ≡ keys_at (as_live_maps after) map
   keys_after = sym (told_of (λ l. l.keys) (live_new change))
 
+  -- the invariant of the live maps holds with the new table of keys
   pub keys_whole : IsWellFormedMaps after
   keys_whole = whole_stays change
 
+  -- only the map of the handle has changed, and only in its keys and their elements
   pub only_keys : OnlyKeysChange map t (as_live_maps after)
   only_keys = record {
     live = ap is_some (live_new change);

@@ -38,6 +38,7 @@ module _ {K : Type 0} (bytes : K → List ℕ) where
       by true f r = f
       by false f r = r
 
+  -- the next entry of keys that are kept as numbers represents the next entry of keys as bytes
   pub next_shown : (element : Option ℕ) (es : List (K × ℕ))
       → next_entry element (shown_by bytes es) ≡ option_map shown_one (next_entry element es)
   next_shown None es = first_shown es
@@ -92,15 +93,18 @@ behind_index p first (suc n) le = by (nat_eq p first) refl (behind_index p (firs
         ∙ ap (λ (i : ℕ). index_entry i (first + suc n)) next
     by false e r = r (above e) ∙ ap (index_entry (p + 1)) end
 
+-- the next entry in an array is that of the next index, or of index 0 if no element is given
 pub next_index : (element : Option ℕ) (n : ℕ)
     → next_entry element (indexed itself 0 n) ≡ index_entry (option_map_or (λ p. p + 1) element 0) n
 next_index None n = let none : 0 + n ≡ n = omega arith in first_index 0 n ∙ ap (index_entry 0) none
 next_index (Some p) n =
     let none : 0 + n ≡ n = omega arith in behind_index p 0 n (omega arith) ∙ ap (index_entry (p + 1)) none
 
+-- an index that is not in range has no entry
 pub no_index : (i n : ℕ) → n ≤ i → index_entry i n ≡ None
 no_index i n past = ap (λ (b : Bool). if b then placed i else None) (le-ltb i n past)
 
+-- the entry of an index in range has the index's key, and the index for its element
 pub some_index : (i n : ℕ) (key : List ℕ) → i < n → key ≡ index_key i → index_entry i n ≡ Some (key, i)
 some_index i n key below is =
     ap (λ (b : Bool). if b then placed i else None) (lt-ltb i n below)
@@ -147,6 +151,7 @@ next_occurs : (element : Option ℕ) (es : List (List ℕ × ℕ)) (e : List ℕ
 next_occurs None es e is = first_occurs es e is
 next_occurs (Some p) es e is = behind_occurs p es e is
 
+-- the element of the next entry is less than `max_entries`
 pub next_within : (t : KeyTable) (element : Option ℕ) (o : Option (KeyRef × ℕ))
     → IsSound t
     → option_map shown_entry o ≡ next_entry element t.entries

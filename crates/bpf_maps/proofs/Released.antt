@@ -22,31 +22,45 @@ use Rattle.bpf_maps.proofs.Whole.{laid, sound_at, offset_of, offset_without, bes
 
 -- the map that is taken out is the one of the handle
 pub record IsTaken (a : Inside) (t : LiveMaps) (handle map key : ℕ) (old gone : StoredMap) : Type 0 where
+  -- the map of the handle is in the slab under its key
   pub under : IsUnder a t handle map key old
+  -- the map that is taken out is the one under this key
   pub value : get (with_value a.maps key old) key ≡ Some gone
 
 -- the keys and the slab without it
 pub record IsLeft (a : Inside) (handle key : ℕ) (old : StoredMap) (keys : List (Option ℕ))
     (left : Slab StoredMap) : Type 0 where
+  -- the handle loses its key, and no other handle's key changes
   pub keys_are : keys ≡ set a.keys handle None
+  -- the slab has no map under the lost key
   pub gap : get left key ≡ None
+  -- no map under another key is changed
   pub others : (j : ℕ) → j ≢ key → get left j ≡ get (with_value a.maps key old) j
+  -- the slab has one map less
   pub len : slab_len left + 1 ≡ slab_len (with_value a.maps key old)
+  -- the capacity of the slab is not changed
   pub capacity : left.capacity ≡ a.maps.capacity
 
 -- the maps after it are moved down, with these keys
 pub record IsClosed (keys : List (Option ℕ)) (end size : ℕ) (left maps : Slab StoredMap) : Type 0 where
+  -- each map whose area began at `end` or later begins lower by `size`, and nothing else of the maps changes
   pub each : (p : ℕ)
       → get_or (by_handle keys maps) p None ≡ option_map (closed_up end size) (get_or (by_handle keys left) p None)
+  -- the keys of the handles are those of the slab
   pub are_keys : AreKeys keys maps
+  -- the capacity of the slab is not changed by the move
   pub capacity : maps.capacity ≡ left.capacity
 
 -- the map is removed: it is taken out, and the later ones move down by the size of its area
 pub record Goes (a : Inside) (t : LiveMaps) (handle map key size : ℕ) (old gone : StoredMap)
     (keys : List (Option ℕ)) (left maps : Slab StoredMap) (spares : SpareMaps) : Type 0 where
+  -- the map that is taken out of the slab is the one of the handle
   pub taken : IsTaken a t handle map key old gone
+  -- the size is that of the map's area
   pub size_is : size ≡ area_of (live_of gone)
+  -- the handle has lost its key and the slab this map, and nothing else has changed
   pub rest : IsLeft a handle key old keys left
+  -- the maps whose areas are after the removed one move down by its size
   pub closed : IsClosed keys (gone.start + size) size left maps
 
 -- the fields without it
@@ -80,9 +94,11 @@ module _ {a : Inside} {t : LiveMaps} {handle map key : ℕ} {old gone : StoredMa
   gone_behind : STACK_AND_CONTEXT ≤ gone.start
   gone_behind = (whole.placed handle gone was_there).behind
 
+  -- the removed area lies in the bytes that all areas take
   pub gone_within : gone.start + area_of (live_of gone) ≤ STACK_AND_CONTEXT + a.bytes
   gone_within = (whole.placed handle gone was_there).within
 
+  -- the removed area is at most as long as all areas together
   pub size_most : {size : ℕ} → size ≡ area_of (live_of gone) → size ≤ a.bytes
   size_most is =
       let s = whole.sum in
@@ -94,6 +110,7 @@ module _ {a : Inside} {t : LiveMaps} {handle map key : ℕ} {old gone : StoredMa
   keys_before = changed_keys a.keys a.maps whole.keys handle key c.under.keyed old old c.under.here
 
   module _ {keys : List (Option ℕ)} {left : Slab StoredMap} (l : IsLeft a handle key old keys left) where
+    -- after the map is taken out, the keys of the handles are those of the slab
     pub left_keys : AreKeys keys left
     left_keys =
         subst (λ (ks : List (Option ℕ)). AreKeys ks left) (sym l.keys_are)
@@ -140,6 +157,7 @@ module _ {a : Inside} {t : LiveMaps} {handle map key size : ℕ} {old gone : Sto
   bytes_now : a.bytes - size + area_of (live_of gone) ≡ a.bytes
   bytes_now = let m = size_most g.taken g.size_is in let s = g.size_is in omega arith
 
+  -- the invariant of the live maps holds without the removed map
   pub whole_gone : IsWellFormedMaps new
   whole_gone =
       let room = was_whole.room in
@@ -147,12 +165,14 @@ module _ {a : Inside} {t : LiveMaps} {handle map key size : ℕ} {old gone : Sto
       let still = g.closed.capacity in
       whole_removed new handle was_whole gone was empty closed bytes_now g.closed.are_keys (omega arith)
 
+  -- after the removal, the values of all live maps lie in the part and do not overlap
   pub laid_gone : IsLaid (as_live_maps new)
   laid_gone = laid whole_gone
 
   live_gone : live_at t map ≡ Some (live_of gone)
   live_gone = live_here a g.taken.under.view g.taken.under.same was
 
+  -- all areas take fewer bytes than before, by the area of the removed map
   pub freed_gone : areas t ≡ areas (as_live_maps new) + area_by (shape_at t map)
   freed_gone =
       let shape : area_by (shape_at t map) ≡ area_of (live_of gone) = told_of (λ (x : LiveMap). area_of x) live_gone in
@@ -163,6 +183,7 @@ module _ {a : Inside} {t : LiveMaps} {handle map key size : ℕ} {old gone : Sto
       let is = g.size_is in
       omega arith
 
+  -- after the removal, the handle has no live map
   pub none_now : live_at (as_live_maps new) map ≡ None
   none_now =
       ap (λ (p : ℕ). get_or (live_maps_of (stored_in new)) p None) (sym g.taken.under.same)
@@ -179,16 +200,19 @@ module _ {a : Inside} {t : LiveMaps} {handle map key size : ℕ} {old gone : Sto
       ∙ ap (option_map (map_without (live_of gone)))
       (sym (at_lives (stored_in a) p) ∙ ap (λ (u : LiveMaps). live_at u p) g.taken.under.view)
 
+  -- each area after the removed one begins lower by its size, and nothing else of the other maps changes
   pub closes_up : ClosesUp map t (as_live_maps new)
   closes_up p ne =
       lives_close p (λ e. ne (e ∙ g.taken.under.same))
       ∙ ap (λ (o : Option LiveMap). option_map (map_without (live_or o)) (live_at t p)) (sym live_gone)
 
+  -- if the map had at most one reference, its removal is the release of a reference
   pub less_gone : old.holds ≤ 1 → held_at (as_live_maps new) map ≡ one_less (held_at t map)
   less_gone last =
       none_held t (as_live_maps new) map live_gone none_now
       (subst (λ (e : StoredMap). e.holds ≤ 1) (is_gone g.taken) last)
 
+  -- the removal does not change the keys and the references of another map
   pub others_gone : (p : ℕ) → p ≢ map → held_at (as_live_maps new) p ≡ held_at t p
   others_gone p ne =
       ap (option_map without_area) (lives_close p (λ e. ne (e ∙ g.taken.under.same)))
@@ -219,6 +243,7 @@ module _ {a : Inside} {t : LiveMaps} {handle map key size : ℕ} {old gone : Sto
     room : gone.start + many ≤ length bytes
     room = let w = gone_within g.taken in let p = in_part in omega arith
 
+    -- the move of the areas does not change the stack and the context
     pub front_gone : take STACK_AND_CONTEXT later ≡ take STACK_AND_CONTEXT bytes
     front_gone =
         ap (take STACK_AND_CONTEXT) written
@@ -275,6 +300,7 @@ module _ {a : Inside} {t : LiveMaps} {handle map key size : ℕ} {old gone : Sto
         (before_or_behind gone.start (area_of (live_of gone)) f.start (area_of (live_of f))
         (beside new handle was_whole gone was empty closed bytes_now j f ne ft))
 
+    -- the move of the areas does not change the values of the maps that are still live
     pub values_gone : SameValues t bytes (as_live_maps new) later
     values_gone j p old_live new_live l =
         let ne : j ≢ map =
@@ -288,6 +314,7 @@ module _ {a : Inside} {t : LiveMaps} {handle map key size : ℕ} {old gone : Sto
         ∙ ap (λ (x : Option LiveMap). take (live_or x).keys.shape.value_size (drop (offset (live_or x) p) bytes))
         (sym f.2)
 
+    -- each other map that was live still is, with the same keys and values
     pub others_kept : KeepsOthers map t bytes (as_live_maps new) later
     others_kept other ne =
         keeps_held t (as_live_maps new) bytes later other values_gone

@@ -28,6 +28,7 @@ value_fits_room s = value_fits s.kind s.key_size s.value_size s.max_entries s.li
 few : (k : MapKind) (key value max : ℕ) → IsTrue (is_shape k key value max) → max ≤ most_entries
 few k key value max h = within 1 most_entries max (and_parts _ _ (and_parts _ _ (and_parts _ _ h).0).0).1
 
+-- the maximum of entries of a shape is at most `most_entries`
 pub few_entries : (s : MapShape) → s.max_entries ≤ most_entries
 few_entries s = few s.kind s.key_size s.value_size s.max_entries s.listed
 
@@ -36,6 +37,7 @@ key_of_array Array key value max e h =
     eqb-true key 4 (and_parts _ _ (and_parts _ _ (and_parts _ _ (and_parts _ _ h).0).0).0).0
 key_of_array Hash key value max e h = cc
 
+-- the keys of an array have four bytes
 pub array_key : (s : MapShape) → s.kind ≡ Array → s.key_size ≡ 4
 array_key s e = key_of_array s.kind s.key_size s.value_size s.max_entries e s.listed
 

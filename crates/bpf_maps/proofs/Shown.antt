@@ -27,12 +27,14 @@ module _ {K : Type 0} (bytes : K → List ℕ) where
     Tests [] = Unit {0}
     Tests (e ∷ es) = (test e.0 ≡ is_key key (bytes e.0)) × Tests es
 
+    -- a look-up by the test has the result of a look-up of the key's bytes
     pub found_shown : (es : List (K × ℕ)) → Tests es → lookup test es ≡ found key (view es)
     found_shown [] h = refl
     found_shown (e ∷ es) h =
         ap (λ (b : Bool). cond b (Some e.1) (lookup test es)) h.0
         ∙ ap (cond (is_key key (bytes e.0)) (Some e.1)) (found_shown es h.1)
 
+    -- the removal of the first key that passes the test is the removal of the key's bytes
     pub without_shown : (es : List (K × ℕ)) → Tests es → view (remove_entry test es) ≡ without key (view es)
     without_shown [] h = refl
     without_shown (e ∷ es) h =
@@ -42,6 +44,7 @@ module _ {K : Type 0} (bytes : K → List ℕ) where
 
     -- ---- the key that follows
 
+    -- the key after the first that passes the test has the bytes of the key after `key`
     pub behind_shown : (es : List (K × ℕ))
         → Tests es → option_map bytes (key_behind_passing test es) ≡ key_behind key (view es)
     behind_shown [] h = refl
@@ -56,6 +59,7 @@ module _ {K : Type 0} (bytes : K → List ℕ) where
         by true r = first_shown es
         by false r = r
 
+    -- the next key by the test has the bytes of the next key by `key`, which is the first key if none passes
     pub following_shown : (es : List (K × ℕ))
         → Tests es → option_map bytes (key_following test es) ≡ key_after key (view es)
     following_shown es h =
@@ -79,26 +83,31 @@ module _ {K : Type 0} (bytes : K → List ℕ) where
 
   -- ---- a new key
 
+  -- an index with a new key at its end represents the entries with the bytes of this key at their end
   pub added_shown : (es fs : List (K × ℕ)) (own : K) (key : List ℕ) (element : ℕ)
       → bytes own ≡ key → fs ≡ es ++ (own, element) ∷ []
       → view fs ≡ with_key key element (view es)
   added_shown es fs own key element is e =
       ap view e ∙ shown_by-append es ((own, element) ∷ []) ∙ ap (λ (k : List ℕ). view es ++ (k, element) ∷ []) is
 
+  -- the entries that an index represents have the elements of the index, in the same order
   pub values_shown : (es : List (K × ℕ)) → values_of (view es) ≡ values_of es
   values_shown [] = refl
   values_shown (e ∷ es) = ap (λ (xs : List ℕ). e.1 ∷ xs) (values_shown es)
 
 -- ---- results
 
+-- of what holds on Ok and what holds on Err, one holds
 pub ok_or_err : {X E : Type 0} {P Q : Type 0} (r : Result X E) → OnOk r P → OnErr r Q → P ⊎ Q
 ok_or_err (Ok x) p q = inl p
 ok_or_err (Err e) p q = inr q
 
+-- what follows from a property that holds on Ok holds on Ok
 pub on_ok_then : {X E : Type 0} {P Q : Type 0} (r : Result X E) → (P → Q) → OnOk r P → OnOk r Q
 on_ok_then (Ok x) f p = f p
 on_ok_then (Err e) f p = p
 
+-- what holds if a result is Ok holds if the result is not Err
 pub on_ok : {X E : Type 0} {P : Type 0} (r : Result X E) → is_err r ≡ false → OnOk r P → P
 on_ok (Ok x) e p = p
 on_ok (Err x) e p = absurd (true≢false e)

@@ -5,12 +5,14 @@ use Rattle.bpf_maps.specs.declared.stored_map.StoredMap.{StoredMap}
 use Rattle.bpf_maps.specs.Live.{LiveMap, LiveMaps, live_at, live_or, shape_at, offset, offset_at, value_in, SameAreas}
 use Rattle.bpf_maps.specs.InMaps.{live_of, live_maps_of}
 
+-- the live map at an index is the stored map at this index, as contracts see it
 pub at_lives : (xs : List (Option StoredMap)) (k : ℕ)
     → get_or (live_maps_of xs) k None ≡ option_map live_of (get_or xs k None)
 at_lives [] k = refl
 at_lives (x ∷ xs) zero = refl
 at_lives (x ∷ xs) (suc k) = at_lives xs k
 
+-- an index with a stored map is less than the length of the list
 pub within : (xs : List (Option StoredMap)) (k : ℕ) (e : StoredMap) → get_or xs k None ≡ Some e → k < length xs
 within [] k e h = absurd (none-some e h)
 within (x ∷ xs) zero e h = omega arith
@@ -26,6 +28,7 @@ stored_of xs k l h = by (get_or xs k None) refl
     by None e = absurd (none-some l (sym (ap (option_map live_of) e) ∙ sym (at_lives xs k) ∙ h))
     by (Some x) e = (x, e, same_Some (live_of x) l (sym (ap (option_map live_of) e) ∙ sym (at_lives xs k) ∙ h))
 
+-- an index with a live map has a stored map
 pub some_stored : (xs : List (Option StoredMap)) (k : ℕ)
     → IsSome (get_or (live_maps_of xs) k None) → (e : StoredMap) × (get_or xs k None ≡ Some e)
 some_stored xs k h = by (get_or xs k None) refl
@@ -35,9 +38,11 @@ some_stored xs k h = by (get_or xs k None) refl
     by (Some x) e = (x, e)
 
 module _ (xs ys : List (Option StoredMap)) (k : ℕ) where
+  -- an index with a stored map has this map as its live map
   pub live_by : (e : StoredMap) → get_or xs k None ≡ Some e → get_or (live_maps_of xs) k None ≡ Some (live_of e)
   live_by e at = at_lives xs k ∙ ap (option_map live_of) at
 
+  -- an index without a stored map has no live map
   pub none_by : get_or xs k None ≡ None → get_or (live_maps_of xs) k None ≡ None
   none_by at = at_lives xs k ∙ ap (option_map live_of) at
 
@@ -47,12 +52,14 @@ module _ (xs ys : List (Option StoredMap)) (k : ℕ) where
       → get_or (live_maps_of ys) l None ≡ get_or (live_maps_of xs) l None
   others_by h l ne = at_lives ys l ∙ ap (option_map live_of) (h l ne) ∙ sym (at_lives xs l)
 
+-- a value has the same offset in two maps with equal starts and equal distances of values
 pub offset_same : (l m : LiveMap) (p : ℕ) → l.start ≡ m.start → l.stride ≡ m.stride → offset l p ≡ offset m p
 unfolding offset
 offset_same l m p e f = λ i. e i + p * f i
 
 -- ---- the same areas
 
+-- for a handle with a live map, `live_or` returns this map
 pub live_is : (t : LiveMaps) (k : ℕ) → IsSome (live_at t k) → live_at t k ≡ Some (live_or (live_at t k))
 live_is t k live = by (live_at t k) live
   where
@@ -62,6 +69,7 @@ live_is t k live = by (live_at t k) live
 
 -- they keep the address of each value, and its bytes
 module _ (old new : LiveMaps) (k : ℕ) (areas : SameAreas old new) (live : IsSome (live_at new k)) where
+  -- the offset of each value is not changed
   pub offsets_stay : (p : ℕ) → offset_at new k p ≡ offset_at old k p
   offsets_stay p =
       let m = areas k (live_or (live_at new k)) (live_is new k live) in
@@ -72,6 +80,7 @@ module _ (old new : LiveMaps) (k : ℕ) (areas : SameAreas old new) (live : IsSo
       let m = areas k (live_or (live_at new k)) (live_is new k live) in
       m.2 ∙ ap (λ (o : Option LiveMap). (live_or o).keys.shape) (sym m.1)
 
+  -- in the same bytes of the part, each value is not changed
   pub value_stays : (part : List ℕ) (p : ℕ) → value_in part new k p ≡ value_in part old k p
   value_stays part p =
       ap (λ (n : ℕ). take (shape_at new k).value_size (drop n part)) (offsets_stay p)
@@ -85,6 +94,7 @@ same_or_other {P} j k f g = by (nat_eq j k) refl
     by true e = f (eqb-true j k e)
     by false e = g (λ q. true≢false (sym (eq-eqb j k q) ∙ e))
 
+-- an option has at most one value
 pub same_some : {A : Type 0} {o : Option A} {l m : A} → o ≡ Some l → o ≡ Some m → l ≡ m
 same_some {l = l} {m = m} e f = same_Some l m (sym e ∙ f)
 

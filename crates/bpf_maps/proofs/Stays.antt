@@ -15,6 +15,7 @@ keys_held : (o : Option LiveMap) → (live_or o).keys ≡ held_keys (option_map 
 keys_held None = refl
 keys_held (Some l) = refl
 
+-- a live map without its area is present if and only if the live map is
 pub some_held : (o : Option LiveMap) → is_some (option_map without_area o) ≡ is_some o
 some_held None = refl
 some_held (Some l) = refl
@@ -42,12 +43,14 @@ module _ (old new : LiveMaps) (bytes later : List ℕ) (k : ℕ)
       (subst (λ (q : KeyTable). p < q.shape.max_entries) (sym keys)
       (used_in_entries (keys_at old k) p (sound was) used)))
 
+  -- a live map that is not changed, with values that are not changed, still has the same keys and values
   pub keeps_live : live_at new k ≡ live_at old k → KeepsMap k old bytes new later
   keeps_live same live = (
     ap is_some same ∙ live,
     kept (ap (λ (o : Option LiveMap). (live_or o).keys) same) live (ap is_some same ∙ live),
   )
 
+  -- a live map of which only the area moves, with values that are not changed, has the same keys and values
   pub keeps_held : held_at new k ≡ held_at old k → KeepsMap k old bytes new later
   keeps_held same live = (
     held_live old new k same live,

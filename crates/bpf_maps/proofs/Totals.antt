@@ -44,6 +44,7 @@ keys_of_weight : (o : Option LiveMap) → weight (λ l. length l.keys.entries) o
 keys_of_weight None = refl
 keys_of_weight (Some l) = refl
 
+-- the number of keys up to a handle is that of the maps at lower handles plus that of the map at this one
 pub more_keys : (t : LiveMaps) (handle : ℕ)
     → handle < length t.maps
     → total (λ l. length l.keys.entries) (take (handle + 1) t.maps)
@@ -62,12 +63,14 @@ module _ (f : LiveMap → ℕ) where
   weight_none (Some l) none = absurd (true≢false none)
 
   module _ (t : LiveMaps) (handle : ℕ) (within : handle < length t.maps) where
+    -- if the handle has a live map, the sum up to it is that over the lower handles plus the number of this map
     pub one_more_live : IsSome (live_at t handle)
         → total f (take (handle + 1) t.maps) ≡ total f (take handle t.maps) + f (live_or (live_at t handle))
     one_more_live live =
         total_next f handle t.maps within
         ∙ ap (λ (n : ℕ). total f (take handle t.maps) + n) (weight_some (live_at t handle) live)
 
+    -- if the handle has no live map, the sum up to it is that over the lower handles
     pub no_more_live : is_some (live_at t handle) ≡ false
         → total f (take (handle + 1) t.maps) ≡ total f (take handle t.maps)
     no_more_live none =

@@ -20,6 +20,7 @@ module _ {B : Type 0} (f g : ℕ → B) where
   in_front : (p n : ℕ) → p ≡ p → 1 ≤ (if nat_eq p p then 1 else 0) + n
   in_front p n e = grind arith
 
+  -- if the values of all elements in use are equal, the keys have equal values
   pub agreeing : (es : List (List ℕ × ℕ))
       → ((p : ℕ) → 1 ≤ occurrences p (values_of es) → f p ≡ g p) → valued f es ≡ valued g es
   agreeing [] h = refl
@@ -28,6 +29,7 @@ module _ {B : Type 0} (f g : ℕ → B) where
       let rest = agreeing es (λ p used. h p (omega arith)) in
       λ i. (e.0, head i) ∷ rest i
 
+  -- if the values of all elements in use are equal, the maps of values are equal
   pub agreeing_tables : (t : KeyTable)
       → ((p : ℕ) → 1 ≤ occurrences p (values_of t.entries) → f p ≡ g p)
       → with_values f (table_of t) ≡ with_values g (table_of t)
@@ -40,6 +42,7 @@ module _ {B : Type 0} (f g : ℕ → B) where
 used_below : (p n m k : ℕ) → n + m ≤ (if nat_lt p k then 1 else 0) → 1 ≤ n + m → p < k
 used_below p n m k h used = grind arith
 
+-- an element that is in use or kept apart is less than `max_entries`
 pub used_within : (t : KeyTable) (p : ℕ)
     → IsSound t
     → 1 ≤ occurrences p (values_of t.entries) + occurrences p t.kept
@@ -47,6 +50,7 @@ pub used_within : (t : KeyTable) (p : ℕ)
 used_within t p sound used =
     used_below p (occurrences p (values_of t.entries)) (occurrences p t.kept) t.shape.max_entries (sound.once p) used
 
+-- in a sound table, the element of a key is less than `max_entries`
 pub used_in_entries : (t : KeyTable) (p : ℕ)
     → IsSound t → 1 ≤ occurrences p (values_of t.entries) → p < t.shape.max_entries
 used_in_entries t p sound used = used_within t p sound (omega arith)
@@ -78,6 +82,7 @@ module _ {B : Type 0} (value : ℕ → B) (p : ℕ) (bytes : B) where
       let n = not_among e.1 (occurrences p (values_of es)) h in
       λ i. (e.0, written_apart e.1 n.0 i) ∷ elsewhere es n.1 i
 
+  -- if only one key has the element, a write of its value changes the value of this key and no other
   pub valued_written : (key : List ℕ) (es : List (List ℕ × ℕ))
       → occurrences p (values_of es) ≤ 1 → found key es ≡ Some p
       → valued written es ≡ set_value (is_key key) (valued value es) bytes
@@ -102,10 +107,12 @@ module _ {B : Type 0} (value : ℕ → B) (p : ℕ) (bytes : B) where
 once_at_most : (p n m k : ℕ) → n + m ≤ (if nat_lt p k then 1 else 0) → n ≤ 1
 once_at_most p n m k h = grind arith
 
+-- in a sound table, each element is that of at most one key
 pub elements_once : (t : KeyTable) → IsSound t → (p : ℕ) → occurrences p (values_of t.entries) ≤ 1
 elements_once t sound p =
     once_at_most p (occurrences p (values_of t.entries)) (occurrences p t.kept) t.shape.max_entries (sound.once p)
 
+-- if the value of a key's element is written, the key has this value in the map of values, and nothing else changes
 pub table_written : {B : Type 0} (value : ℕ → B) (t : KeyTable) (key : List ℕ) (element : ℕ) (bytes : B)
     → IsSound t → found key t.entries ≡ Some element
     → with_values (written value element bytes) (table_of t) ≡ with_object (with_values value (table_of t)) key bytes
@@ -128,6 +135,7 @@ module _ (value : ℕ → List ℕ) (bytes : List ℕ) where
       let rest = valued_indices (first + 1) n (λ i lt. h i (omega (arith, lt))) in
       λ i. (index_key first, head i) ∷ rest i
 
+-- a new table of keys gives a new map of values, if all values of an array are these bytes
 pub new_map_in : (part : List ℕ) (t : LiveMaps) (k : ℕ) (shape : MapShape) (bytes : List ℕ)
     → keys_at t k ≡ new_keys shape
     → (shape.kind ≡ Array → (p : ℕ) → p < shape.max_entries → value_in part t k p ≡ bytes)

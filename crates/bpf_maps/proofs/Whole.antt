@@ -25,10 +25,12 @@ stored_at a k e = get_or (stored_in a) k None ≡ Some e
 abbrev AreApart : LiveMap → LiveMap → Type 0
 AreApart l m = StandsBefore l m ⊎ StandsBefore m l
 
+-- the offset of a value is the start of the area plus the distance of values times the element
 pub offset_of : (e : StoredMap) (p : ℕ) → offset (live_of e) p ≡ e.start + p * e.stride
 unfolding offset
 offset_of e p = refl
 
+-- after an area is removed, the offset of a value of another map is counted from the new start of its area
 pub offset_without : (gone e : StoredMap) (p : ℕ)
     → offset (map_without (live_of gone) (live_of e)) p
     ≡ start_without (gone.start + area_of (live_of gone)) (area_of (live_of gone)) e.start + p * e.stride
@@ -83,6 +85,7 @@ module _ {a : Inside} (h : IsWellFormedMaps a) where
       subst (λ (g : StoredMap). IsApart (live_of e) (live_of g) p q) is (apart_in_one k p q e at (ne s)))
       (λ (o : k ≢ j). apart_in_two k j p q e f at bt o l m)
 
+  -- the values of all live maps lie in the part and do not overlap
   pub laid : IsLaid (as_live_maps a)
   laid = record {
     inside = λ k p l at lt.
@@ -100,6 +103,7 @@ module _ {a : Inside} (h : IsWellFormedMaps a) where
         pl;
   }
 
+  -- the areas of all live maps do not overlap, and lie in as many bytes as they take together
   pub packed : IsPacked (as_live_maps a)
   packed = record {
     inside = λ k l at.
@@ -175,6 +179,7 @@ module _ {a : Inside} (b : Inside) (k : ℕ) (h : IsWellFormedMaps a)
     same_area : area_of (live_of f) ≡ area_of (live_of e)
     same_area = ap (λ (s : MapShape). area s.value_size s.max_entries) shape
 
+    -- all areas take as many bytes as before
     pub same_areas : areas (as_live_maps b) ≡ areas (as_live_maps a)
     same_areas =
         let c = changed in
@@ -226,6 +231,7 @@ module _ {a : Inside} (b : Inside) (k : ℕ) (h : IsWellFormedMaps a)
         let ya = y.3 in
         ⊎_elim (λ z. inl (omega arith)) (λ z. inr (omega arith)) (h.apart i j x.0 y.0 x.1 y.1 ne)
 
+    -- the invariant of the live maps holds after a map is replaced by one with the same shape and area
     pub whole_replaced : AreKeys b.keys b.maps → MAPS ≤ b.maps.capacity → IsWellFormedMaps b
     whole_replaced keys room = record {
       keys = keys;
@@ -239,6 +245,7 @@ module _ {a : Inside} (b : Inside) (k : ℕ) (h : IsWellFormedMaps a)
 
   -- a map that is new
   module _ (e : StoredMap) (at : get_or (stored_in a) k None ≡ None) (bt : stored_at b k e) where
+    -- all areas take more bytes than before, by the area of the new map
     pub more_areas : areas (as_live_maps b) ≡ areas (as_live_maps a) + area_of (live_of e)
     more_areas =
         let c = changed in
@@ -304,6 +311,7 @@ module _ {a : Inside} (b : Inside) (k : ℕ) (h : IsWellFormedMaps a)
         (stands_last i g o gt)))
         (λ (u : j ≢ k). h.apart i j g l (still i g o gt) (still j l u lt) ne))
 
+    -- the invariant of the live maps holds after a map is added whose area is after the others
     pub whole_added : AreKeys b.keys b.maps → MAPS ≤ b.maps.capacity → IsWellFormedMaps b
     whole_added keys room = record {
       keys = keys;
@@ -348,6 +356,7 @@ module _ {a : Inside} (b : Inside) (k : ℕ) (h : IsWellFormedMaps a) (e : Store
   same_weight None = refl
   same_weight (Some f) = refl
 
+  -- all areas take fewer bytes than before, by the area of the removed map
   pub less_areas : areas (as_live_maps b) + area_of (live_of e) ≡ areas (as_live_maps a)
   less_areas =
       let c = total_but_one area_of k (live_maps_of (stored_in a)) (live_maps_of (stored_in b))
@@ -359,6 +368,7 @@ module _ {a : Inside} (b : Inside) (k : ℕ) (h : IsWellFormedMaps a) (e : Store
       let y = ap (weight area_of) (none_by (stored_in b) (stored_in b) k bt) in
       omega arith
 
+  -- the area of another map lies before the removed one or after it
   pub beside : (j : ℕ) (f : StoredMap)
       → j ≢ k → stored_at a j f
       → (end ≤ f.start) ⊎ (f.start + area_of (live_of f) ≤ e.start)
@@ -405,6 +415,7 @@ module _ {a : Inside} (b : Inside) (k : ℕ) (h : IsWellFormedMaps a) (e : Store
       (beside i f.0 (other i g gt) f.1) (beside j m.0 (other j l lt) m.1)
       (h.apart i j f.0 m.0 f.1 m.1 ne)))
 
+  -- the invariant of the live maps holds after a map is removed and the areas after it have moved down
   pub whole_removed : AreKeys b.keys b.maps → MAPS ≤ b.maps.capacity → IsWellFormedMaps b
   whole_removed keys room = record {
     keys = keys;

@@ -20,6 +20,7 @@ module _ (size : ℕ) (key : List ℕ) (small : AreBytes key) (long : length key
   spelled : low_bytes size (number_of key) ≡ key
   spelled = subst (λ (n : ℕ). low_bytes n (number_of key) ≡ key) long (low_bytes_of_number key small)
 
+  -- the low bytes of the number of a key are the key
   pub word_spelled : (word : ℕ) → word ≡ number_of key → low_bytes size word ≡ key
   word_spelled word is = ap (low_bytes size) is ∙ spelled
 
@@ -46,6 +47,7 @@ module _ (size : ℕ) (key : List ℕ) (small : AreBytes key) (long : length key
   number_tests [] h = tt
   number_tests (e ∷ es) h = (same_word e.0 h.0, number_tests es h.1)
 
+  -- a number in the index is that of the key if and only if it represents the bytes of the key
   pub word_tests : (word : ℕ) (es : List (ℕ × ℕ))
       → word ≡ number_of key → AreBelow (256 ^ size) es
       → Tests (low_bytes size) key (nat_eq word) es
@@ -53,11 +55,13 @@ module _ (size : ℕ) (key : List ℕ) (small : AreBytes key) (long : length key
 
 -- ---- all numbers are below the bound
 
+-- if all numbers are below a bound, they are after one below it is added
 pub below-append : (bound word element : ℕ) (es : List (ℕ × ℕ))
     → AreBelow bound es → word < bound → AreBelow bound (es ++ (word, element) ∷ [])
 below-append bound word element [] h l = (l, tt)
 below-append bound word element (e ∷ es) h l = (h.0, below-append bound word element es h.1 l)
 
+-- if all numbers are below a bound, they are after one is removed
 pub below-remove : (bound : ℕ) (test : ℕ → Bool) (es : List (ℕ × ℕ))
     → AreBelow bound es → AreBelow bound (remove_entry test es)
 below-remove bound test [] h = tt
@@ -104,6 +108,7 @@ zeros_behind (b ∷ key) n = ap (λ (x : ℕ). b + 256 * x) (zeros_behind key n)
 
 -- ---- the bytes of a number
 
+-- the little-endian bytes of a word are its eight low bytes
 pub spelled_word : (x : ℕ) → to_le_bytes w64 x ≡ low_bytes 8 x
 spelled_word x =
     let c : x / 65536 % 256 ≡ x / 256 / 256 % 256 = omega arith in

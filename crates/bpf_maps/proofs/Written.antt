@@ -10,6 +10,7 @@ module _ (xs new : List ℕ) (start size : ℕ) (count : length new ≡ size) (r
   front : length (take start xs) ≡ start
   front = length-take-le start xs (omega arith)
 
+  -- a write over a range does not change the number of bytes
   pub length_same : length written ≡ length xs
   length_same =
       let f = front in
@@ -20,11 +21,13 @@ module _ (xs new : List ℕ) (start size : ℕ) (count : length new ≡ size) (r
         length-drop (start + size) xs,
       )
 
+  -- a write over a range does not change the bytes before the range
   pub front_same : (n : ℕ) → n ≤ start → take n written ≡ take n xs
   front_same n l =
       let f = front in
       take-append-le n (take start xs) (new ++ drop (start + size) xs) (omega arith) ∙ take-take n start xs l
 
+  -- bytes that end at the start of the written range, or before it, are not changed
   pub before_same : (at n : ℕ) → at + n ≤ start → take n (drop at written) ≡ take n (drop at xs)
   before_same at n l = sym (drop-take at n written) ∙ ap (drop at) (front_same (at + n) l) ∙ drop-take at n xs
 
@@ -44,6 +47,7 @@ module _ (xs new : List ℕ) (start size : ℕ) (count : length new ≡ size) (r
       ∙ drop-drop (at - (start + size)) (start + size) xs
       ∙ ap (λ (n : ℕ). drop n xs) (sym rest)
 
+  -- bytes that begin at the end of the written range, or after it, are not changed
   pub after_same : (at n : ℕ) → start + size ≤ at → take n (drop at written) ≡ take n (drop at xs)
   after_same at n l = ap (take n) (behind_same at l)
 

@@ -44,6 +44,7 @@ abbrev pub Finds : List (Option Line) → Labels → Type 0
 Finds lines labels =
     (name : List ℕ) → definition_of labels name ≡ option_map (definition_at lines) (label_line name lines)
 
+-- if the labels of the first n lines are kept, and no line is after these, the labels of all lines are kept
 pub finds_all : (lines : List (Option Line)) (labels : Labels) (n : ℕ)
     → length lines ≤ n → FindsLabels lines labels n → Finds lines labels
 finds_all lines labels n past finds = λ name.
@@ -107,6 +108,7 @@ fault_kind lines i before (Some (code form name)) kind e =
     code_fault_kind (form_fits form) (is_known lines form name) (passes before (form_slots form)) kind e
 fault_kind lines i before _ kind e = λ m. cc
 
+-- the fault at the index of a line is the fault of this line, given the slots of the lines before it
 pub fault_here : (lines : List (Option Line)) (i : ℕ) (d : Option Line)
     → i < length lines
     → fault_at lines i ≡ line_fault lines i (slots_on (take i lines)) (get_or lines i d)
@@ -135,11 +137,12 @@ form_kept labels slot line form name definition insn is found e =
     ap (λ (f : Form). f ∷ []) (e ∙ ap (λ (o : Option Definition). resolved (kept_distance o slot) form) found)
     ∙ sym (ap (λ (o : Option CodeLine). kept_form labels slot (seen_option o)) is)
 
+-- a text without lines has no written forms
 pub no_forms : (labels : Labels) (slot : ℕ) → kept_forms labels slot [] ≡ []
 unfolding kept_forms
 no_forms labels slot = refl
 
--- the forms after one more line
+-- one more line adds its form, if it has one, after the forms of the lines before
 pub kept_forms-append : (labels : Labels) (slot : ℕ) (lines : List (Option Line)) (line : Option Line)
     → kept_forms labels slot (lines ++ line ∷ [])
     ≡ kept_forms labels slot lines ++ kept_form labels (slot + slots_on lines) line
@@ -180,6 +183,7 @@ distance_is lines labels slot name finds room =
     let same : min (kept_slot (definition_of labels name)) MAX_SLOTS ≡ label_slot lines name = omega arith in
     ap (λ (n : ℕ). pos n -ℤ pos (slot + 1)) same
 
+-- if a program may have the slots of all lines, the forms by the labels that are kept are those by all lines
 pub forms_are : (all : List (Option Line)) (labels : Labels) (slot : ℕ) (lines : List (Option Line))
     → Finds all labels → slots_on all ≤ MAX_SLOTS
     → kept_forms labels slot lines ≡ forms_from all slot lines
@@ -204,6 +208,7 @@ resolved_slots z (form.Access (access.Store size src) at) = refl
 resolved_slots z (form.WideLoad dst (value.MapFd fd)) = refl
 resolved_slots z _ = refl
 
+-- the written form of an instruction has as many slots as the instruction
 pub written_slots : (insn : Insn) → form_slots (written insn) ≡ length (slots insn)
 written_slots (Alu wide op dst src) = refl
 written_slots _ = refl
@@ -230,6 +235,7 @@ insns_slots (insn ∷ insns) =
     sum_by-cons (λ (i : Insn). length (slots i)) insn insns in
     omega (arith, parts, count, insns_slots insns, written_slots insn)
 
+-- if all lines have the written forms of these instructions, the instructions have as many slots as the lines
 pub count_is : (insns : List Insn) (all : List (Option Line))
     → map written insns ≡ forms_from all 0 all → slot_count insns ≡ slots_on all
 count_is insns all e = sym (insns_slots insns) ∙ ap (λ (fs : List Form). sum_by form_slots fs) e ∙ forms_slots all 0 all
@@ -238,11 +244,16 @@ count_is insns all e = sym (insns_slots insns) ∙ ap (λ (fs : List Form). sum_
 
 -- the instructions after one more line
 pub record Goes (labels : Labels) (lines : List (Option Line)) (i slot : ℕ) (insns : List Insn) : Type 0 where
+  -- no line before line i has a fault
   pub below : NoneBelow (fault_at lines) i
+  -- `slot` is the number of slots of the lines before line i
   pub slot_is : slot ≡ slots_on (take i lines)
+  -- a program may have so many slots
   pub room : slot ≤ MAX_SLOTS
+  -- the instructions have the written forms of the lines before line i, by the labels that are kept
   pub forms : map written insns ≡ kept_forms labels 0 (take i lines)
 
+-- `Goes` holds at the first line, with no slots and no instructions
 pub begins : (labels : Labels) (lines : List (Option Line)) → Goes labels lines 0 0 []
 begins labels lines = record {
   below = λ i h. absurd (omega arith);
@@ -268,6 +279,7 @@ line_room labels here (Some (code form name)) h e =
     here.slot (form_slots form) h e
 line_room labels here _ h e = omega arith
 
+-- `Goes` holds after one more line without a fault, with this line's slots and its instruction, if it has one
 pub goes_on : (labels : Labels) (lines : List (Option Line)) (i slot more_slots : ℕ)
     (line : Option Line) (insns new : List Insn) (one : Option Insn)
     → Finds lines labels → i < length lines
@@ -305,6 +317,7 @@ goes_on labels lines i slot more_slots line insns new one finds inside at more p
     from_none : (n : ℕ) → n ≡ 0 + n
     from_none n = omega arith
 
+-- if no line before has a fault, a fault of the next line is that of the first faulty line
 pub stops : (labels : Labels) (lines : List (Option Line)) (i slot : ℕ) (line : Option Line)
     (insns : List Insn) (kind : TextFaultKind) (fault : TextFault)
     → Finds lines labels → i < length lines
@@ -330,11 +343,16 @@ stops labels lines i slot line insns kind fault finds inside at here is so =
 
 -- at the end of the lines
 pub record Ends (lines : List (Option Line)) (insns : List Insn) : Type 0 where
+  -- no line has a fault
   pub none : (i : ℕ) → fault_at lines i ≡ None
+  -- the instructions have the written forms of all lines
   pub forms : map written insns ≡ forms_from lines 0 lines
+  -- the instructions have as many slots as the lines
   pub count : slot_count insns ≡ slots_on lines
+  -- a program may have so many slots
   pub room : slot_count insns ≤ MAX_SLOTS
 
+-- if `Goes` holds after the last line, no line has a fault, and the instructions are those of all lines
 pub ends : (labels : Labels) (lines : List (Option Line)) (i slot : ℕ) (insns : List Insn)
     → Finds lines labels → length lines ≤ i
     → Goes labels lines i slot insns
@@ -358,6 +376,7 @@ read_formed : (bytes : List ℕ) (line : Option Line) → ReadAs bytes line → 
 read_formed bytes None h = tt
 read_formed bytes (Some line) h = h.0
 
+-- each line that is read is well formed
 pub all_formed : (text : List (List ℕ)) (lines : List (Option Line))
     → AreRead text lines → AllByRecursion IsFormed lines
 all_formed [] [] h = tt
@@ -365,21 +384,24 @@ all_formed [] (line ∷ lines) h = absurd h
 all_formed (bytes ∷ text) [] h = absurd h
 all_formed (bytes ∷ text) (line ∷ lines) h = (read_formed bytes line h.0, all_formed text lines h.1)
 
+-- if all lines are well formed, so is the line at an index
 pub formed_at : (lines : List (Option Line)) (i : ℕ) (d : Option Line)
     → i < length lines → AllByRecursion IsFormed lines → IsFormed (get_or lines i d)
 formed_at [] i d h all = absurd (omega arith)
 formed_at (line ∷ lines) zero d h all = all.0
 formed_at (line ∷ lines) (suc i) d h all = formed_at lines i d (omega arith) all.1
 
--- the next line
+-- the line that the code has at an index represents the line at this index
 pub seen_at : (lines : List (Option CodeLine)) (i : ℕ) (line : Option CodeLine)
     → i < length lines → line ≡ get_or lines i line
     → seen_option line ≡ get_or (seen_lines lines) i (seen_option line)
 seen_at lines i line h e = ap seen_option e ∙ sym (get_or-map seen_option lines i line (seen_option line) h)
 
+-- lines of the code represent as many lines as they are
 pub length-seen_lines : (lines : List (Option CodeLine)) → length (seen_lines lines) ≡ length lines
 length-seen_lines lines = length-map lines seen_option
 
+-- a slice that has the instruction of an option, or nothing if it has none, is the option as a list
 pub one_or_none : (one : Option Insn) (slice : List Insn)
     → MatchOption one (slice ≡ []) (λ x. slice ≡ x ∷ []) → slice ≡ option_to_list one
 one_or_none None slice h = h
@@ -387,6 +409,7 @@ one_or_none (Some insn) slice h = h
 
 -- ---- the result
 
+-- if no line has a fault, and the instructions, with some slot, have the lines' forms, the text assembles to them
 pub assembled : (text : List ℕ) (read : List (List ℕ)) (lines : List (Option Line)) (insns : List Insn)
     → read ≡ text_lines text → AreRead read lines
     → ((i : ℕ) → fault_at lines i ≡ None)
@@ -401,6 +424,7 @@ assembled text read lines insns e are none forms count some = record {
   some = omega arith;
 }
 
+-- if no line has a fault, a fault of memory, or of no slot if none is taken, is of memory or the text's own
 pub no_slot_fault : (text : List ℕ) (read : List (List ℕ)) (lines : List (Option Line))
     (insns : List Insn) (fault : TextFault)
     → read ≡ text_lines text → AreRead read lines

@@ -19,6 +19,7 @@ use Rattle.bpf_text.specs.HexText.{hex_text, hex_digits, hex_line, hex_fault, he
 
 -- ---- the bytes of a line
 
+-- a line of only blanks is read as no bytes
 pub empty_line : (line digits : List ℕ)
     → digits ≡ stripped line → eqb (length digits) 0 ≡ true
     → hex_line line ≡ Some []
@@ -26,6 +27,7 @@ unfolding hex_line
 empty_line line digits e h =
     ap hex_digits (sym e) ∙ ap (λ (b : Bool). cond b (Some []) (result_ok (decode_sized digits 8))) h
 
+-- a line whose digits decode to eight bytes is read as these bytes
 pub slot_line : (line digits slot : List ℕ)
     → digits ≡ stripped line → eqb (length digits) 0 ≡ false
     → Ok slot ≡ decode_sized digits 8
@@ -36,6 +38,7 @@ slot_line line digits slot e h d =
     ∙ ap (λ (b : Bool). cond b (Some []) (result_ok (decode_sized digits 8))) h
     ∙ ap result_ok (sym d)
 
+-- a line that is not blank, and whose digits do not decode to eight bytes, has no reading
 pub bad_line : (line digits : List ℕ) (error : FromHexError)
     → digits ≡ stripped line → eqb (length digits) 0 ≡ false
     → Err error ≡ decode_sized digits 8
@@ -46,6 +49,7 @@ bad_line line digits error e h d =
     ∙ ap (λ (b : Bool). cond b (Some []) (result_ok (decode_sized digits 8))) h
     ∙ ap result_ok (sym d)
 
+-- a line that is read has no fault if a program may have its bytes and those before it
 pub fits : (before : ℕ) (line : Option (List ℕ)) (bytes : List ℕ)
     → line ≡ Some bytes → before + length bytes ≤ 8 * MAX_SLOTS
     → hex_fault before line ≡ None
@@ -54,6 +58,7 @@ fits before line bytes e h =
     let inside : leb before (8 * MAX_SLOTS) ≡ true = le-leb _ _ (omega arith) in
     ap (hex_fault before) e ∙ rw (room, inside) refl
 
+-- a line whose bytes are the first that are too many for a program has the fault TooLong
 pub passes : (before : ℕ) (line : Option (List ℕ)) (bytes : List ℕ)
     → line ≡ Some bytes → before ≤ 8 * MAX_SLOTS
     → 8 * MAX_SLOTS < before + length bytes
@@ -65,12 +70,14 @@ passes before line bytes e low h =
 
 -- ---- the text of slots
 
+-- the hex text of eight bytes and a rest is the line of these eight, then the hex text of the rest
 pub hex_text-append : (front rest : List ℕ)
     → length front ≡ 8 → hex_text (front ++ rest) ≡ encode_lower front ++ 10 ∷ hex_text rest
 unfolding hex_text
 hex_text-append (a ∷ b ∷ c ∷ d ∷ e ∷ f ∷ g ∷ h ∷ []) rest long = refl
 hex_text-append _ rest long = absurd (omega arith)
 
+-- the hex text of fewer than eight bytes is empty
 pub hex_text_short : (rest : List ℕ) → length rest < 8 → hex_text rest ≡ []
 unfolding hex_text
 hex_text_short (a ∷ b ∷ c ∷ d ∷ e ∷ f ∷ g ∷ h ∷ rest) short = absurd (omega arith)
@@ -90,7 +97,7 @@ fault_here xs i d h =
     (slice_get-map (λ (line : Bor (List ℕ)). line.now) xs i
     ∙ ap (option_map (λ (line : Bor (List ℕ)). line.now)) (slice_get-get_or xs i d h))
 
--- the lines after one more line without a fault
+-- if no line before has a fault, nor has the next one, no line up to it has one
 pub none_more : (xs : List (Bor (List ℕ))) (i : ℕ) (d : Bor (List ℕ)) (bytes : List ℕ)
     → i < length xs → bytes ≡ hex_bytes (take i (texts xs))
     → NoneBelow (hex_fault_at (texts xs)) i
@@ -100,6 +107,7 @@ none_more xs i d bytes h e below none =
     below_more _ _ below
     (fault_here xs i d h ∙ ap (λ (b : List ℕ). hex_fault (length b) (hex_line (get_or xs i d).now)) (sym e) ∙ none)
 
+-- the bytes of the first lines, followed by those of the next line, are the bytes of the lines up to it
 pub bytes_more : (xs : List (Bor (List ℕ))) (i : ℕ) (d : Bor (List ℕ)) (bytes new : List ℕ)
     → i < length xs → bytes ≡ hex_bytes (take i (texts xs))
     → new ≡ bytes ++ unwrap_or (hex_line (get_or xs i d).now) []
@@ -114,7 +122,7 @@ bytes_more xs i d bytes new h e n =
     ∙ ap (λ (l : List ℕ). hex_bytes (take i (texts xs) ++ l ∷ [])) (sym here)
     ∙ ap hex_bytes (sym more)
 
--- the first line with a fault
+-- if no line before has a fault, a fault of the next line is that of the first faulty line, or of memory
 pub first_here : (xs : List (Bor (List ℕ))) (i : ℕ) (d : Bor (List ℕ)) (bytes : List ℕ)
     (kind : TextFaultKind) (fault : TextFault)
     → i < length xs → bytes ≡ hex_bytes (take i (texts xs))

@@ -27,7 +27,7 @@ label_line_step name l x xs false e = ap (option_map suc) e ∙ pushed (label_li
     pushed None true n = refl
     pushed None false n = refl
 
--- the line of a label after one more line
+-- after one more line, a label has its line from before, or if it had none, the new one if this defines it
 pub label_line-append : (name : List ℕ) (xs : List (Option Line)) (x : Option Line)
     → label_line name (xs ++ x ∷ []) ≡ or_else (label_line name xs) (cond (defines name x) (Some (length xs)) None)
 unfolding label_line
@@ -37,6 +37,7 @@ label_line-append name [] x =
     [ true ↦ refl | false ↦ refl ]
 label_line-append name (l ∷ xs) x = label_line_step name l x xs (defines name l) (label_line-append name xs x)
 
+-- one more line adds its slots
 pub slots_on-append : (xs : List (Option Line)) (x : Option Line) → slots_on (xs ++ x ∷ []) ≡ slots_on xs + line_slots x
 unfolding slots_on
 slots_on-append [] x = omega arith
@@ -98,7 +99,7 @@ pushed_definition lines (Some k) b i = refl
 pushed_definition lines None true i = refl
 pushed_definition lines None false i = refl
 
--- the labels after one more line
+-- if the labels of the first lines are kept, and the next line's is noted, the labels of all of these are kept
 pub finds_more : (lines : List (Option Line)) (i : ℕ) (x : Option Line) (old new : Labels)
     (definition : Definition)
     → take (i + 1) lines ≡ take i lines ++ x ∷ []
@@ -121,6 +122,7 @@ finds_more lines i x old new definition more len finds is change = λ q.
     ∙ ap (option_map (definition_at lines)) (sym (label_line-append q (take i lines) x))
     ∙ ap (λ (xs : List (Option Line)). option_map (definition_at lines) (label_line q xs)) (sym more)
 
+-- the slots of the first lines, and those of the next line, are as many as the slots of the lines up to it
 pub slots_more : (lines : List (Option Line)) (i : ℕ) (x : Option Line) (slot : ℕ)
     → take (i + 1) lines ≡ take i lines ++ x ∷ []
     → slot ≡ slots_on (take i lines)
@@ -128,19 +130,22 @@ pub slots_more : (lines : List (Option Line)) (i : ℕ) (x : Option Line) (slot 
 slots_more lines i x slot more is =
     ap (λ (n : ℕ). n + line_slots x) is ∙ sym (slots_on-append (take i lines) x) ∙ ap slots_on (sym more)
 
+-- without lines no label has a definition
 pub none_found : (lines : List (Option Line)) (q : List ℕ) → None ≡ option_map (definition_at lines) (label_line q [])
 unfolding label_line
 none_found lines q = refl
 
+-- without lines the number of slots is 0
 pub no_slots : 0 ≡ slots_on []
 unfolding slots_on
 no_slots = refl
 
+-- if an option has no value, its copy has none
 pub none_copied : (o : Option (Bor Definition)) → is_some o ≡ false → option_copied o ≡ None
 none_copied None h = refl
 none_copied (Some p) h = absurd (false≢true (sym h))
 
--- the lines up to the next one
+-- the lines that are represented up to the next one are those before it, then the one that it represents
 pub take_seen : (xs : List (Option CodeLine)) (i : ℕ) (x : Option CodeLine)
     → i < length xs → x ≡ get_or xs i x
     → take (i + 1) (seen_lines xs) ≡ take i (seen_lines xs) ++ seen_option x ∷ []
@@ -150,11 +155,13 @@ take_seen xs i x h e =
     ∙ ap (λ (l : Option Line). take i (seen_lines xs) ++ l ∷ [])
     (get_or-map seen_option xs i x (seen_option x) h ∙ ap seen_option (sym e))
 
+-- exactly i lines are before the line at index i
 pub length_seen : (xs : List (Option CodeLine)) (i : ℕ) → i < length xs → length (take i (seen_lines xs)) ≡ i
 length_seen xs i h = omega (arith, length-take i (seen_lines xs), length-map xs seen_option)
 
 -- ---- lines that are read
 
+-- lines that are read, followed by one more that is read, are read
 pub are_read-append : (bs : List (List ℕ)) (ls : List (Option Line)) (b : List ℕ) (l : Option Line)
     → AreRead bs ls → ReadAs b l → AreRead (bs ++ b ∷ []) (ls ++ l ∷ [])
 are_read-append [] [] b l h r = (r, tt)
@@ -162,6 +169,7 @@ are_read-append [] (x ∷ ls) b l h r = absurd h
 are_read-append (a ∷ bs) [] b l h r = absurd h
 are_read-append (a ∷ bs) (x ∷ ls) b l h r = (h.0, are_read-append bs ls b l h.1 r)
 
+-- the readings of the first lines, with that of the next line, are the readings of the lines up to it
 pub read_more : (text : List (Bor (List ℕ))) (i : ℕ) (d : Bor (List ℕ))
     (old new : List (Option CodeLine)) (found : Option CodeLine)
     → i < length text → new ≡ old ++ found ∷ []

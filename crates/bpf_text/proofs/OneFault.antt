@@ -28,6 +28,7 @@ first_same fault_at a b h k =
     let kind : Some a.kind ≡ Some b.kind = sym h.here ∙ ap fault_at index ∙ k.here in
     same_fault a b (omega (arith, h.line, k.line)) (cc kind)
 
+-- given the faults of its lines and its number of slots, a text has at most one fault of its own
 pub one_fault : (fault_at : ℕ → Option TextFaultKind) (slots : ℕ) (a b : TextFault)
     → IsFaultBy fault_at slots a → IsFaultBy fault_at slots b → a ≡ b
 one_fault fault_at slots a b (inl h) (inl k) = first_same fault_at a b h k

@@ -37,7 +37,7 @@ printed_map_value dst fd off before named held n h =
     ∙ ap (λ (t : List ℕ). before ++ t) (append_assoc (register_name true dst) (codes " = map_value ") (number_text ++ laid_out behind)
     ∙ ap (λ (t : List ℕ). register_name true dst ++ (codes " = map_value " ++ t)) (sym (laid_out_constant fd behind)))
 
--- the text after one more slot
+-- the text of instructions, followed by the text of one more or of none, is the text of all of them
 pub printed_more : (insns before after : List Insn) (text : List ℕ) (o : Option Insn) (line : List ℕ)
     → text ≡ printed before → after ≡ before ++ option_to_list o
     → line ≡ printed (option_to_list o)
@@ -46,9 +46,11 @@ printed_more insns before after text o line h e l =
     ap (λ (t : List ℕ). t ++ line) h ∙ ap (λ (t : List ℕ). printed before ++ t) l
     ∙ sym (flat_map-append printed_line before (option_to_list o)) ∙ ap printed (sym e)
 
+-- the text of a list of one instruction is the instruction's line and a line feed
 pub printed_one : (insn : Insn) (o : Option Insn)
     → Some insn ≡ o → printed_insn insn ++ 10 ∷ [] ≡ printed (option_to_list o)
 printed_one insn o e = sym (append-nil (printed_line insn)) ∙ ap (λ (x : Option Insn). printed (option_to_list x)) e
 
+-- the text of no instruction is empty
 pub printed_none : (o : Option Insn) → None ≡ o → [] ≡ printed (option_to_list o)
 printed_none o e = ap (λ (x : Option Insn). printed (option_to_list x)) e

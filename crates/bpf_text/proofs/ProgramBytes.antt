@@ -165,6 +165,7 @@ program_are_bytes insns each = is_bytes (program_bytes insns) (bytes_of insns ea
     bytes_of (i ∷ insns) each =
         are_bytes-append (spelling i) (program_bytes insns) (spelling_are_bytes i each.0) (bytes_of insns each.1)
 
+-- the slots of the hex lines of a program are its slots
 pub hex_lines_is : (insns : List Insn)
     → IsProgram insns → IsHexText (hex_text (program_bytes insns)) (program_bytes insns)
 hex_lines_is insns program =

@@ -50,6 +50,7 @@ insns_same one (x ∷ a) (y ∷ b) e =
     let rest : map written a ≡ map written b = cc same in
     ap (λ (i : Insn). i ∷ a) (one x y first) ∙ ap (λ (is : List Insn). y ∷ is) (insns_same one a b rest)
 
+-- a text has at most one program, if a line has one reading and a written form one instruction
 pub one_program_is : OneReading → OneInsn → OneProgram
 one_program_is reading insn text a b h k =
     let same : h.lines ≡ k.lines = lines_same reading (text_lines text) h.lines k.lines h.read k.read in
@@ -69,9 +70,11 @@ no_own_fault reading text insns fault h own =
       | inr empty ↦ omega (arith, h.some, ap slots_on same, empty.slots_is)
     ]
 
+-- a text with a program has no fault of its own, if a line has one reading
 pub no_fault_is : OneReading → ProgramHasNoFault
 no_fault_is reading text insns fault h own = no_own_fault reading text insns fault h own
 
+-- a text has at most one fault of its own, if a line has one reading
 pub one_fault_is : OneReading → OneFault
 one_fault_is reading text a b h k =
     let same : h.lines ≡ k.lines = lines_same reading (text_lines text) h.lines k.lines h.read k.read in
@@ -79,7 +82,7 @@ one_fault_is reading text a b h k =
     (subst (λ (ls : List (Option Line)). IsFaultBy (fault_at ls) (slots_on ls) a) same h.first)
     k.first
 
--- if the text has a fault, it is returned
+-- if a text has a fault of its own, this fault is returned, or that of memory
 pub faulty_is : ProgramHasNoFault
     → OneFault
     → (text : List ℕ) (answer : Result (List Insn) TextFault)
@@ -91,7 +94,7 @@ faulty_is none one text (Ok program) ok told fault own = absurd (none text progr
 faulty_is none one text (Err e) ok (inl memory) fault own = inr memory
 faulty_is none one text (Err e) ok (inr told) fault own = inl (one text e fault told own)
 
--- if the text has a program, it is returned
+-- if a text has a program, this program is returned, or the fault of memory
 pub only_is : OneProgram
     → ProgramHasNoFault
     → (text : List ℕ) (answer : Result (List Insn) TextFault)
@@ -222,6 +225,7 @@ each_of : (P : Insn → Type 0) (insns : List Insn)
 each_of P [] law each = tt
 each_of P (insn ∷ insns) law each = (law insn each.0, each_of P insns law each.1)
 
+-- a program's printed text assembles to it, if each instruction is written in range and its line is read back
 pub printed_is : ((insn : Insn) → IsInsn insn → IsWrittenInRange insn)
     → ((insn : Insn) → IsInsn insn → IsPrinted insn) → PrintedIsAssembled
 printed_is writes prints insns program =

@@ -21,6 +21,7 @@ fits_first count n fits = omega arith
 fits_rest : (count : ℕ) (words : List ℕ) → suc count * 10 ≤ length words → count * 10 ≤ length (drop 10 words)
 fits_rest count words fits = subst (λ (n : ℕ). count * 10 ≤ n) (sym (length-drop 10 words)) (omega arith)
 
+-- contexts of ten words are given to a run as they are
 pub as_given : (count : ℕ) (words : List ℕ)
     → count * 10 ≤ length words → first_chunks 10 count words ≡ fitted_all 10 count words
 as_given zero words fits = refl
@@ -32,6 +33,7 @@ as_given (suc count) words fits =
     (as_given count (drop 10 words) (fits_rest count words fits))
     refl)
 
+-- contexts of ten words have only zeros after the words that a run is given
 pub all_known : (count : ℕ) (words : List ℕ) → count * 10 ≤ length words → have_known_words 10 count words ≡ true
 all_known zero words fits = refl
 all_known (suc count) words fits =

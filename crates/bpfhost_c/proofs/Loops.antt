@@ -13,6 +13,7 @@ fitted_step size count i words below =
     fitted_all size left words ≡ fitted (take size words) ∷ fitted_all size (count - (i + 1)) (drop size words))
     (one_less count i below) refl
 
+-- contexts have zeros after the words that a run is given exactly if the first has, and the others have
 pub known_step : (size count i : ℕ) (words : List ℕ)
     → i < count
     → have_known_words size (count - i) words
@@ -23,12 +24,14 @@ known_step size count i words below =
     ≡ (has_known_words (take size words) && have_known_words size (count - (i + 1)) (drop size words)))
     (one_less count i below) refl
 
+-- if the contexts that are left fit in the words that are left, so do the next one and those after it
 pub room_step : (size count i room : ℕ) → i < count → (count - i) * size ≤ room → (count - (i + 1)) * size + size ≤ room
 room_step size count i room below fits =
     let whole : suc (count - (i + 1)) * size ≤ room =
     subst (λ (left : ℕ). left * size ≤ room) (sym (one_less count i below)) fits in
     grind arith
 
+-- the contexts so far with the next one, and then those after it, are all contexts as a run is given them
 pub fitted_more : (size count i : ℕ) (words : List ℕ) (before all : List (List ℕ))
     → i < count
     → before ++ fitted_all size (count - i) words ≡ all

@@ -48,6 +48,7 @@ module _ {M : Type 1} {𝓤 : Ura M} (𝓛 : Logic 𝓤) where
 
 -- the handle of a program, by value
 module _ {M : Type 1} {𝓤 : Ura M} {𝓛 : Logic 𝓤} {K : Type 0} {Γ : List (Item 𝓤)} {G : Goal 𝓤 𝓛.H} where
+  -- a program's handle may be taken apart: into what its pointer owns of the program, and the allocator
   pub prepared_out : K
       → (d : prepared.the_row.Denot) (vs : List Val)
       → ((h : Val) → vs ≡ both (ptr_val d.at) h ∷ [] → Good (layout heap.the_row) h
@@ -63,6 +64,7 @@ module _ {M : Type 1} {𝓤 : Ura M} {𝓛 : Logic 𝓤} {K : Type 0} {Γ : List
       (subst (λ (ps : List Val). vs ≡ vstruct (of_list (ps ++ (vss.1.0 ++ []))) ∷ []) ep ev))
       fits))))
 
+  -- a program's handle has the null pointer and no program, or a pointer into a block with the program's box
   pub prepared_either : K
       → (a : heap.the_row.Denot) (p : Ptr) (s : Option program.the_row.Denot)
       → (p ≡ null_ptr → s ≡ None → Seq K 𝓛 Γ G)
@@ -78,6 +80,7 @@ module _ {M : Type 1} {𝓤 : Ura M} {𝓛 : Logic 𝓤} {K : Type 0} {Γ : List
       use1 𝓛 (given (Testable (block_ptr b o)) (‵ (boxed a (block_ptr b o) x))) (tested 𝓛 a (block_ptr b o) x) $
       learn t (λ e. one b o x refl refl e)
 
+  -- what a pointer owns of a program, and the allocator, may be put together to the program's handle
   pub prepared_in : K
       → (p : Ptr) (h : Val) (a : heap.the_row.Denot) (s : Option program.the_row.Denot)
       → Step K 𝓛

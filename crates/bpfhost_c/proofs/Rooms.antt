@@ -9,6 +9,7 @@ first_set n [] byte within = absurd (omega arith)
 first_set zero (x ∷ xs) byte within = refl
 first_set (suc n) (x ∷ xs) byte within = first_set n xs byte (omega arith)
 
+-- as much of a text as fits, copied to the front of a room, with a zero byte set after it, is the text in the room
 pub text_ended : (text room : List ℕ) (n : ℕ)
     → n ≡ fitting text room → n ≤ length text
     → n < length room
@@ -24,6 +25,7 @@ text_ended text (byte ∷ rest) n is short within =
     ∙ ap (λ (i : ℕ). take n text ++ 0 ∷ drop i room) next
     ∙ ap (λ (i : ℕ). take i text ++ 0 ∷ drop (i + 1) room) is
 
+-- a room without bytes is not changed by a text
 pub no_room : (text room : List ℕ) → length room ≡ 0 → room ≡ text_in text room
 no_room text [] none = refl
 no_room text (byte ∷ rest) none = absurd (omega arith)

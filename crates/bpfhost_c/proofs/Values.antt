@@ -39,6 +39,7 @@ use Rattle.std_heap.proofs.Global.TheLaws as heap_laws
 abbrev pub both : Val → Val → Val
 both v w = vstruct (vcons v (vcons w vnil))
 
+-- if two tests hold, so does their conjunction with the true one
 pub both_tt : (x y : Bool) → T x → T y → T (x && (y && true))
 both_tt true true s t = tt
 both_tt true false s t = absurd t
@@ -51,10 +52,12 @@ module _ (R Z : RattleType) (L : Laws Z) (g : Ghosts Z.Denot) where
   abbrev pub al : Al
   al = record { row = Z; laws = L; g = g; d = impl [] tnil dnil; drops = impl [] tnil dnil }
 
+  -- a pointer into a block and a value of the allocator are a well-typed value of a raw box
   pub raw_box_good : (b o : ℕ) (h : Val) → Good (layout Z) h → T (has_ty (layout Z) h && true) × WT (both (vptr b o) h)
   raw_box_good b o h fits = (and_tt (has_ty (layout Z) h) fits.0, (tt, (fits.1, tt)))
 
   module _ {M : Type 1} {𝓤 : Ura M} {𝓛 : Logic 𝓤} {K : Type 0} {Γ : List (Item 𝓤)} {G : Goal 𝓤 𝓛.H} where
+    -- a raw box that is owned by value may be taken apart: into the box at its pointer, in a block, and the allocator
     pub raw_box_out : K
         → (d : RawBox.Denot) (vs : List Val)
         → ((b o : ℕ) (h : Val) → d.at ≡ block_ptr b o → vs ≡ both (vptr b o) h ∷ [] → Good (layout Z) h
@@ -73,6 +76,7 @@ module _ (R Z : RattleType) (L : Laws Z) (g : Ghosts Z.Denot) where
         (subst (λ (ps : List Val). vs ≡ vstruct (of_list (ps ++ (vss.1.0 ++ []))) ∷ []) ep ev)))
         fits)))))
 
+    -- a box in a block and its allocator may be put together to a raw box that is owned by value
     pub raw_box_in : K
         → (b o : ℕ) (h : Val) (a : Z.Denot) (x : R.Denot)
         → Step K 𝓛
@@ -94,6 +98,7 @@ module _ (R Z : RattleType) (L : Laws Z) (g : Ghosts Z.Denot) where
         fjoin t $
         s)
 
+-- the null pointer and a value of the allocator are a well-typed value of a handle
 pub null_good : (h : Val)
     → Good (layout heap.the_row) h
     → T (has_ty (layout heap.the_row) h && true) × WT (both (ptr_val null_ptr) h)
@@ -116,6 +121,7 @@ module _ {M : Type 1} {𝓤 : Ura M} (𝓛 : Logic 𝓤) where
 
 -- a handle, by value
 module _ {M : Type 1} {𝓤 : Ura M} {𝓛 : Logic 𝓤} {K : Type 0} {Γ : List (Item 𝓤)} {G : Goal 𝓤 𝓛.H} where
+  -- a handle that is owned by value may be taken apart: into what its pointer owns of a session, and the allocator
   pub handle_out : K
       → (d : handle.the_row.Denot) (vs : List Val)
       → ((h : Val) → vs ≡ both (ptr_val d.at) h ∷ [] → Good (layout heap.the_row) h
@@ -131,6 +137,7 @@ module _ {M : Type 1} {𝓤 : Ura M} {𝓛 : Logic 𝓤} {K : Type 0} {Γ : List
       (subst (λ (ps : List Val). vs ≡ vstruct (of_list (ps ++ (vss.1.0 ++ []))) ∷ []) ep ev))
       fits))))
 
+  -- a handle has the null pointer and no session, or a pointer into a block with the box of its session
   pub handle_either : K
       → (a : heap.the_row.Denot) (p : Ptr) (s : Option session.the_row.Denot)
       → (p ≡ null_ptr → s ≡ None → Seq K 𝓛 Γ G)
@@ -146,6 +153,7 @@ module _ {M : Type 1} {𝓤 : Ura M} {𝓛 : Logic 𝓤} {K : Type 0} {Γ : List
       use1 𝓛 (given (Testable (block_ptr b o)) (‵ (boxed a (block_ptr b o) x))) (tested 𝓛 a (block_ptr b o) x) $
       learn t (λ e. one b o x refl refl e)
 
+  -- what a pointer owns of a session, and the allocator, may be put together to a handle that is owned by value
   pub handle_in : K
       → (p : Ptr) (h : Val) (a : heap.the_row.Denot) (s : Option session.the_row.Denot)
       → Step K 𝓛

@@ -31,6 +31,7 @@ module _ (fd : ℕ) (shape : MapShape) where
       → shapes_named (entries_of fds (entry ∷ [])) other ≡ Some shape
   only_shape fds other some = kept other (is_among fds fd) some
 
+  -- a program that is accepted with one entry, a map, loads only maps of this map's shape
   pub loaded_shape : LoadedMapsHaveShapes
       → (program a : Accepted) → IsAcceptedAs program.code (entry ∷ []) a
       → (i : ℕ) → i < length (maps_of a.code)

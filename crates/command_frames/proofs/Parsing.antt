@@ -9,6 +9,7 @@ use Rattle.command_frames.specs.declared.command.BadFrame.{BadFrame}
 abbrev the_run : ℕ → List ℕ → List ℕ → Result Command BadFrame
 the_run fd found left = Ok (prog_test_run fd found left)
 
+-- a test run's body of at least 44 bytes is read as its descriptor, its ten context words and its packet, the rest
 pub run_read : (body rest left found : List ℕ) (fd : ℕ)
     → 44 ≤ length body → fd ≡ word_behind 0 body
     → found ≡ words 10 rest → rest ≡ drop 4 body
@@ -22,6 +23,7 @@ run_read body rest left found fd enough number read first second =
     ∙ ap (prog_test_run (word_behind 0 body) (words 10 (drop 4 body))) second in
     rw whole (ap Ok same)
 
+-- a frame that is not too long is parsed as the command of the number in its head, with the body after the head
 pub parsed_as : (frame body : List ℕ) (number : ℕ)
     → length frame ≤ longest_frame → number ≡ little_number 2 (drop 2 frame)
     → body ≡ drop 4 frame

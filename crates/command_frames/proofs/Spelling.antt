@@ -67,6 +67,7 @@ readings_agree (f ∷ fs) (g ∷ gs) rest left all all_too partial partial_too e
     let (frames_are, rest_is) = readings_agree fs gs rest left all.1 all_too.1 partial partial_too more in
     (ap₂ (λ (x : List ℕ) (xs : List (List ℕ)). x ∷ xs) here frames_are, rest_is)
 
+-- bytes determine the frames and the rest of their stream
 pub one_stream_is : (bytes : List ℕ) (frames others : List (List ℕ)) (rest left : List ℕ)
     → IsStream bytes frames rest → IsStream bytes others left
     → (frames ≡ others) × (rest ≡ left)
@@ -96,6 +97,7 @@ frames_after bytes (f ∷ fs) (g ∷ gs) left rest all e each partial is =
     frames_after (flat_map framed fs ++ left) fs gs left rest all.1 refl each.1 partial next in
     (more, ap₂ (λ (x : List ℕ) (xs : List (List ℕ)). x ∷ xs) (sym here) frames_are, stream)
 
+-- whole frames at the front of a stream are its first ones, and what follows them is a stream of the others
 pub frames_in_front_are : (bytes : List ℕ) (first frames : List (List ℕ)) (left rest : List ℕ)
     → AllByRecursion IsFrame first → bytes ≡ flat_map framed first ++ left
     → IsStream bytes frames rest
@@ -216,6 +218,7 @@ reads_by (suc most) bytes within fits (inr four) (inr whole) =
     (behind_fits bytes fits) (cases_lt (length (behind bytes)) 4)
     (cases_lt (length (behind bytes)) (4 + little_number 4 (behind bytes))))
 
+-- all bytes are a stream of frames and a rest
 pub each_is_stream_is : (bytes : List ℕ)
     → ((i : ℕ) → get_or bytes i 0 < 256)
     → (frames : List (List ℕ)) × (rest : List ℕ) × IsStream bytes frames rest
@@ -268,6 +271,7 @@ framed_told t c s p =
     let same : 8 + length p ≡ length (told t c s p) = omega arith in
     ap (λ n. little_bytes 4 n ++ told t c s p) same
 
+-- bytes determine the reply with which they begin, and the bytes after it
 pub one_reply_in_front_is : (t u c d : ℕ) (s z : ℤ) (p q rest left : List ℕ)
     → IsReply t c s p → IsReply u d z q
     → reply_bytes t c s p ++ rest ≡ reply_bytes u d z q ++ left

@@ -40,6 +40,7 @@ word_of_front bytes n at lt =
     let fourth = byte_of_front bytes n at 3 lt in
     omega arith
 
+-- ten words that are read from the first 40 bytes are the first ten words of all bytes
 pub words_in_front : (bytes found : List ℕ)
     → length found ≡ 10
     → IsRead little_number 4 (take 40 bytes) found

@@ -18,6 +18,7 @@ of_input P (Some bytes) None input whole holds = absurd whole.read
 of_input P (Some bytes) (Some rest) input whole holds =
     subst P (sym (whole.read ∙ (ap (λ more. input ++ more) whole.end ∙ append-nil input))) holds
 
+-- if a run of `verify` has the status of an accepted program, a known input has a program that is accepted
 pub accepts_known : (arguments : List Text) (maps given : List Named) (refusal : Option Refusal)
     (old new : Streams)
     → AreMapArguments arguments maps → given ≡ maps
@@ -33,6 +34,7 @@ words_of : Option Asked → List Text
 words_of (Some (Verifies arguments)) = arguments
 words_of _ = []
 
+-- what is known of acceptance with the given map arguments holds for those of the task, as they are the same
 pub accepts_asked : (given : List Text) (told : Option Asked) (input : Option (List ℕ)) {E : Type 0}
     (r : Result ℕ E)
     → told ≡ Some (Verifies given)

@@ -46,6 +46,7 @@ first_cut text (Some cut) is =
     ∙ sym (ap (λ front. front ∷ map_fields cut.1.now) is.1
     ∙ ap (λ rest. before_first is_colon text ∷ map_fields rest) is.2)
 
+-- a text that cannot be cut at a colon is one field
 pub no_cut : (text : Text) (r : Option (Bor Text × Bor Text))
     → MatchOption r (position_or_len is_colon text ≡ length text)
     (λ cut.
@@ -103,6 +104,7 @@ five_fields argument map is =
 
 -- ---- arguments that name no map
 
+-- if no map was read from an argument that names none, what was read is what it names
 pub none_named : (argument : Text) (r : Option Named) → r ≡ None → ((map : Named) → ¬ IsMapArgument argument map)
     → (map : Named) → (r ≡ Some map → IsMapArgument argument map) × (IsMapArgument argument map → r ≡ Some map)
 none_named argument r none never map = (
@@ -110,6 +112,7 @@ none_named argument r none never map = (
   (λ is. absurd (never map is)),
 )
 
+-- an argument of fewer than five fields names no map
 pub few_fields : (argument : Text) → length (map_fields argument) < 5 → (map : Named) → ¬ IsMapArgument argument map
 few_fields argument few map is = omega (arith, ap length (five_fields argument map is))
 
@@ -117,10 +120,15 @@ few_fields argument few map is = omega (arith, ap length (five_fields argument m
 pub record SameFields
     (argument fd kind key_size value_size max_entries : Text)
     (map : Named) (is : IsMapArgument argument map) : Type 0 where
+  -- the field of the descriptor is the first
   pub fd_is : is.fd ≡ fd
+  -- the field of the kind is the second
   pub kind_is : is.kind ≡ kind
+  -- the field of the size of a key is the third
   pub key_size_is : is.key_size ≡ key_size
+  -- the field of the size of a value is the fourth
   pub value_size_is : is.value_size ≡ value_size
+  -- the field of the maximum of entries is the rest of the argument
   pub max_entries_is : is.max_entries ≡ max_entries
 
 whole : (text field : Text) → map_fields text ≡ field ∷ [] → field ≡ text
@@ -134,6 +142,7 @@ tail : List Text → List Text
 tail [] = []
 tail (x ∷ xs) = xs
 
+-- if an argument that names a map was cut at four colons, the pieces are the fields of the map
 pub same_fields : (argument fd kind key_size value_size max_entries : Text)
     → map_fields argument ≡ fd ∷ kind ∷ key_size ∷ value_size ∷ map_fields max_entries
     → (map : Named) (is : IsMapArgument argument map)
@@ -149,6 +158,7 @@ same_fields argument fd kind key_size value_size max_entries cut map is =
       max_entries_is = whole max_entries is.max_entries (sym (ap (λ xs. tail (tail (tail (tail xs)))) same));
     }
 
+-- an argument whose last four fields are those of no shape names no map
 pub no_shape : (argument fd kind key_size value_size max_entries : Text)
     → map_fields argument ≡ fd ∷ kind ∷ key_size ∷ value_size ∷ map_fields max_entries
     → ((shape : MapShape) → ¬ IsShapeOf shape kind key_size value_size max_entries)
@@ -162,6 +172,7 @@ no_shape argument fd kind key_size value_size max_entries cut never map is =
       max_entries_is = ap decimal_number (sym same.max_entries_is) ∙ is.shaped.max_entries_is;
     })
 
+-- an argument whose first field is no descriptor names no map
 pub no_descriptor : (argument fd kind key_size value_size max_entries : Text)
     → map_fields argument ≡ fd ∷ kind ∷ key_size ∷ value_size ∷ map_fields max_entries
     → descriptor_number fd ≡ None → (map : Named) → ¬ IsMapArgument argument map
@@ -206,6 +217,7 @@ module _ (kind : MapKind) (key value max : ℕ) (listed : IsTrue (is_shape kind 
 some_same : (a b : ℕ) (o p : Option ℕ) → o ≡ Some a → p ≡ Some b → o ≡ p → a ≡ b
 some_same a b o p is_a is_b same = let both : Some a ≡ Some b = sym is_a ∙ (same ∙ is_b) in cc both
 
+-- four fields are those of at most one shape
 pub same_shape : (a b : MapShape) (kind key_size value_size max_entries : Text)
     → IsShapeOf a kind key_size value_size max_entries
     → IsShapeOf b kind key_size value_size max_entries
@@ -298,9 +310,11 @@ one_map argument a b is_a is_b =
 
 -- ---- the map that was read from an argument
 
+-- if `result_ok` of a result is None, the result has no map
 pub none_read : {E : Type 0} (r : Result Named E) (map : Named) → None ≡ result_ok r → r ≡ Ok map → ⊥
 none_read r map none ok = let both : None ≡ Some map = none ∙ ap result_ok ok in cc both
 
+-- if `result_ok` of a result is a map, it is the map that the result has
 pub one_read : {E : Type 0} (r : Result Named E) (map other : Named)
     → Some map ≡ result_ok r → r ≡ Ok other → map ≡ other
 one_read r map other some ok = some_map map other (some ∙ ap result_ok ok)

@@ -39,6 +39,7 @@ each_more [] (n ∷ ns) argument m each is = absurd each
 each_more (w ∷ ws) [] argument m each is = absurd each
 each_more (w ∷ ws) (n ∷ ns) argument m each is = (each.0, each_more ws ns argument m each.1 is)
 
+-- if arguments name maps, and the next one a map with another descriptor, they name the maps with this one at the end
 pub maps_more : (arguments : List Text) (maps : List Named) (argument : Text) (m : Named)
     → AreMapArguments arguments maps → IsMapArgument argument m
     → has_descriptor m.fd maps ≡ false
@@ -67,6 +68,7 @@ length_before [] i below = absurd (omega arith)
 length_before (w ∷ ws) zero below = refl
 length_before (w ∷ ws) (suc i) below = ap suc (length_before ws i (omega arith))
 
+-- if the first i arguments name maps, and the next one a map with another descriptor, i + 1 arguments name maps
 pub next_right : (arguments : List (Bor Text)) (i : ℕ) (d : Bor Text) (maps : List Named) (m : Named)
     → i < length arguments
     → AreMapArguments (take i (texts arguments)) maps
@@ -78,6 +80,7 @@ next_right arguments i d maps m below are is absent =
     subst (λ n. AreMapArguments (take n (texts arguments)) (maps ++ m ∷ [])) next
     (subst (λ ws. AreMapArguments ws (maps ++ m ∷ [])) (sym (texts_more arguments i d below)) more)
 
+-- if the next argument names no map, or one with a descriptor of those before it, it is the first wrong one
 pub next_wrong : (arguments : List (Bor Text)) (i : ℕ) (d : Bor Text) (maps : List Named)
     → i < length arguments
     → AreMapArguments (take i (texts arguments)) maps
@@ -98,11 +101,17 @@ next_wrong arguments i d maps below are wrong = record {
 
 -- the maps of the first arguments, of the next one, and of the others
 pub record AreParted (before : List Text) (argument : Text) (after : List Text) (maps : List Named) : Type 0 where
+  -- the maps of the arguments before
   pub first : List Named
+  -- the map of the argument
   pub next : Named
+  -- the maps of the arguments after it
   pub others : List Named
+  -- the maps are these, one after another
   pub maps_are : maps ≡ first ++ next ∷ others
+  -- the arguments before name the first maps, in order
   pub each : AllZip IsMapArgument before first
+  -- the argument names the next map
   pub is : IsMapArgument argument next
 
 parted : (before : List Text) (argument : Text) (after : List Text) (maps : List Named)
@@ -159,6 +168,7 @@ not_before (m ∷ ms) next others apart =
     either_false (m.fd == next.fd) (has_descriptor next.fd ms) here
     (not_before ms next others (λ i j d less below. apart (suc i) (suc j) d (omega arith) (omega arith)))
 
+-- if all arguments name maps with different descriptors, none is wrong
 pub none_wrong : (arguments : List Text) (maps : List Named) (number : ℕ)
     → AreMapArguments arguments maps → IsFirstWrongArgument arguments number → ⊥
 none_wrong arguments maps number are is =

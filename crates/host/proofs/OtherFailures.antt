@@ -34,6 +34,7 @@ at_slot slot other = λ e. omega (arith, e)
 
 -- ---- inputs that are rejected
 
+-- a failure since an input is rejected is not one of the arguments
 pub refused_otherwise : (task : TextTask) (input : List ℕ) (failure : Failure)
     → IsInputRefused task input failure → IsOther failure
 refused_otherwise Assemble input failure (inl none) = λ e. omega (arith, sym (ap exit_status none.1) ∙ e)
@@ -54,6 +55,7 @@ unread Read old new is = λ e. omega (arith, e)
 unread Memory old new is = λ e. omega (arith, e)
 unread other old new is = absurd is
 
+-- a failure of a run that rewrites its input is not one of the arguments, if none for a rejected input is
 pub stops_otherwise : (made : List ℕ → List ℕ → Type 0) (refused : List ℕ → Failure → Type 0)
     → ((input : List ℕ) (failure : Failure) → refused input failure → IsOther failure)
     → (old new : Streams) (failure : Failure) → StopsRewriting made refused old new failure → IsOther failure
@@ -76,6 +78,7 @@ ends_otherwise : (served : Result ℕ ServeFault) → IfErr (stream_end served) 
 ends_otherwise (Ok count) = tt
 ends_otherwise (Err fault) = stream_otherwise fault.kind fault.frames
 
+-- a failure of a run that serves a stream is not one of the arguments
 pub served_otherwise : (result : Result (Unit {0}) Failure) (before : StreamState)
     (after : List TenantState → StreamState)
     → ServesNewHost result before after → IfErr result IsOther

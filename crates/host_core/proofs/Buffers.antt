@@ -41,6 +41,7 @@ pub take-drop-take : (n count : ℕ) (bytes rest : List ℕ)
     → rest ≡ drop n bytes → take n bytes ++ take count rest ≡ take (n + count) bytes
 take-drop-take n count bytes rest e = ap (λ l. take n bytes ++ take count l) e ∙ sym (take-add n count bytes)
 
+-- if n bytes are dropped and then count more, the first n + count bytes are dropped
 pub drop_further : (n count : ℕ) (bytes rest : List ℕ) → rest ≡ drop n bytes → drop count rest ≡ drop (n + count) bytes
 drop_further n count bytes rest e = ap (drop count) e ∙ drop-drop count n bytes
 

@@ -54,6 +54,7 @@ by_length : (short : Bool) (frame : List ℕ) (h : Head)
 by_length true frame h is e = absurd (let wrong = rw is at e in cc wrong)
 by_length false frame h is e = rw is (let same = rw is at e in cc same)
 
+-- the tenant in the head of a frame is the tenant of the frame
 pub owner_is : (frame : List ℕ) (h : Head) → head_of frame ≡ Some h → h.tenant ≡ owner frame
 owner_is frame h e = by_length (nat_lt (length frame) 4) frame h refl e
 
@@ -62,6 +63,7 @@ by_no_length : (short : Bool) (frame : List ℕ)
 by_no_length true frame is e = rw is refl
 by_no_length false frame is e = absurd (let wrong = rw is at e in cc wrong)
 
+-- a frame without a head is of tenant 65535
 pub no_head : (frame : List ℕ) → head_of frame ≡ None → owner frame ≡ 65535
 no_head frame e = by_no_length (nat_lt (length frame) 4) frame refl e
 

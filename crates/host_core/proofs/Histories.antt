@@ -106,6 +106,7 @@ others_reached : (before after : HostState) (t : ℕ) (s : TenantState) (births 
 others_reached before after t s births reached same same_births there born =
     reached.each t s births (sym same ∙ there) (sym same_births ∙ born)
 
+-- after a host handles a frame, each of its tenants still has a history
 pub by_handle : (before after : HostState) (frame reply : List ℕ)
     → AreReached before
     → Handles before.states frame reply after.states
@@ -147,6 +148,7 @@ by_handle before after frame reply reached handles records = record {
         let other : t ≢ owner frame = λ same. absurd (true≢false (sym (eq-eqb t (owner frame) same) ∙ e)) in
         others_reached before after t s births reached (handles.others t other) (records.others t other) there born
 
+-- after a host runs a program on packets, each of its tenants still has a history
 pub by_packets : (before after : HostState) (tenant fd : ℕ) (inputs : List BatchInput)
     (room written : List ℕ)
     → AreReached before
@@ -203,6 +205,7 @@ same_length : {X Y : Type 0} (n : ℕ) (x : X) (y : Y) → length (replicate n x
 same_length zero x y = refl
 same_length (suc n) x y = ap suc (same_length n x y)
 
+-- each tenant of a new host has a history
 pub new_reached : (count : ℕ) → AreReached (new_host count)
 new_reached count = record {
   many = same_length count (let none : List Birth = [] in none) new_tenant;
@@ -272,6 +275,7 @@ by_calls [] before after reached same = subst AreReached (sym same) reached
 by_calls (next ∷ later) before after reached (call, calls) =
     by_calls later next after (by_call before next reached call) calls
 
+-- after any calls on a new host, the frames that are saved of each tenant restore it
 pub after_calls : HistoriesAreRestored → FramesHaveOwners → PartsAreWhole → TenantsAreRestored
 after_calls law owners whole count calls host made =
     tenants_are_restored law owners whole host (by_calls calls (new_host count) host (new_reached count) made)

@@ -35,11 +35,13 @@ pub cases_of : {T E : Type 0} (Z : Type 0) (r : Result T E) (A B C : T → Type 
 cases_of Z (Ok x) A B C F f g a b c e = f x a b c
 cases_of Z (Err x) A B C F f g a b c e = g x e
 
+-- if the value of a result has three properties, from which a fourth one follows, it has the fourth
 pub all_ok : {T E : Type 0} (r : Result T E) (A B C D : T → Type 0)
     → ((x : T) → A x → B x → C x → D x) → IfOk r A → IfOk r B → IfOk r C → IfOk r D
 all_ok (Ok x) A B C D f a b c = f x a b c
 all_ok (Err e) A B C D f a b c = tt
 
+-- if a property of the error of a result implies another one, the error has the other one too
 pub with_error : {T E : Type 0} (r : Result T E) (A B : E → Type 0) → ((e : E) → A e → B e) → IfErr r A → IfErr r B
 with_error (Ok x) A B f a = tt
 with_error (Err e) A B f a = f e a
@@ -59,6 +61,7 @@ module _ (owners : FramesHaveOwners) (h : HostState) (t : ℕ) (small : t < 2 ^ 
       ∙ sym (ap (λ (b : Bool). reply_to (load_frame t insns) (status_of (if b then Invalid else NotPermitted)) [])
       (le-ltb (length (load_frame t insns)) 4 (omega arith)))
 
+  -- a program for a tenant that is not served has the reply NotPermitted, and the host does not change
   pub installs_nowhere : Installs t insns status h h
   installs_nowhere = record {
     handled = record {
@@ -79,9 +82,11 @@ module _ (m : Memory) (ks : List RecordedTenant) (h : HostState) (view : host_st
   there : slice_get h.states t ≡ Some (tenant_state (part_bytes m t) k)
   there = state_there m ks h.states t k (states_are m ks h view) found
 
+  -- if a program fits the state that a tenant's record represents, whatever its part is, it fits the tenant
   pub fits_there : ((part : List ℕ) → Fits a (targets (tenant_state part k))) → FitsTenant a (slice_get h.states t)
   fits_there fits = subst (FitsTenant a) (sym there) (fits (part_bytes m t))
 
+  -- if a program does not fit the state that a tenant's record represents, whatever its part is, it is stale there
   pub stale_there : ((part : List ℕ) → ¬ Fits a (targets (tenant_state part k))) → ¬ FitsTenant a (slice_get h.states t)
   stale_there stale fits = stale (part_bytes m t) (subst (FitsTenant a) there fits)
 
@@ -115,6 +120,7 @@ module _ (owners : FramesHaveOwners) (law : FaultsHaveNoPayload) (m : Memory)
   records : Records (load_frame t insns) (load_reply t insns status) h (host_state m (set ks t l))
   records = records_own m m ks h t k l (load_frame t insns) (load_reply t insns status) view own room found recorded
 
+  -- if a tenant replies to the frame that loads a program, and records it, the host installs the program
   pub installs_there : Installs t insns status h (host_state m (set ks t l))
   installs_there = record { handled = handled; recorded = records }
 

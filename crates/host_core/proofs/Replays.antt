@@ -52,6 +52,7 @@ replies_agree (f ∷ fs) (r ∷ rs) (q ∷ qs) paired paired_too agree =
     (λ g e. same_later (owner f == owner g) r q (replies_of (owner g) fs rs) (replies_of (owner g) fs qs) e) agree.1 in
     ap₂ (λ (x : List ℕ) (xs : List (List ℕ)). x ∷ xs) first (replies_agree fs rs qs (omega arith) (omega arith) later)
 
+-- two streams with the same frames, from the same states of their tenants, have the same replies and output
 pub same_frames_same_output : SameFramesSameReplies → SameFramesSameOutput
 same_frames_same_output law old new old_too new_too count count_too rest rest_too one other same alike =
     let paired : length one.replies ≡ length one.frames = omega (arith, one.many.0, one.many.1) in

@@ -115,6 +115,7 @@ read_rest a b c frames rest first later =
     (ap (λ l. l ++ rest) (append-nil (flat_map framed frames)))
     (Consumes-trans a b c (flat_map framed frames ++ []) rest first later)
 
+-- the bytes of the replies and one more are those of the replies and then its own
 pub joined-push : (replies : List (List ℕ)) (reply : List ℕ)
     → joined_replies (replies ++ reply ∷ []) ≡ joined_replies replies ++ reply
 joined-push replies reply =
@@ -146,6 +147,7 @@ serves_more old mid new turns frame reply out s h =
       handled = handled_more old.states mid.states new.states turns frame reply s.handled h.handled;
     }
 
+-- at first no frame has a reply, and nothing was read or written
 pub answered_none : (m : StreamState) → AnswersFrames m m 0 []
 answered_none m = (
   [],
@@ -153,6 +155,7 @@ answered_none m = (
   record { each = tt; read = Consumes-nil m.input; written = Appends-nil m.output; handled = refl },
 )
 
+-- if count frames have whole replies, and one more is served, count + 1 frames have whole replies
 pub answered_more : (old mid new : StreamState) (count : ℕ) (frame reply : List ℕ)
     → AnswersFrames old mid count [] → ServesOneFrame mid new frame reply reply
     → AnswersFrames old new (count + 1) []
@@ -164,6 +167,7 @@ answered_more old mid new count frame reply (turns, len, s) h =
           (serves_more old mid new turns frame reply reply s h),
     )
 
+-- if n bytes of the reply to one more frame are written, the last reply is cut after count whole ones
 pub cut_off : (old mid new : StreamState) (count n : ℕ) (frame reply : List ℕ)
     → AnswersFrames old mid count []
     → ServesOneFrame mid new frame reply (take n reply)
@@ -176,6 +180,7 @@ cut_off old mid new count n frame reply (turns, len, s) h = (
   serves_more old mid new turns frame reply (take n reply) s h,
 )
 
+-- if count frames have whole replies, and then only bytes are read, these are the rest after the frames
 pub answered_rest : (old mid new : StreamState) (count : ℕ) (rest : List ℕ)
     → AnswersFrames old mid count [] → ReadsOnly mid new rest
     → AnswersFrames old new count rest
@@ -306,6 +311,7 @@ answered_alone law old new count rest partial (turns, many, s) =
       no_fault = no_fault;
     }
 
+-- a call that ends at the end of its input serves its frames as `ServesAlone` has it
 pub serves_alone : CallsAreToldAlone
     → (old new : StreamState) (count : ℕ) → ServesToEnd old new count
     → ServesAlone old new count []
@@ -325,6 +331,7 @@ nothing_served m = record {
   no_fault = tt;
 }
 
+-- a call that ends with another fault than Write serves the frames before it as `ServesAlone` has it
 pub stops_alone : CallsAreToldAlone
     → (old new : StreamState) (kind : ServeFaultKind) (count : ℕ)
     → StopsWithFault old new kind count
@@ -348,6 +355,7 @@ stops_alone law old new Memory count (none, same) whole = (
       (subst (λ (n : ℕ). ServesAlone old old n []) (sym none) (nothing_served old)),
 )
 
+-- if one more frame is served and flushed, count + 1 frames have whole replies, no call failed, and all is flushed
 pub frame_more : (old mid new : StreamState) (count : ℕ)
     → AnswersFrames old mid count [] → NoCallFailed old mid
     → ServesFrameOrEnds mid new true
@@ -389,6 +397,7 @@ end_fails old mid new count limit kind is same answered sound read written flush
 
 -- ---- the contract of `serve`
 
+-- a call that ends at the end of its input, within the limit of frames, meets the contract of `serve`
 pub ends_served : CallsAreToldAlone
     → (limit count : ℕ) (old new : StreamState) → count ≤ limit
     → IsFlushedAgain old new → ServesToEnd old new count
@@ -421,6 +430,7 @@ ends_unread limit m = record {
   too_many = λ wrong. cc wrong;
 }
 
+-- a call that ends with a fault, at a number of frames that fits the fault, meets the contract of `serve`
 pub ends_stopped : CallsAreToldAlone
     → (limit : ℕ) (fault : ServeFault) (old new : StreamState) → fault.frames ≤ limit
     → (fault.kind ≢ Write → IsFlushedAgain old new)

@@ -47,6 +47,7 @@ same_command front frame long_front long_frame e =
     let same : little_number 2 (drop 2 front) ≡ little_number 2 (drop 2 frame) = omega arith in
     long_command front long_front ∙ same ∙ sym (long_command frame long_frame)
 
+-- a frame that was cut to the size of the buffer is of the same tenant as the whole frame
 pub stands_owner : (front frame : List ℕ) → IsKeptFrontOf front frame → owner front ≡ owner frame
 stands_owner front frame (inl same) = ap owner same
 stands_owner front frame (inr h) = same_owner front frame h.0 h.1 h.2
@@ -83,6 +84,7 @@ none_status front frame o c long_front long_frame =
     same_head front frame (status_of (if nat_lt (length front) 4 then Invalid else NotPermitted)) [] o c
     ∙ ap (λ (e : Errno). reply_to frame (status_of e) []) (headed front long_front ∙ sym (headed frame long_frame))
 
+-- a reply to a frame that was cut to the size of the buffer is a reply to the whole frame
 pub stands_tells : (front frame reply : List ℕ) (before after : Option TenantState)
     → IsKeptFrontOf front frame → MayReply front reply before after
     → MayReply frame reply before after

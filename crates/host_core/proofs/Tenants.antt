@@ -21,11 +21,13 @@ use Rattle.host_core.specs.Saving.{Records, saved_part}
 use Rattle.host_core.specs.States.{HostState, host_state, states_from, states_in, births_in}
 use Rattle.host_core.proofs.Heads.{no_state}
 
+-- at the index that was set, a list has the new element
 pub slice_get-set_same : {X : Type 0} (xs : List X) (i : ℕ) (x : X) → i < length xs → slice_get (set xs i x) i ≡ Some x
 slice_get-set_same [] i x lt = absurd (omega arith)
 slice_get-set_same (y ∷ ys) zero x lt = refl
 slice_get-set_same (y ∷ ys) (suc i) x lt = slice_get-set_same ys i x (omega arith)
 
+-- a list is not changed at another index than the one that was set
 pub slice_get-set_other : {X : Type 0} (xs : List X) (i k : ℕ) (x : X)
     → k ≢ i → slice_get (set xs i x) k ≡ slice_get xs k
 slice_get-set_other [] i k x ne = refl
@@ -46,6 +48,7 @@ slice_get_in xs i x lt e = slice_get_read xs (length xs) i x refl lt e
 
 -- ---- states
 
+-- a host has as many states as records of tenants
 pub states_length : (m : Memory) (t : ℕ) (ks : List RecordedTenant) → length (states_from m t ks) ≡ length ks
 unfolding states_from
 states_length m t [] = refl
@@ -62,12 +65,14 @@ state_from m t (k ∷ ks) (suc i) =
     let same : t + 1 + i ≡ t + suc i = omega arith in
     state_from m (t + 1) ks i ∙ ap (λ (n : ℕ). option_map (tenant_state (part_bytes m n)) (slice_get ks i)) same
 
+-- the state of a tenant is that which its part and its record represent, if it is served
 pub state_of : (m : Memory) (ks : List RecordedTenant) (i : ℕ)
     → slice_get (states_in m ks) i ≡ option_map (tenant_state (part_bytes m i)) (slice_get ks i)
 state_of m ks i =
     let same : 0 + i ≡ i = omega arith in
     state_from m 0 ks i ∙ ap (λ (n : ℕ). option_map (tenant_state (part_bytes m n)) (slice_get ks i)) same
 
+-- one more record adds its tenant's state at the end
 pub states_push : (m : Memory) (t : ℕ) (ks : List RecordedTenant) (k : RecordedTenant)
     → states_from m t (ks ++ k ∷ []) ≡ states_from m t ks ++ tenant_state (part_bytes m (t + length ks)) k ∷ []
 unfolding states_from
@@ -79,11 +84,13 @@ states_push m t (x ∷ ks) k =
 
 -- ---- one tenant changes
 
+-- the state of a tenant with this record is that which its part and the record represent
 pub own_before : (m : Memory) (ks : List RecordedTenant) (i : ℕ) (k : RecordedTenant)
     → slice_get ks i ≡ Some k
     → slice_get (states_in m ks) i ≡ Some (tenant_state (part_bytes m i) k)
 own_before m ks i k e = state_of m ks i ∙ ap (option_map (tenant_state (part_bytes m i))) e
 
+-- after a tenant's record is replaced, its state is that which its part and the new record represent
 pub own_after : (m : Memory) (ks : List RecordedTenant) (i : ℕ) (k : RecordedTenant)
     → i < length ks
     → slice_get (states_in m (set ks i k)) i ≡ Some (tenant_state (part_bytes m i) k)
@@ -98,6 +105,7 @@ others_stay m n ks i other k ne same =
     ∙ ap (option_map (tenant_state (part_bytes n other))) (slice_get-set_other ks i other k ne)
     ∙ ap (λ (bytes : List ℕ). option_map (tenant_state bytes) (slice_get ks other)) same ∙ sym (state_of m ks other)
 
+-- if a tenant's record is replaced, and perhaps memory changes, the number of states does not change
 pub count_stays : (m n : Memory) (ks : List RecordedTenant) (i : ℕ) (k : RecordedTenant)
     → length (states_in n (set ks i k)) ≡ length (states_in m ks)
 count_stays m n ks i k = states_length n 0 (set ks i k) ∙ length-set ks i k ∙ sym (states_length m 0 ks)
@@ -131,6 +139,7 @@ pub of_kept : {X : Type 0} (of : Option TenantState → X) (part : List ℕ)
     → of (Some (tenant_state part kept.now)) ≡ of o
 of_kept of part is found = sym (ap of (is ∙ ap (option_map (λ k. tenant_state part k.now)) found))
 
+-- what is read of a tenant that was not found is what is read of no state
 pub of_none : {X : Type 0} (of : Option TenantState → X) (part : List ℕ)
     {r : Option (Bor RecordedTenant)} {o : Option TenantState}
     → o ≡ option_map (λ k. tenant_state part k.now) r → r ≡ None → of None ≡ of o
@@ -167,10 +176,12 @@ module _ (m : Memory) (ks : List RecordedTenant) (states : List TenantState) (i 
     (k : RecordedTenant) (is : states_in m ks ≡ states) (found : slice_get ks i ≡ Some k)
     (flag : Bool)
     (told : (part : List ℕ) → flag ≡ (tenant_state part k).refused) where
+  -- if the flag is clear, no memory was refused to the tenant
   pub told_unrefused : flag ≡ false → IsUnrefused (slice_get states i)
   told_unrefused clear =
       subst IsUnrefused (sym (state_there m ks states i k is found)) (sym (told (part_bytes m i)) ∙ clear)
 
+  -- if the flag is set, memory was refused to the tenant
   pub told_refused : flag ≡ true → ¬ IsUnrefused (slice_get states i)
   told_refused set unrefused =
       let here : (tenant_state (part_bytes m i) k).refused ≡ false =
@@ -187,6 +198,7 @@ replicate_push : {X : Type 0} (n : ℕ) (x : X) → replicate n x ++ x ∷ [] �
 replicate_push zero x = refl
 replicate_push {X = X} (suc n) x = ap (λ (l : List X). x ∷ l) (replicate_push n x)
 
+-- if n tenants are new, and one more has the record of a new one, n + 1 are new
 pub new_more : (m : Memory) (first : ℕ) (ks : List RecordedTenant) (k : RecordedTenant) (n : ℕ)
     → states_from m first ks ≡ replicate n new_tenant
     → ((part : List ℕ) → tenant_state part k ≡ new_tenant)
@@ -228,6 +240,7 @@ pub with_ok : {A E : Type 0} {P Q : Type 0} (r : Result A E) → (P → Q) → O
 with_ok (Ok x) f p = f p
 with_ok (Err e) f p = tt
 
+-- if what holds of a result with an error implies something, that holds of it too
 pub with_err : {A E : Type 0} {P Q : Type 0} (r : Result A E) → (P → Q) → OnErr r P → OnErr r Q
 with_err (Ok x) f p = tt
 with_err (Err e) f p = f p
@@ -258,6 +271,7 @@ births_stay (x ∷ ks) zero k l found same =
 births_stay (x ∷ ks) (suc i) k l found same =
     ap (λ (bss : List (List Birth)). x.births ∷ bss) (births_stay ks i k l found same)
 
+-- if n tenants have no births, and one more has none, n + 1 have none
 pub no_births_more : (ks : List RecordedTenant) (k : RecordedTenant) (n : ℕ)
     → births_in ks ≡ replicate n [] → k.births ≡ []
     → births_in (ks ++ k ∷ []) ≡ replicate (n + 1) []

@@ -46,6 +46,7 @@ unrefused_are_told_alone clear before after frames replies h t unrefused =
     alone_by clear (slice_get before t) (slice_get after t) (frames_of t frames)
     (replies_of t frames replies) (h t) unrefused
 
+-- a tenant that begins alike in two streams, with the same frames, has the same replies if no memory is refused to it
 pub same_frames_same_replies : OneAlone → SameFramesSameReplies
 same_frames_same_replies one t before after before_too after_too frames replies frames_too
     replies_too told told_too unrefused unrefused_too starts agree =
@@ -70,6 +71,7 @@ first_turns before after [] (suc n) h = refl
 first_turns before after (turn ∷ turns) zero h = refl
 first_turns before after (turn ∷ turns) (suc n) (first, later) = (first, first_turns turn.states after turns n later)
 
+-- a tenant has exactly the replies of its own machine until memory is refused to it
 pub each_until_refused : CallsAreToldAlone → EachIsToldAloneUntilRefused
 each_until_refused law before after turns n h =
     (law before (states_after before (take n turns)) (take n turns) (first_turns before after turns n h)).1
@@ -83,6 +85,7 @@ later_turns before after [] (suc m) h = h
 later_turns before after (turn ∷ turns) zero h = h
 later_turns before after (turn ∷ turns) (suc m) (first, later) = later_turns turn.states after turns m later
 
+-- in a stretch of turns without a reply that memory was refused, a tenant has exactly the replies of its own machine
 pub each_stretch : UnrefusedRepliesMeanAlone → CallsAreToldAlone → EachStretchIsToldAlone
 each_stretch told_so law before after turns m n h t none =
     let start = states_after before (take m turns) in

@@ -63,6 +63,7 @@ insn_has_no_fault bytes _ has fault = fault
 not_ragged : (top : ℕ) (bytes : List ℕ) → HasFault bytes Ragged → HasFirstSlot top bytes → ⊥
 not_ragged top bytes short has = omega (arith, first_slot_long top bytes has)
 
+-- bytes have at most one fault at their front
 pub one_kind : (bytes : List ℕ) (a b : FaultKind) → HasFault bytes a → HasFault bytes b → a ≡ b
 one_kind bytes Ragged Ragged x y = refl
 one_kind bytes Ragged Opcode x y = absurd (omega (arith, x, y.0))
@@ -104,6 +105,7 @@ not_length len fault e memory = grind (arith, nat_tests)
 not_at_front : (bytes : List ℕ) (kind : FaultKind) → kind ≡ Memory → HasFault bytes kind → ⊥
 not_at_front bytes kind e h = subst (HasFault bytes) e h
 
+-- the fault of bytes that are no program is never Memory
 pub not_memory : (bytes : List ℕ) (fault : CodecFault) → IsProgramFault bytes fault → fault.kind ≡ Memory → ⊥
 not_memory bytes fault (inl of_length) memory = not_length (length bytes) fault of_length memory
 not_memory bytes fault (inr after) memory = not_at_front after.rest fault.kind memory after.kind

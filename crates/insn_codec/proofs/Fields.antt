@@ -53,6 +53,7 @@ bits_listed : (b : KeptBits) (op dst : ℕ) (how : ByteOrder) → listed (form.E
 bits_listed bits.Bits16 op dst how = refl
 bits_listed _ op dst how = refl
 
+-- each field of an instruction's first slot has a value that the instruction's form lists
 pub listed-first : (i : Insn) → listed (form_of i) (first i) ≡ true
 listed-first (Alu wide o dst src) =
     rw (one_operand-fields src (opcode (alu_number o) (source_bit src) (alu_class wide)) dst (alu_offset o)) (offset_listed-alu wide o src)
@@ -101,11 +102,16 @@ imm_field_lt top (operand.Reg r) h = lit< tt
 
 -- registers up to a number, and fields that fit their bits
 pub record IsFront (top : ℕ) (s : SlotFields) : Type 0 where
+  -- the destination register is at most `top`
   pub dst : s.dst ≤ top
+  -- the source register is at most `top`
   pub src : s.src ≤ top
+  -- the offset fits 16 bits
   pub offset : s.offset < 2 ^ 16
+  -- the immediate fits 32 bits
   pub imm : s.imm < 2 ^ 32
 
+-- the first slot of an instruction has the instruction's bound of registers, 2 or more, and fields that fit
 pub IsFront-first : (top : ℕ) (i : Insn) → 2 ≤ top → IsInsnUpTo top i → IsFront top (first i)
 IsFront-first top (Alu wide o dst src) some h = record {
   dst = h.0;
@@ -130,5 +136,6 @@ IsFront-first top (Store s dst src off) some h = record {
 IsFront-first top (Atomic s o dst src off) some h = record { dst = h.0; src = h.1; offset = offset_bits_lt off h.2; imm = atomic_number_lt o }
 IsFront-first top _ some h = record { dst = omega arith; src = omega arith; offset = omega (arith, ints); imm = omega (arith, ints) }
 
+-- with registers up to a bound of at most 15, all fields of a slot fit their bits
 pub IsSlot-front : {top : ℕ} {s : SlotFields} → top ≤ 15 → IsFront top s → IsSlot s
 IsSlot-front few h = record { dst = omega (arith, h.dst, few); src = omega (arith, h.src, few); offset = h.offset; imm = h.imm }

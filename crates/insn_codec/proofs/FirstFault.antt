@@ -104,6 +104,7 @@ by_opcode : (bytes : List ℕ)
 by_opcode bytes fits long none None is = told bytes Opcode (long, unknown bytes is)
 by_opcode bytes fits long none (Some f) is = by_form (record { fits = fits; long = long; form = is }) none
 
+-- the fault that the code finds at the front of bytes is the fault of the grammar
 pub has_fault : (bytes : List ℕ) (kind : FaultKind) → IsBytes bytes → first_fault bytes ≡ Some kind → HasFault bytes kind
 unfolding first_fault
 has_fault bytes kind fits e =

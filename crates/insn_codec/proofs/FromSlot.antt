@@ -117,10 +117,15 @@ movsx_up_to top false _ dst src d s = (d, s)
 
 -- the fields of a slot that begins the form
 pub record IsOf (f : OpcodeForm) (s : SlotFields) : Type 0 where
+  -- an opcode has this form
   pub form : IsTrue (is_form f)
+  -- the slot has the opcode of the form
   pub opcode : s.opcode ≡ opcode_of f
+  -- each field has a value that the form lists
   pub listed : listed f s ≡ true
+  -- the offset fits 16 bits
   pub offset : s.offset < 2 ^ 16
+  -- the immediate fits 32 bits
   pub imm : s.imm < 2 ^ 32
 
 first-alu : {wide : Bool} {c : AluOp} {z : SourceBit} {s : SlotFields}
@@ -162,7 +167,7 @@ load_up_to top size.Double true dst src offset d s h = tt
 load_up_to top _ true dst src offset d s h = (d, s, half_fits offset h)
 load_up_to top _ _ dst src offset d s h = (d, s, half_fits offset h)
 
--- the operation of an immediate
+-- an immediate by which an atomic operation is found is the number of this operation
 pub atomic_of : (imm : ℕ) (o : Option AtomicOp)
     → atomic_by_number imm ≡ o → is_some o ≡ true
     → (op : AtomicOp) × (atomic_by_number imm ≡ Some op) × (imm ≡ atomic_number op)
@@ -192,6 +197,7 @@ wide_up_to top src s dst h =
     (λ e. cond_both (eqb src 1) (MapFd s.dst (cast_signed w32 s.imm)) (MapValue s.dst (cast_signed w32 s.imm) 0) (λ i. IsInsnUpTo top i)
     (λ e. (dst, word_fits s.imm h)) (λ e. (dst, word_fits s.imm h, omega arith)))
 
+-- the instruction that is read from a slot of a form has this slot as its first one
 pub first-insn_at : (f : OpcodeForm) (s : SlotFields) → IsOf f s → first (insn_at f s 0) ≡ s
 first-insn_at (form.Alu wide c z) s h =
     cond_both (ltb s.offset 8) (Alu wide (op_at c s.offset) s.dst (operand_at z s)) (movsx_at wide (narrow_at s.offset) s.dst s.src) (λ i. first i ≡ s)
@@ -228,6 +234,7 @@ first-insn_at (form.Atomic size) s h =
     ap (λ k. first (atomic_insn size k s)) o.1 ∙ slot_same s h.opcode refl refl (offset_same s h.offset) o.2
 first-insn_at form.Wide s h = first-wide h
 
+-- the numbers of the instruction that is read from a slot fit, with the bound of the slot's registers
 pub insn_at_up_to : (top : ℕ) (f : OpcodeForm) (s : SlotFields) → IsOf f s → s.dst ≤ top → s.src ≤ top → IsInsnUpTo top (insn_at f s 0)
 insn_at_up_to top (form.Alu wide c z) s h dst src =
     cond_both (ltb s.offset 8) (Alu wide (op_at c s.offset) s.dst (operand_at z s)) (movsx_at wide (narrow_at s.offset) s.dst s.src) (λ i. IsInsnUpTo top i)

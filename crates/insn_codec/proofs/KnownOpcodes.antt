@@ -62,6 +62,7 @@ has_form b f h e =
     let parts = and_parts (opcode_of f == b) (is_form f) (sym (ap (λ (o : Option OpcodeForm). has_opcode o b) e) ∙ table b h) in
     (eqb-true (opcode_of f) b parts.0, parts.1)
 
+-- the form of a slot's opcode, a byte, is a form of opcodes, and has this opcode
 pub form_of_slot : (f : OpcodeForm) (s : SlotFields) → s.opcode < 256 → form_at s.opcode ≡ Some f → (opcode_of f ≡ s.opcode) × IsTrue (is_form f)
 form_of_slot f s byte e = has_form s.opcode f byte e
 
@@ -78,6 +79,7 @@ first_byte : (i : Insn) → slice_index (spelling i) 0 ≡ (first i).opcode
 unfolding spelling
 first_byte i = refl
 
+-- the opcode of the slot in the first eight bytes is the first byte
 pub opcode-slot_of : (bytes : List ℕ) → (slot_of bytes).opcode ≡ slice_index bytes 0
 unfolding slot_of
 opcode-slot_of bytes = refl

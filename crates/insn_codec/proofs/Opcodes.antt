@@ -69,23 +69,28 @@ known (form.Store _ source.Imm) h = (refl, refl)
 known (form.Atomic atomic_size.Word) h = (refl, refl)
 known _ h = (refl, refl)
 
+-- the opcode of a form has this form
 pub form_at-opcode_of : (f : OpcodeForm) → IsTrue (is_form f) → form_at (opcode_of f) ≡ Some f
 form_at-opcode_of f h = (known f h).0
 
+-- the opcode of a form is in the table of opcodes
 pub is_opcode-opcode_of : (f : OpcodeForm) → IsTrue (is_form f) → is_opcode (opcode_of f) ≡ true
 is_opcode-opcode_of f h = (known f h).1
 
 -- ---- an instruction's first slot is of its form
 
+-- of the operators with one opcode, the unsigned one has offset 0
 pub unsigned : (o : AluOp) → IsTrue (alu_offset (unsigned_of o) == 0)
 unsigned op.Add = refl
 unsigned _ = refl
 
+-- the form of an instruction is one that an opcode has
 pub is_form-form_of : (i : Insn) → IsTrue (is_form (form_of i))
 is_form-form_of (Alu wide o dst src) = unsigned o
 is_form-form_of (Load l) = l.listed
 is_form-form_of _ = refl
 
+-- an operator has the code of the unsigned one with the same opcode
 pub alu_number-unsigned_of : (o : AluOp) → alu_number (unsigned_of o) ≡ alu_number o
 alu_number-unsigned_of op.Add = refl
 alu_number-unsigned_of _ = refl
@@ -94,11 +99,13 @@ source_number-source_of : (o : Operand) → source_number (source_of o) ≡ sour
 source_number-source_of (operand.Imm n) = refl
 source_number-source_of (operand.Reg r) = refl
 
+-- the opcode of an instruction's form is that of its first slot
 pub opcode_of-form_of : (i : Insn) → opcode_of (form_of i) ≡ (first i).opcode
 opcode_of-form_of (Alu wide o dst src) = rw (alu_number-unsigned_of o, source_number-source_of src) refl
 opcode_of-form_of (Jump wide condition dst src off) = rw (source_number-source_of src) refl
 opcode_of-form_of (Store s dst src off) = rw (source_number-source_of src) refl
 opcode_of-form_of _ = refl
 
+-- the opcode of an instruction's first slot has the form of the instruction
 pub form_at-first : (i : Insn) → form_at (first i).opcode ≡ Some (form_of i)
 form_at-first i = ap form_at (sym (opcode_of-form_of i)) ∙ form_at-opcode_of (form_of i) (is_form-form_of i)

@@ -106,6 +106,7 @@ alu_offset_below : (o : AluOp) → ltb (alu_offset o) 8 ≡ true
 alu_offset_below op.Add = refl
 alu_offset_below _ = refl
 
+-- the bits that a conversion keeps are read back from their number
 pub bits_again : (b : KeptBits) → bits_at (kept_bits b) ≡ b
 bits_again bits.Bits16 = refl
 bits_again _ = refl
@@ -118,6 +119,7 @@ movsx_same : (wide : Bool) (b : ExtendedBits) (dst src : ℕ) (p q : IsTrue (wid
 movsx_same wide b dst src p q =
     ap (λ (h : IsTrue (wide || is_short b)). Movsx (record { wide = wide; bits = b; dst = dst; src = src; listed = h })) (IsTrue-prop (wide || is_short b) p q)
 
+-- a move with sign extension is read back from the number of bits in its offset
 pub movsx_again : (wide : Bool) (b : ExtendedBits) (dst src : ℕ) (h : IsTrue (wide || is_short b)) (other : Insn)
     → cond (ltb (extended_bits b) 8) other (movsx_at wide (narrow_at (extended_bits b)) dst src)
     ≡ Movsx (record { wide = wide; bits = b; dst = dst; src = src; listed = h })
@@ -132,12 +134,14 @@ load_same z signed dst src off p q =
     ap (λ (h : IsTrue (not (signed && is_double z))). Load (record { size = z; signed = signed; dst = dst; src = src; off = off; listed = h }))
     (IsTrue-prop (not (signed && is_double z)) p q)
 
+-- a load is read back from its size, its sign, its registers and its offset
 pub load_again : (z : AccessSize) (signed : Bool) (dst src : ℕ) (off : ℤ) (h : IsTrue (not (signed && is_double z)))
     → load_insn z signed dst src off ≡ Load (record { size = z; signed = signed; dst = dst; src = src; off = off; listed = h })
 load_again size.Double true dst src off h = absurd cc
 load_again z true dst src off h = load_same z true dst src off refl h
 load_again z _ dst src off h = load_same z false dst src off refl h
 
+-- an instruction is read back from its form, its first slot and the number in its second
 pub insn_at-first : (i : Insn) → IsInsn i → insn_at (form_of i) (first i) (next i) ≡ i
 insn_at-first (Alu wide o dst src) h =
     rw (alu_offset_below o, op_again o, operand_again src (opcode (alu_number o) (source_bit src) (alu_class wide)) dst (alu_offset o) h.1) refl

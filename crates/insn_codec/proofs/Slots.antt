@@ -18,9 +18,11 @@ use Rattle.insn_set.specs.Spelling.{first, second, slots, spelling, Begins}
 abbrev pub IsBytes : List ℕ → Type 0
 IsBytes bytes = (i : ℕ) → get_or bytes i 0 < 256
 
+-- a list of bytes without its first n is a list of bytes
 pub IsBytes-drop : (n : ℕ) (bytes : List ℕ) → IsBytes bytes → IsBytes (drop n bytes)
 IsBytes-drop n bytes h i = rw get_or-drop (h (n + i))
 
+-- the first n of a list of bytes are a list of bytes
 pub IsBytes-take : (n : ℕ) (bytes : List ℕ) → IsBytes bytes → IsBytes (take n bytes)
 IsBytes-take n bytes h i =
     elim (cases_lt i n) [
@@ -30,9 +32,13 @@ IsBytes-take n bytes h i =
 
 -- the fields after the opcode fit their bits
 pub record IsSlot (s : SlotFields) : Type 0 where
+  -- the destination register fits four bits
   pub dst : s.dst < 16
+  -- the source register fits four bits
   pub src : s.src < 16
+  -- the offset fits 16 bits
   pub offset : s.offset < 2 ^ 16
+  -- the immediate fits 32 bits
   pub imm : s.imm < 2 ^ 32
 
 -- the fields that are read from the bytes of a slot are the slot's
@@ -85,10 +91,12 @@ two_slots ss bytes fits long more e =
     let second = slot_bytes-slot_of (drop 8 bytes) (IsBytes-drop 8 bytes fits) more in
     rw e (take-add 8 8 bytes ∙ sym (ap (λ (x : List ℕ). x ++ take 8 (drop 8 bytes)) first) ∙ sym (ap (λ (x : List ℕ). slot_bytes (slot_of bytes) ++ x) second))
 
+-- if the one slot of an instruction is that of the first eight bytes, the bytes begin with the instruction
 pub begins_one : (i : Insn) (bytes : List ℕ) → IsBytes bytes → 8 ≤ length bytes → slots i ≡ slot_of bytes ∷ [] → Begins i bytes
 unfolding spelling
 begins_one i bytes fits long e = one_slot (slots i) bytes fits long e
 
+-- if the two slots of an instruction are those of the first sixteen bytes, the bytes begin with the instruction
 pub begins_two : (i : Insn) (bytes rest : List ℕ)
     → IsBytes bytes → 8 ≤ length bytes
     → rest ≡ drop 8 bytes → 8 ≤ length rest
@@ -117,6 +125,7 @@ begins_read i s (Some t) bytes rest fits long rest-is first second read =
 slot_before : {s : SlotFields} {bytes : List ℕ} (rest : List ℕ) → IsSlot s → bytes ≡ slot_bytes s ++ rest → (slot_of bytes ≡ s) × (8 ≤ length bytes)
 slot_before {s} rest fits whole = (ap slot_of whole ∙ slot_of-append rest fits, omega (arith, ap length whole, length-append (slot_bytes s) rest))
 
+-- bytes that begin with an instruction are those of its first slot, those of its other slots, and a rest
 pub whole_of_begins : (i : Insn) (s : SlotFields) (others : List SlotFields) (bytes : List ℕ)
     → slots i ≡ s ∷ others → Begins i bytes
     → bytes ≡ slot_bytes s ++ (flat_map slot_bytes others ++ drop (length (spelling i)) bytes)
@@ -127,6 +136,7 @@ whole_of_begins i s others bytes e h =
     ∙ ap (λ (x : List ℕ). x ++ rest) (h ∙ ap (flat_map slot_bytes) e)
     ∙ append_assoc (slot_bytes s) (flat_map slot_bytes others) rest
 
+-- bytes that begin with an instruction are at least eight, and the first eight are its first slot
 pub first_of_begins : {s : SlotFields} (i : Insn) (others : List SlotFields) (bytes : List ℕ)
     → IsSlot s → slots i ≡ s ∷ others
     → Begins i bytes
@@ -134,6 +144,7 @@ pub first_of_begins : {s : SlotFields} (i : Insn) (others : List SlotFields) (by
 first_of_begins {s} i others bytes fits e h =
     slot_before (flat_map slot_bytes others ++ drop (length (spelling i)) bytes) fits (whole_of_begins i s others bytes e h)
 
+-- bytes that begin with an instruction of two slots have the second one in the next eight bytes
 pub second_of_begins : {t : SlotFields} (i : Insn) (s : SlotFields) (bytes : List ℕ)
     → IsSlot t → slots i ≡ s ∷ t ∷ []
     → Begins i bytes

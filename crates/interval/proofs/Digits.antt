@@ -17,6 +17,7 @@ below_digits m h =
 pub digits_shifted : (m : ℕ) → (2 ^ 64 - 1) / 2 ^ leading_zeros w64 m ≡ 2 ^ binary_digits m - 1
 digits_shifted m = ones_shr 64 (leading_zeros w64 m) (leading_le 64 m)
 
+-- 0 is the greatest number with as many binary digits as 0, none
 pub no_digits : 0 ≡ 2 ^ binary_digits 0 - 1
 unfolding count_leading_zeros
 no_digits = refl

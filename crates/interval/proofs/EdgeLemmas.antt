@@ -70,6 +70,7 @@ edges_keep n condition a b x y h k = stay n condition a b x y h k
 seen_whole : (n x : ℕ) → x < 2 ^ n → operand_bits n x ≡ x
 seen_whole n x h = cond_both (nat_lt n 64) (x % 2 ^ n) x (λ v. v ≡ x) (λ _. mod-eq_of_lt h) (λ _. refl)
 
+-- two members that take an edge of a comparison are members of the refined ranges on it
 pub refined_keep : (n : ℕ) (condition : Condition) (a b : Range) (x y : ℕ)
     → IsMember x a → IsMember y b
     → (IsTrue (compares n condition x y) → IsPairOn (refined n condition a b).0 x y)
@@ -119,6 +120,7 @@ edges_words AboveOrEqual a b p q =
     (turned_words (where_at_most b a) (at_most_words b a q p), turned_words (where_above b a) (above_words b a q p))
 edges_words condition a b p q = ((p, q), (p, q))
 
+-- on both edges of a comparison, ranges of words are refined to ranges of words
 pub refined_words : (n : ℕ) (condition : Condition) (a b : Range)
     → IsOfWords a → IsOfWords b → BothWords (refined n condition a b)
 refined_words n condition a b p q =

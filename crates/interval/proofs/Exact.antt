@@ -29,7 +29,9 @@ from_spread n op a b r t f =
 
 -- r is the range in the table, and includes the result of every two members
 pub record IsRange (n : ℕ) (op : Operator) (a b r : Range) : Type 0 where
+  -- r is the table's range
   pub exact : r ≡ range_of n op a b
+  -- r includes the operator's result for every two members
   pub sound : (x y : ℕ) → IsMember x a → IsMember y b → IsMember (operate n op x y) r
 
 by_table : (n : ℕ) (op : Operator) (a b r : Range)
@@ -59,12 +61,14 @@ module _ (op : Operator) (a b r : Range) (first : a.hi < 2 ^ 64) (second : b.hi 
   wide : r ≡ result_range 64 op a b → IsRange 64 op a b r
   wide e = by_table 64 op a b r (e ∙ wide_range op a b) (omega arith) (λ x. sees_64 a x first) (λ y. sees_64 b y second)
 
+  -- on 64 bits, if the operands that are read are constants, the constant of their result is the table's range
   pub wide_constants : (v : ℕ)
       → are_constants op a b ≡ true → v ≡ operate 64 op a.lo b.lo
       → r ≡ constant v
       → IsRange 64 op a b r
   wide_constants v t e f = wide (from_constants 64 op a b r v t (e ∙ wide_result op a.lo b.lo) f)
 
+  -- on 64 bits, if an operand that is read is no constant, the range by the operands' ends is the table's
   pub wide_spread : are_constants op a b ≡ false → r ≡ general_range 64 op a b → IsRange 64 op a b r
   wide_spread t f = wide (from_spread 64 op a b r t f)
 
@@ -92,6 +96,7 @@ module _ (op : Operator) (u v a b r : Range) (no_end : IsNoEnd op) (first : a �
       (e ∙ ap₂ (result_range 32 op) first second ∙ narrow_range op u v no_end)
       (omega arith) (sees_32 u) (sees_32 v)
 
+  -- on 32 bits, if the low halves that are read are constants, the constant of their result is the table's range
   pub narrow_constants : (value : ℕ)
       → a.lo < 2 ^ 32 → b.lo < 2 ^ 32
       → are_constants op a b ≡ true → value ≡ operate 32 op a.lo b.lo
@@ -100,5 +105,6 @@ module _ (op : Operator) (u v a b r : Range) (no_end : IsNoEnd op) (first : a �
   narrow_constants value p q t e f =
       narrow (from_constants 32 op a b r value t (e ∙ narrow_result op a.lo b.lo no_end p q) f)
 
+  -- on 32 bits, if a low half that is read is no constant, the range by the low halves' ends is the table's
   pub narrow_spread : are_constants op a b ≡ false → r ≡ general_range 32 op a b → IsRange 32 op u v r
   narrow_spread t f = narrow (from_spread 32 op a b r t f)

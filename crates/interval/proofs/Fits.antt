@@ -146,6 +146,7 @@ result_fits n op a b w p q =
     (λ _. omega (arith, some.to, general_range_fits n op a b w p q))
     (λ _. general_range_fits n op a b w p q)
 
+-- if the ranges that an operator on n bits reads are of n bits, the table's range is one of words
 pub table_fits : (n : ℕ) (op : Operator) (a b : Range)
     → 2 ^ n ≤ 2 ^ 64 → (operand_range n a).hi < 2 ^ n
     → (operand_range n b).hi < 2 ^ n

@@ -5,6 +5,7 @@ use Rattle.interval.specs.declared.range.Range.{Range}
 use Rattle.interval.specs.Ranges.{IsMember, hull}
 use Rattle.interval.proofs.Ranges.{same_range}
 
+-- the hull of two ranges includes the members of both
 pub hull_holds : (a b : Range) (x : ℕ) → (IsMember x a → IsMember x (hull a b)) × (IsMember x b → IsMember x (hull a b))
 hull_holds a b x = (
   (λ (h : IsMember x a). record { from = omega (arith, h.from); to = omega (arith, h.to) }),
@@ -22,8 +23,10 @@ hull_is_least a b c of_a of_b x h =
     let high_b = of_b b.hi (record { from = b.ordered; to = le_refl b.hi }) in
     record { from = omega (arith, h.from, low_a.from, low_b.from); to = omega (arith, h.to, high_a.to, high_b.to) }
 
+-- the hull is commutative
 pub hull_commutes : (a b : Range) → hull a b ≡ hull b a
 hull_commutes a b = same_range (hull a b) (hull b a) (omega arith) (omega arith)
 
+-- the hull is associative
 pub hull_associates : (a b c : Range) → hull (hull a b) c ≡ hull a (hull b c)
 hull_associates a b c = same_range (hull (hull a b) c) (hull a (hull b c)) (omega arith) (omega arith)

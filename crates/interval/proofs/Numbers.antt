@@ -3,11 +3,12 @@ use Rattle.std.proofs.Common.{◌≡◌, ℕ, ◌+◌, ◌-◌, ◌*◌, ◌/◌
 use Rattle.std.proofs.Math.Nat.{mul-le-mul_left}
 use Rattle.std.proofs.lemmas.Nat.{pow_pos, mod_below, le-div, mod-mul-add, div-add-mod'}
 
--- a number from p up to 2p, modulo p
+-- a number from p up to 2p, modulo p, is the number less p
 pub mod_once : (s p : ℕ) → p ≤ s → s < p + p → s % p ≡ s - p
 mod_once s p h k =
     let split : s ≡ 1 * p + (s - p) = omega arith in ap (λ t. t % p) split ∙ mod-mul-add 1 p (s - p) (omega arith)
 
+-- a number modulo 2 ^ n is below 2 ^ n
 pub below_pow : (n v : ℕ) → v % 2 ^ n < 2 ^ n
 below_pow n v = mod_below v (2 ^ n) (pow_pos n)
 

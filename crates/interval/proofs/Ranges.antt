@@ -14,6 +14,7 @@ same_ends lo hi lo' hi' p q e f =
     subst (λ (x : ℕ). (h : x ≤ hi) → made lo hi p ≡ made x hi h) e same in
     subst (λ (y : ℕ). (h : lo' ≤ y) → made lo hi p ≡ made lo' y h) f moved q
 
+-- ranges with the same ends are the same
 pub same_range : (r s : Range) → r.lo ≡ s.lo → r.hi ≡ s.hi → r ≡ s
 same_range r s e f = same_ends r.lo r.hi s.lo s.hi r.ordered s.ordered e f
 

@@ -39,6 +39,7 @@ reversed_below bits.Bits16 a = swapped_below_16 (a % 2 ^ 16)
 reversed_below bits.Bits32 a = swapped_below_32 (a % 2 ^ 32)
 reversed_below bits.Bits64 a = swapped_below_64 (a % 2 ^ 64)
 
+-- the result of a byte-order conversion fits the bits that it keeps
 pub byte_order_below : (how : ByteOrder) (kept : KeptBits) (a : ℕ) → byte_order how kept a < 2 ^ kept_bits kept
 byte_order_below Little kept a = below_pow (kept_bits kept) a
 byte_order_below Big kept a = reversed_below kept a
@@ -77,6 +78,7 @@ alu_range_sound n Xor a b x y w p q h k = xor_sound a b x y (omega arith) (omega
 alu_range_sound n Mov a b x y w p q h k = k
 alu_range_sound n SignedShiftRight a b x y w p q h k = signed_shift_right_sound n a b x y p h k
 
+-- the range of an operator by the ends of its operands' ranges, which are of n bits, includes each result
 pub general_range_sound : (n : ℕ) (op : Operator) (a b : Range) (x y : ℕ)
     → 2 ^ n ≤ 2 ^ 64 → a.hi < 2 ^ n
     → b.hi < 2 ^ n → IsMember x a
@@ -133,9 +135,12 @@ result_sound n op a b x y w p q h k = in_result n op a b x y h k (general_range_
 
 -- the operand that an operator on n bits reads is a member of the range that it reads, and this range is below 2 ^ n
 pub record Sees (n : ℕ) (r : Range) (x : ℕ) : Type 0 where
+  -- the operand that the operator reads is a member of the range that it reads
   pub member : IsMember (operand_bits n x) (operand_range n r)
+  -- the range that the operator reads is of n bits
   pub below : (operand_range n r).hi < 2 ^ n
 
+-- the table's range includes the result for two members, if the operator reads both as `Sees` requires
 pub table_sound : (n : ℕ) (op : Operator) (a b : Range) (x y : ℕ)
     → 2 ^ n ≤ 2 ^ 64 → IsMember x a
     → IsMember y b → Sees n a x
@@ -147,11 +152,12 @@ table_sound n op a b x y w h k s r =
     result_sound n op (operand_range n a) (operand_range n b) (operand_bits n x) (operand_bits n y)
     w s.below r.below s.member r.member
 
--- on 64 bits it reads the whole word
+-- an operator on 64 bits reads the whole word of a member, which is in the range that it reads, one of 64 bits
 pub sees_64 : (r : Range) (x : ℕ) → r.hi < 2 ^ 64 → IsMember x r → Sees 64 r x
 sees_64 r x p h = record { member = h; below = p }
 
 -- on 32 bits it reads the low half
+-- the range of the low halves of a range is of 32 bits
 pub cut_below : (r : Range) → (range_modulo 32 r).hi < 2 ^ 32
 cut_below r =
     cond_both (nat_lt r.hi (2 ^ 32)) r
@@ -169,5 +175,6 @@ cut_member r x h =
     where_constant r (constant (r.lo % 2 ^ 32)) (full 32) (x % 2 ^ 32) x h
     (λ e. in_constant _ _ (ap (λ v. v % 2 ^ 32) e)) (in_full 32 _ (below_pow 32 x)))
 
+-- an operator on 32 bits reads a member's low half, which is in the range that it reads, one of 32 bits
 pub sees_32 : (r : Range) (x : ℕ) → IsMember x r → Sees 32 r x
 sees_32 r x h = record { member = cut_member r x h; below = cut_below r }

@@ -13,6 +13,7 @@ use Rattle.interval.proofs.Members.{in_full, in_span, where_lt, where_constant}
 use Rattle.interval.proofs.Numbers.{below_pow}
 use Rattle.interval.proofs.Digits.{below_digits}
 
+-- the range of bitwise and includes the result for every two members
 pub and_sound : (a b : Range) (x y : ℕ) → IsMember x a → IsMember y b → IsMember (bit_and x y) (and_range a b)
 and_sound a b x y h k = in_span _ _ _ (omega arith) (omega (arith, and_le_l x y, and_le_r x y))
 
@@ -23,6 +24,7 @@ few_digits : (a b : Range) (x : ℕ)
     → x < 2 ^ binary_digits (max a.hi b.hi)
 few_digits a b x p q h = omega (arith, below_digits (max a.hi b.hi) (omega arith))
 
+-- the range of bitwise or includes the result for every two members of ranges of words
 pub or_sound : (a b : Range) (x y : ℕ)
     → a.hi < 2 ^ 64 → b.hi < 2 ^ 64
     → IsMember x a → IsMember y b
@@ -33,6 +35,7 @@ or_sound a b x y p q h k =
     (few_digits a b y p q (omega arith)) in
     in_span _ _ _ (omega (arith, le_or_l x y, le_or_r x y)) (omega arith)
 
+-- the range of bitwise exclusive or includes the result for every two members of ranges of words
 pub xor_sound : (a b : Range) (x y : ℕ)
     → a.hi < 2 ^ 64 → b.hi < 2 ^ 64
     → IsMember x a → IsMember y b
@@ -55,6 +58,7 @@ scaled_sound n k a x h =
     in_span _ _ _ (omega arith) (omega arith))
     (λ large. in_full n _ (below_pow n (x * 2 ^ k)))
 
+-- the range of a left shift on n bits includes the result for every two members
 pub shift_left_sound : (n : ℕ) (a b : Range) (x y : ℕ)
     → IsMember x a → IsMember y b
     → IsMember (shift_left n x y) (shift_left_range n a b)
@@ -64,6 +68,7 @@ shift_left_sound n a b x y h k =
     subst (λ v. IsMember (shift_left n x v) (scaled_range n a (b.lo % n))) (sym e) (scaled_sound n (b.lo % n) a x h))
     (in_full n _ (below_pow n (x * 2 ^ (y % n))))
 
+-- the range of a right shift on n bits, without sign, includes the result for every two members
 pub shift_right_sound : (n : ℕ) (a b : Range) (x y : ℕ)
     → IsMember x a → IsMember y b
     → IsMember (shift_right n x y) (shift_right_range n a b)
@@ -78,10 +83,12 @@ shift_right_sound n a b x y h k =
 pub signed_small : (n x : ℕ) → x < 2 ^ (n - 1) → signed n x ≡ pos x
 signed_small n x h = cond-true (nat_lt x (2 ^ (n - 1))) (pos x) _ (lt-ltb x (2 ^ (n - 1)) h)
 
+-- the unsigned number of n bits of an integer is below 2 ^ n
 pub unsigned_below : (n : ℕ) (z : ℤ) → unsigned n z < 2 ^ n
 unsigned_below n (pos m) = below_pow n m
 unsigned_below n (negsuc m) = omega (arith, pow_pos n)
 
+-- the range of a signed right shift includes the result for every two members, the first from a range of n bits
 pub signed_shift_right_sound : (n : ℕ) (a b : Range) (x y : ℕ)
     → a.hi < 2 ^ n → IsMember x a
     → IsMember y b
@@ -95,6 +102,7 @@ signed_shift_right_sound n a b x y p h k =
     subst (λ v. IsMember v (shift_right_range n a b)) (sym plain) (shift_right_sound n a b x y h k))
     (λ large. in_full n _ (unsigned_below n (int_shr (signed n x) (y % n))))
 
+-- the range of a sign extension includes the result for each member of a range of n bits
 pub sign_extend_sound : (n k : ℕ) (b : Range) (y : ℕ)
     → b.hi < 2 ^ n → IsMember y b
     → IsMember (sign_extend n k y) (sign_extend_range n k b)

@@ -10,6 +10,7 @@ use Rattle.interval.specs.Table.{sum_range, difference_range, product_range, quo
 use Rattle.interval.proofs.Members.{in_full, in_span, where_lt, where_le}
 use Rattle.interval.proofs.Numbers.{mod_once, below_pow, div_between}
 
+-- the range of sums modulo 2 ^ n includes each sum of members of two ranges of n bits
 pub sum_sound : (n : ℕ) (a b : Range) (x y : ℕ)
     → a.hi < 2 ^ n → b.hi < 2 ^ n
     → IsMember x a → IsMember y b
@@ -24,6 +25,7 @@ sum_sound n a b x y p q h k =
     in_span _ _ _ (omega arith) (omega arith))
     (λ either. in_full n _ (below_pow n (x + y))))
 
+-- the range of differences modulo 2 ^ n includes each difference of members of two ranges of n bits
 pub difference_sound : (n : ℕ) (a b : Range) (x y : ℕ)
     → a.hi < 2 ^ n → b.hi < 2 ^ n
     → IsMember x a → IsMember y b
@@ -40,6 +42,7 @@ difference_sound n a b x y p q h k =
     in_span _ _ _ (omega arith) (omega arith))
     (λ either. in_full n _ (below_pow n (x + (2 ^ n - y)))))
 
+-- the range of products modulo 2 ^ n includes each product of members of two ranges
 pub product_sound : (n : ℕ) (a b : Range) (x y : ℕ)
     → IsMember x a → IsMember y b → IsMember (multiply n x y) (product_range n a b)
 product_sound n a b x y h k =
@@ -50,13 +53,14 @@ product_sound n a b x y h k =
     let same : (x * y) % 2 ^ n ≡ x * y = mod-eq_of_lt (omega arith) in in_span _ _ _ (omega arith) (omega arith))
     (λ large. in_full n _ (below_pow n (x * y)))
 
--- by the divisor: 0, or at least 1
+-- the result by a divisor is in a range if it is so for a divisor of 0 and for one of at least 1
 pub by_divisor : (y u v : ℕ) (r : Range)
     → (y ≡ 0 → IsMember u r) → (1 ≤ y → IsMember v r)
     → IsMember (if y == 0 then u else v) r
 by_divisor y u v r f g =
     cond_both (y == 0) u v (λ w. IsMember w r) (λ t. f (eqb-true y 0 t)) (λ t. g (omega (arith, eqb-false y 0 t)))
 
+-- the range of unsigned quotients includes each quotient of members of two ranges
 pub quotient_sound : (a b : Range) (x y : ℕ) → IsMember x a → IsMember y b → IsMember (divide x y) (quotient_range a b)
 quotient_sound a b x y h k =
     where_le _ _ _ _ _
@@ -69,6 +73,7 @@ quotient_sound a b x y h k =
     (λ (none : y ≡ 0). in_span _ _ _ (omega arith) (omega arith))
     (λ (one : 1 ≤ y). in_span _ _ _ (omega arith) (omega (arith, div-le_self x y))))
 
+-- the range of unsigned remainders includes each remainder of members of two ranges
 pub remainder_sound : (a b : Range) (x y : ℕ)
     → IsMember x a → IsMember y b → IsMember (remainder x y) (remainder_range a b)
 remainder_sound a b x y h k =

@@ -14,6 +14,7 @@ module _ {K : Type 0} (eq : K → K → Bool) (laws : IsEquivalence eq) where
   sole : (k x y : K) → eq k x ≡ true → eq k y ≡ true → eq x y ≡ true
   sole k x y a b = sym (laws.congr k x y a) ∙ b
 
+  -- if all keys of a table are distinct, no two of its entries have equal keys
   pub apart_in_table : (es : List (K × ℕ)) → IsDistinct eq (keys_of es) → AreApart eq es
   apart_in_table es d i j a b at_i at_j same =
       one_index eq (eq a.0) (sole a.0) es d i j a b at_i at_j (laws.refl a.0) same
@@ -40,6 +41,7 @@ module _ {K : Type 0} (eq : K → K → Bool) (laws : IsEquivalence eq) where
             inl (same, sym (swapped_here es i d at (swapped_within es i d at i e here)) ∙ here)
         by (inr ne) = inr (ne, sym (swapped_other es i d at j ne l) ∙ e_at)
 
+    -- if no two entries have equal keys, no two do after an entry is taken out
     pub apart_left : AreApart eq rest
     apart_left j k a b at_j at_k same = elim (from j a at_j) [
       | inl p ↦ elim (from k b at_k) [

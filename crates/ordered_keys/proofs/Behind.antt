@@ -76,6 +76,7 @@ module _ {K : Type 0} (es : List (K × ℕ)) (indices : List ℕ) where
             let is_it : nat_eq p p ≡ true = eq-eqb p p refl in
             absurd (true≢false (sym is_it ∙ sym (ap (is_entry_of p) found.1) ∙ is))
 
+    -- the next element is an element of the order
     pub next_member : (element : Option ℕ) (next : ℕ)
         → Some next ≡ next_of_elements element order.elements → 0 < occurrences next order.elements
     next_member None next e =
@@ -101,6 +102,7 @@ module _ {K : Type 0} (es : List (K × ℕ)) (indices : List ℕ) where
         let same : found.0 ≡ k = same_Some found.0 k (ap (option_map (λ (e : K × ℕ). e.0)) (sym found.1) ∙ is) in
         found.1 ∙ ap (λ (x : K). let o : Option (K × ℕ) = Some (x, p) in o) same
 
+    -- if an element of the order has no key, it has no entry
     pub without_key : (p : ℕ)
         → 0 < occurrences p order.elements
         → option_map (λ (e : K × ℕ). e.0) (entry_of es indices p) ≡ None

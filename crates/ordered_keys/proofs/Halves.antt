@@ -55,6 +55,7 @@ module _ {X : Type 0} (es : List X) (i half : ℕ) (taken : X) (within : i < len
   many : length (drop half moved) ≡ length es - half
   many = let d = length-drop half moved in let l = long in omega arith
 
+  -- the second half of the table is not empty
   pub some_second : 0 < length (drop half moved)
   some_second = let m = many in omega arith
 
@@ -89,6 +90,7 @@ module _ {X : Type 0} (es : List X) (i half : ℕ) (taken : X) (within : i < len
       ∙ ap (λ (xs : List X). take half moved ++ xs) (all_but_one ∙ ap (λ (xs : List X). take (length xs - 1) xs) second)
       ∙ halves
 
+  -- the entry that is last in the second half is the one that the table had at the index
   pub taken_is : {rows : List X}
       → rows ≡ drop half moved
       → taken ≡ get_or rows (length rows - 1) taken

@@ -9,6 +9,7 @@ use Rattle.ordered_keys.specs.declared.element_order.ElementOrder.TheInside.{Ins
 use Rattle.ordered_keys.specs.inside.Links.{lone_link, link_at, after_in, before_in, chain, elements_in, order_of, IsPath, AreWithin, IsRing}
 use Rattle.ordered_keys.proofs.Rings.{IsPushed, IsUnlinked, within_at, bound_outside, times-append, taken_length, taken_times, taken_within, within-append, chain_of_path, path_pushed, path_unlinked, before_member, after_member, before_end, unequal}
 
+-- two numbers are equal or different
 pub decided : (a b : ℕ) → (a ≡ b) ⊎ (a ≢ b)
 decided a b = by (nat_eq a b) refl
   where
@@ -16,6 +17,7 @@ decided a b = by (nat_eq a b) refl
     by true e = inl (eqb-true a b e)
     by false e = inr (λ q. let t : true ≡ false = sym (eq-eqb a b q) ∙ e in cc)
 
+-- a chain of n elements has length n
 pub length-chain : (after : ℕ → ℕ) (n a : ℕ) → length (chain after n a) ≡ n
 length-chain after zero a = refl
 length-chain after (suc n) a = ap suc (length-chain after n (after a))
@@ -40,6 +42,7 @@ module _ (ls : List Link) (bound element u : ℕ) (x y : Link) where
   abbrev pub pushed : List Link
   pushed = set l2 bound (record { before = element; after = y.after })
 
+  -- writes of three links put the element last: after the one that was last, and before the bound
   pub is_pushed : length ls ≡ bound + 1
       → element < bound → u ≢ element
       → u ≤ bound → u ≡ before_in ls bound
@@ -91,6 +94,7 @@ module _ (ls : List Link) (u v : ℕ) (x y : Link) where
   abbrev pub unlinked : List Link
   unlinked = set m1 v (record { before = u; after = y.after })
 
+  -- writes of two links take the element out: its two neighbours are linked to each other
   pub is_unlinked : (p : ℕ)
       → u < length ls → v < length ls
       → u ≡ before_in ls p → v ≡ after_in ls p
@@ -129,6 +133,7 @@ module _ (ls : List Link) (u v : ℕ) (x y : Link) where
 
 -- ---- the links are still a ring
 
+-- no number occurs more than once in a list of one
 pub single : (q p : ℕ) → occurrences q (p ∷ []) ≤ 1
 single q p = by (nat_eq q p)
   where
@@ -136,6 +141,7 @@ single q p = by (nat_eq q p)
     by true = omega arith
     by false = omega arith
 
+-- a number does not occur in the list of one that differs from it
 pub none : (q p : ℕ) → q ≢ p → occurrences q (p ∷ []) ≡ 0
 none q p d = ap (λ (c : Bool). (if c then 1 else 0) + 0) (unequal q p d)
 
@@ -149,12 +155,14 @@ module _ {o : Inside} (h : IsRing o) where
   outside : occurrences o.bound (elements_in o) ≡ 0
   outside = bound_outside o.bound (elements_in o) h.within
 
+  -- the number before the bound in the ring is at most the bound
   pub before_bound : g o.bound ≤ o.bound
   before_bound = elim (before_end f g o.bound (elements_in o) o.bound h.linked) [
     | inl e ↦ omega arith
     | inr m ↦ let l = within_at o.bound (g o.bound) (elements_in o) h.within m in omega arith
   ]
 
+  -- an element that is not in the order is not before the bound in the ring
   pub before_apart : (p : ℕ) → p < o.bound → occurrences p (elements_in o) ≡ 0 → g o.bound ≢ p
   before_apart p l n e = elim (before_end f g o.bound (elements_in o) o.bound h.linked) [
     | inl q ↦ absurd (omega arith)
@@ -162,12 +170,14 @@ module _ {o : Inside} (h : IsRing o) where
         ap (λ q. occurrences q (elements_in o)) e in absurd (omega arith)
   ]
 
+  -- the number before an element of the order is at most the bound
   pub before_within : (p : ℕ) → 0 < occurrences p (elements_in o) → g p ≤ o.bound
   before_within p m = elim (before_member f g o.bound (elements_in o) o.bound p h.linked m) [
     | inl e ↦ omega arith
     | inr n ↦ let l = within_at o.bound (g p) (elements_in o) h.within n in omega arith
   ]
 
+  -- the number after an element of the order is at most the bound
   pub after_within : (p : ℕ) → 0 < occurrences p (elements_in o) → f p ≤ o.bound
   after_within p m = elim (after_member f g o.bound (elements_in o) o.bound p h.linked m) [
     | inl e ↦ omega arith
@@ -188,6 +198,7 @@ module _ {o : Inside} (h : IsRing o) where
           path_pushed f g f' g' o.bound (elements_in o) o.bound p k h.linked
           (λ e. absurd (omega arith)) n outside outside h.once
 
+      -- if an element is linked as the last, the order has it at its end
       pub elements_pushed : elements_in b ≡ elements_in o ++ p ∷ []
       elements_pushed =
           let len : length (elements_in o ++ p ∷ []) ≡ b.count =
@@ -196,6 +207,7 @@ module _ {o : Inside} (h : IsRing o) where
           ∙ ap (λ i. chain f' i o.bound) (sym len)
           ∙ chain_of_path f' g' o.bound (elements_in o ++ p ∷ []) o.bound path
 
+      -- if an element is linked as the last, the links are still a ring
       pub ring_pushed : IsRing b
       ring_pushed =
           let xs = elements_in o ++ p ∷ [] in
@@ -221,6 +233,7 @@ module _ {o : Inside} (h : IsRing o) where
       path_out : IsPath f' g' o.bound (taken_out p (elements_in o)) o.bound
       path_out = path_unlinked f g f' g' o.bound (elements_in o) o.bound p k h.linked m outside outside h.once
 
+      -- if an element is unlinked, the order is the one without it
       pub elements_left : elements_in b ≡ taken_out p (elements_in o)
       elements_left =
           let len : length (taken_out p (elements_in o)) ≡ b.count =
@@ -229,6 +242,7 @@ module _ {o : Inside} (h : IsRing o) where
           ∙ ap (λ i. chain f' i o.bound) (sym len)
           ∙ chain_of_path f' g' o.bound (taken_out p (elements_in o)) o.bound path_out
 
+      -- if an element is unlinked, the links are still a ring
       pub ring_left : IsRing b
       ring_left = record {
         long = let e = h.long in omega arith;
@@ -268,9 +282,11 @@ module _ (o : Inside) (h : IsRing o) (t : Order) (view : order_of o ≡ t) (p : 
   last_below : last.before ≤ o.bound
   last_below = let l = before_bound h in let e = before_at in omega arith
 
+  -- the element that is last in the order, or the bound if the order is empty, has a link
   pub last_within : last.before < vec_len o.links
   last_within = let l = last_below in let e = h.long in omega arith
 
+  -- if the bound fits in 32 bits, the number of elements with one more does
   pub count_fits : o.bound < 2 ^ 32 → o.count + 1 < 2 ^ 32
   count_fits fits =
       let n = length-chain (after_in o.links.items) o.count o.bound in
@@ -313,9 +329,11 @@ module _ (o : Inside) (h : IsRing o) (t : Order) (view : order_of o ≡ t) (p : 
         (get_or_read_under (l2 o.links.items o.bound p last.before x y) o.bound (o.bound + 1) y
         (lone_link 0) y_is (omega arith) (omega arith))
 
+    -- after the element is put last, the links are a ring
     pub push_ring : IsRing after_push
     push_ring = ring_pushed h after_push p refl refl refl below new_here known
 
+    -- after the element is put last, the order has it at its end
     pub push_elements : elements_in after_push ≡ t.elements ++ p ∷ []
     push_elements =
         elements_pushed h after_push p refl refl refl below new_here known
@@ -324,9 +342,11 @@ module _ (o : Inside) (h : IsRing o) (t : Order) (view : order_of o ≡ t) (p : 
 -- an element is taken out
 module _ (o : Inside) (h : IsRing o) (t : Order) (view : order_of o ≡ t) (p : ℕ)
     (member : 0 < occurrences p t.elements) where
+  -- the element is one of those in the ring
   pub member_here : 0 < occurrences p (elements_in o)
   member_here = subst (λ (t : Order). 0 < occurrences p t.elements) (sym view) member
 
+  -- the element has a link
   pub member_within : p < vec_len o.links
   member_within = let l = within_at o.bound p (elements_in o) h.within member_here in let e = h.long in omega arith
 
@@ -334,6 +354,7 @@ module _ (o : Inside) (h : IsRing o) (t : Order) (view : order_of o ≡ t) (p : 
     link_here : link ≡ link_at o.links.items p
     link_here = read o p link link_is member_within
 
+    -- the neighbour before the element has a link
     pub before_inside : link.before < vec_len o.links
     before_inside =
         let l = before_within h p member_here in
@@ -341,6 +362,7 @@ module _ (o : Inside) (h : IsRing o) (t : Order) (view : order_of o ≡ t) (p : 
         let long = h.long in
         omega arith
 
+    -- the neighbour after the element has a link
     pub after_inside : link.after < vec_len o.links
     after_inside =
         let l = after_within h p member_here in
@@ -380,9 +402,11 @@ module _ (o : Inside) (h : IsRing o) (t : Order) (view : order_of o ≡ t) (p : 
           (get_or_read_under (m1 o.links.items link.before link.after x y) link.after o.links.len y
           (lone_link 0) y_is after_inside (omega arith))
 
+      -- after the element is taken out, the links are a ring
       pub remove_ring : IsRing after_remove
       remove_ring = ring_left h after_remove p refl refl less member_here known_out
 
+      -- after the element is taken out, the order is the one without it
       pub remove_elements : elements_in after_remove ≡ taken_out p t.elements
       remove_elements =
           elements_left h after_remove p refl refl less member_here known_out
@@ -396,6 +420,7 @@ module _ (o : Inside) (h : IsRing o) where
   alone : link_at after_clear.links.items o.bound ≡ lone_link o.bound
   alone = written o.links.items o.bound (lone_link o.bound) (let long = h.long in let ok = o.links.ok.0 in omega arith)
 
+  -- after all elements are taken out, the links are a ring
   pub clear_ring : IsRing after_clear
   clear_ring = record {
     long = h.long;

@@ -29,6 +29,7 @@ module _ {K : Type 0} where
           (zero, e.0, ap (λ (q : ℕ). let o : Option (K × ℕ) = Some (e.0, q) in o) same, t)
       by false t g r = let f = r g in (suc f.0, f.1, f.2, f.3)
 
+  -- if a look-up finds nothing, no key of the table passes the test
   pub none_passes : (test : K → Bool) (es : List (K × ℕ))
       → lookup test es ≡ None
       → (i : ℕ) (e : K × ℕ) → slice_get es i ≡ Some e
@@ -45,6 +46,7 @@ module _ {K : Type 0} where
       by false t g zero at r = ap (λ (y : K × ℕ). test y.0) (sym (same_Some x e at)) ∙ t
       by false t g (suc i) at r = r g i at
 
+  -- if no key of the table passes the test, a look-up finds nothing
   pub passes_none : (test : K → Bool) (es : List (K × ℕ))
       → ((i : ℕ) (e : K × ℕ) → slice_get es i ≡ Some e → test e.0 ≡ false) → lookup test es ≡ None
   passes_none test [] h = refl
@@ -52,6 +54,7 @@ module _ {K : Type 0} where
       ap (λ (b : Bool). cond b (Some x.1) (lookup test es)) (h zero x refl)
       ∙ passes_none test es (λ i e at. h (suc i) e at)
 
+  -- if a look-up finds nothing, the removal by the same test changes nothing
   pub nothing_removed : (test : K → Bool) (es : List (K × ℕ)) → lookup test es ≡ None → remove_entry test es ≡ es
   nothing_removed test [] h = refl
   nothing_removed test (x ∷ es) h = by (test x.0) h (nothing_removed test es)
@@ -117,11 +120,13 @@ module _ {K : Type 0} (es : List (K × ℕ)) (indices : List ℕ) where
       ap (λ (o : Option (K × ℕ)). values_of (option_to_list o ++ shown ps)) h.0.1
       ∙ ap (λ (qs : List ℕ). p ∷ qs) (values_shown ps h.1)
 
+  -- the entries in order are as many as the elements
   pub length_shown : (ps : List ℕ) → HaveEntries es indices ps → length (shown ps) ≡ length ps
   length_shown [] h = refl
   length_shown (p ∷ ps) h =
       ap (λ (o : Option (K × ℕ)). length (option_to_list o ++ shown ps)) h.0.1 ∙ ap suc (length_shown ps h.1)
 
+  -- an element of a list that has entries has an entry
   pub entry_at : (ps : List ℕ) (p : ℕ)
       → HaveEntries es indices ps → 0 < occurrences p ps
       → (k : K) × (entry_of es indices p ≡ Some (k, p))
@@ -131,6 +136,7 @@ module _ {K : Type 0} (es : List (K × ℕ)) (indices : List ℕ) where
     | inr l ↦ entry_at ps p h.1 l.1
   ]
 
+  -- the first key in order is that of the first element
   pub first_shown : (ps : List ℕ)
       → HaveEntries es indices ps → first_key_of (shown ps) ≡ key_of es indices (first_element ps)
   first_shown [] h = refl
@@ -144,6 +150,7 @@ module _ {K : Type 0} (es : List (K × ℕ)) (indices : List ℕ) where
     AreMarked mark [] = Unit {0}
     AreMarked mark (p ∷ ps) = ((k : K) × (entry_of es indices p ≡ Some (k, p)) × (test k ≡ mark p)) × AreMarked mark ps
 
+    -- if the test of each element's key is the mark of the element, all elements are marked so
     pub marked : (mark : ℕ → Bool) (ps : List ℕ)
         → HaveEntries es indices ps
         → ((p : ℕ) (k : K) → 0 < occurrences p ps → entry_of es indices p ≡ Some (k, p) → test k ≡ mark p)
@@ -162,6 +169,7 @@ module _ {K : Type 0} (es : List (K × ℕ)) (indices : List ℕ) where
         → entry_of es indices p ≡ Some (k, p) → shown (p ∷ ps) ≡ (k, p) ∷ shown ps
     head_is p ps k h = ap (λ (o : Option (K × ℕ)). option_to_list o ++ shown ps) h
 
+    -- if no element is marked, a look-up in the order finds nothing
     pub none_shown : (ps : List ℕ) → AreMarked (λ p. false) ps → lookup test (shown ps) ≡ None
     none_shown [] h = refl
     none_shown (p ∷ ps) h =
@@ -170,6 +178,7 @@ module _ {K : Type 0} (es : List (K × ℕ)) (indices : List ℕ) where
         ∙ none_shown ps h.1
 
     module _ (p : ℕ) where
+      -- if only p is marked, and is in the order, a look-up in the order finds p
       pub found_shown : (ps : List ℕ) → AreMarked (nat_eq p) ps → 0 < occurrences p ps → lookup test (shown ps) ≡ Some p
       found_shown [] h m = absurd (omega arith)
       found_shown (q ∷ ps) h m =
@@ -182,6 +191,7 @@ module _ {K : Type 0} (es : List (K × ℕ)) (indices : List ℕ) where
                 ∙ found_shown ps h.1 l.1
           ]
 
+      -- if only p is marked, the removal by the test leaves the entries of the order without p
       pub removed_shown : (ps : List ℕ)
           → AreMarked (nat_eq p) ps → remove_entry test (shown ps) ≡ shown (taken_out p ps)
       removed_shown [] h = refl
@@ -201,6 +211,7 @@ module _ {K : Type 0} (es : List (K × ℕ)) (indices : List ℕ) where
       unmarked mark [] h = tt
       unmarked mark (q ∷ ps) h = ((h.0.0, h.0.1), unmarked mark ps h.1)
 
+      -- if only p is marked, the key after the first that passes the test is that of the element after p
       pub behind_shown : (ps : List ℕ)
           → AreMarked (nat_eq p) ps
           → key_behind_passing test (shown ps) ≡ key_of es indices (following p ps)
@@ -219,6 +230,7 @@ module _ {K : Type 0} (es : List (K × ℕ)) (indices : List ℕ) where
 
 -- ---- elements of the order
 
+-- the first element of a list, if it has one, occurs in it
 pub first_member : (ps : List ℕ) → IfSome (first_element ps) (λ p. 0 < occurrences p ps)
 first_member [] = tt
 first_member (p ∷ ps) = times_head p ps
@@ -229,6 +241,7 @@ later_member q ps None h = tt
 later_member q ps (Some p) h =
     let s : occurrences p (q ∷ ps) ≡ (if nat_eq p q then 1 else 0) + occurrences p ps = refl in omega arith
 
+-- the element that follows another one in a list, if one does, occurs in it
 pub following_member : (p : ℕ) (ps : List ℕ) → IfSome (following p ps) (λ q. 0 < occurrences q ps)
 following_member p [] = tt
 following_member p (q ∷ ps) = by (nat_eq p q) (following_member p ps)
@@ -239,6 +252,7 @@ following_member p (q ∷ ps) = by (nat_eq p q) (following_member p ps)
     by true r = later_member q ps (first_element ps) (first_member ps)
     by false r = later_member q ps (following p ps) r
 
+-- if all elements of a list are less than the bound, an element that is found in it is
 pub members_within : (n bound : ℕ) (ps : List ℕ) (o : Option ℕ)
     → n ≡ bound → AreWithin bound ps
     → IfSome o (λ p. 0 < occurrences p ps)
@@ -253,11 +267,13 @@ module _ {K : Type 0} (es : List (K × ℕ)) (indices : List ℕ) (order : Order
   abbrev pub entries : List (K × ℕ)
   entries = in_order es indices order.elements
 
+  -- if a look-up in the table finds nothing, no element of the order has a key that passes the test
   pub absent_marked : lookup test es ≡ None → AreMarked es indices test (λ p. false) order.elements
   absent_marked none =
       marked es indices test (λ p. false) order.elements h.placed
       (λ p k m at. none_passes test es none (slice_index_or indices p 0) (k, p) at)
 
+  -- a key that is absent in the table is absent in the order
   pub absent_in_order : lookup test es ≡ None → lookup test entries ≡ None
   absent_in_order none = none_shown es indices test order.elements (absent_marked none)
 
@@ -292,15 +308,19 @@ module _ {K : Type 0} (es : List (K × ℕ)) (indices : List ℕ) (order : Order
 
   module _ (eq : K → K → Bool) (sole : IsSole eq test) (distinct : IsDistinct eq (keys_of es))
       (p : ℕ) (found : lookup test es ≡ Some p) where
+    -- the index in the table at which the look-up finds the element, with its key, which passes the test
     pub at : (i : ℕ) × (k : K) × (slice_get es i ≡ Some (k, p)) × (test k ≡ true)
     at = found_entry test es p found
 
+    -- the element that the look-up finds is in the order once
     pub found_member : occurrences p order.elements ≡ 1
     found_member = (h.listed at.0 (at.1, p) at.2).0
 
+    -- the index that is kept for the found element is that of its entry in the table
     pub found_index : slice_index_or indices p 0 ≡ at.0
     found_index = (h.listed at.0 (at.1, p) at.2).1
 
+    -- of the elements of the order, only the found one has a key that passes the test
     pub found_marked : AreMarked es indices test (nat_eq p) order.elements
     found_marked =
         marked es indices test (nat_eq p) order.elements h.placed
@@ -324,18 +344,22 @@ module _ {K : Type 0} (es : List (K × ℕ)) (indices : List ℕ) (order : Order
             (sym q_at ∙ ap (entry_of es indices) (sym here) ∙ ap (slice_get es) found_index ∙ at.2) in
             sym t ∙ ap (λ (x : K × ℕ). test x.0) pair ∙ at.3
 
+    -- the look-up in the order finds the element of the key that the table finds
     pub found_in_order : lookup test entries ≡ Some p
     found_in_order = found_shown es indices test p order.elements found_marked (let m = found_member in omega arith)
 
+    -- the removal of the found key leaves the entries of the order without its element
     pub removed_in_order : remove_entry test entries ≡ in_order es indices (taken_out p order.elements)
     removed_in_order = removed_shown es indices test p order.elements found_marked
 
+    -- the key that follows the found key is that of the element that follows its element in the order
     pub following_in_order : key_following test entries ≡ key_of es indices (following p order.elements)
     following_in_order =
         ap (λ (o : Option ℕ). if is_some o then key_behind_passing test entries else first_key_of entries)
         found_in_order
         ∙ behind_shown es indices test p order.elements found_marked
 
+  -- the key that follows an absent key is the first one
   pub following_absent : lookup test es ≡ None → key_following test entries ≡ first_key_of entries
   following_absent none =
       ap (λ (o : Option ℕ). if is_some o then key_behind_passing test entries else first_key_of entries)

@@ -5,12 +5,14 @@ use Rattle.ordered_keys.specs.inside.Links.{chain, IsPath, AreWithin}
 
 -- ---- how often an element occurs in a list
 
+-- the first element of a list occurs in it
 pub times_head : (p : ℕ) (xs : List ℕ) → 0 < occurrences p (p ∷ xs)
 times_head p xs =
     let e : nat_eq p p ≡ true = eq-eqb p p refl in
     let P : Bool → Type 0 = λ b. 0 < (if b then 1 else 0) + occurrences p xs in
     subst P (sym e) (omega arith)
 
+-- an element occurs in one list after another as often as in both together
 pub times-append : (p : ℕ) (xs ys : List ℕ) → occurrences p (xs ++ ys) ≡ occurrences p xs + occurrences p ys
 times-append p [] ys = omega arith
 times-append p (x ∷ xs) ys = let h = times-append p xs ys in omega arith
@@ -22,6 +24,7 @@ not_head p x xs h e =
     let s : occurrences p (x ∷ xs) ≡ occurrences x (x ∷ xs) = ap (λ q. occurrences q (x ∷ xs)) e in
     omega arith
 
+-- the test for equality of two different numbers is false
 pub unequal : (p x : ℕ) → p ≢ x → nat_eq p x ≡ false
 unequal p x h = by (nat_eq p x) refl
   where
@@ -40,11 +43,13 @@ here_or_later p x xs h = by (nat_eq p x) refl h
     by true e l = inl (eqb-true p x e)
     by false e l = inr ((λ q. let t : true ≡ false = sym (eq-eqb p x q) ∙ e in cc), omega arith)
 
+-- if all elements of a list are less than the bound, an element that occurs in it is
 pub within_at : (bound p : ℕ) (xs : List ℕ) → AreWithin bound xs → 0 < occurrences p xs → p < bound
 within_at bound p [] w h = absurd (omega arith)
 within_at bound p (x ∷ xs) w h =
     elim (here_or_later p x xs h) [ inl e ↦ subst (λ q. q < bound) (sym e) w.0 | inr l ↦ within_at bound p xs w.1 l.1 ]
 
+-- the bound does not occur in a list of elements that are less than it
 pub bound_outside : (bound : ℕ) (xs : List ℕ) → AreWithin bound xs → occurrences bound xs ≡ 0
 bound_outside bound xs w = by (occurrences bound xs) refl
   where
@@ -55,6 +60,7 @@ bound_outside bound xs w = by (occurrences bound xs) refl
 -- ---- the elements of a path
 
 module _ (after before : ℕ → ℕ) where
+  -- the chain from the start of a path, with as many elements, has the elements of the path
   pub chain_of_path : (a : ℕ) (xs : List ℕ) (b : ℕ) → IsPath after before a xs b → chain after (length xs) a ≡ xs
   chain_of_path a [] b h = refl
   chain_of_path a (x ∷ xs) b h =
@@ -88,6 +94,7 @@ module _ (after before : ℕ → ℕ) where
   after_start a [] b h = inl h.0
   after_start a (x ∷ xs) b h = inr (subst (λ q. 0 < occurrences q (x ∷ xs)) (sym h.0) (times_head x xs))
 
+  -- the element after one of a path is on the path or is its end
   pub after_member : (a : ℕ) (xs : List ℕ) (b p : ℕ)
       → IsPath after before a xs b → 0 < occurrences p xs
       → (after p ≡ b) ⊎ (0 < occurrences (after p) xs)
@@ -122,12 +129,14 @@ module _ (after before : ℕ → ℕ) where
   elsewhere : (b p : ℕ) → p < b → unless_end b p ≡ Some p
   elsewhere b p l = ap (λ (t : Bool). if t then None else Some p) (unequal p b (λ e. absurd (omega arith)))
 
+  -- the element after the start of a path, unless it is the end, is the first of the path
   pub first_is : (a : ℕ) (xs : List ℕ) (b : ℕ)
       → IsPath after before a xs b → AreWithin b xs
       → unless_end b (after a) ≡ first_element xs
   first_is a [] b h w = same_element b (after a) b h.0 ∙ at_end b
   first_is a (x ∷ xs) b h w = same_element b (after a) x h.0 ∙ elsewhere b x w.0
 
+  -- the element after one of a path, unless it is the end, is the one that follows it in the list
   pub following_is : (a : ℕ) (xs : List ℕ) (b p : ℕ)
       → IsPath after before a xs b → AreWithin b xs
       → 0 < occurrences p xs
@@ -143,6 +152,7 @@ module _ (after before : ℕ → ℕ) where
 
 -- ---- a path depends only on its own links
 
+-- other links form the same path if they are equal at its elements and at its two ends
 pub path_stays : (f g f' g' : ℕ → ℕ) (a : ℕ) (xs : List ℕ) (b : ℕ)
     → IsPath f g a xs b → f' a ≡ f a
     → ((q : ℕ) → 0 < occurrences q xs → f' q ≡ f q)
@@ -168,13 +178,20 @@ path_stays f g f' g' a (x ∷ xs) b h fa fs gs gb =
 
 -- the links after the element is put last
 pub record IsPushed (f g f' g' : ℕ → ℕ) (p b : ℕ) : Type 0 where
+  -- the one that was last is followed by p
   pub last : f' (g b) ≡ p
+  -- p is followed by the bound
   pub after : f' p ≡ b
+  -- the number after any other one is not changed
   pub afters : (q : ℕ) → q ≢ g b → q ≢ p → f' q ≡ f q
+  -- p is preceded by the one that was last
   pub before : g' p ≡ g b
+  -- the bound is preceded by p
   pub end : g' b ≡ p
+  -- the number before any other one is not changed
   pub befores : (q : ℕ) → q ≢ p → q ≢ b → g' q ≡ g q
 
+-- if an element that is not on a path is put last, the path is the one with it at the end
 pub path_pushed : (f g f' g' : ℕ → ℕ) (a : ℕ) (xs : List ℕ) (b p : ℕ)
     → IsPushed f g f' g' p b → IsPath f g a xs b
     → a ≢ p → occurrences p xs ≡ 0
@@ -206,9 +223,13 @@ path_pushed f g f' g' a (x ∷ xs) b p k h a_p np na nb once =
 -- ---- an element taken out
 
 pub record IsUnlinked (f g f' g' : ℕ → ℕ) (p : ℕ) : Type 0 where
+  -- the neighbour before p is followed by the neighbour after p
   pub after : f' (g p) ≡ f p
+  -- the number after any other one is not changed
   pub afters : (q : ℕ) → q ≢ g p → f' q ≡ f q
+  -- the neighbour after p is preceded by the neighbour before p
   pub before : g' (f p) ≡ g p
+  -- the number before any other one is not changed
   pub befores : (q : ℕ) → q ≢ f p → g' q ≡ g q
 
 once_out : (x : ℕ) (xs : List ℕ) → occurrences x (x ∷ xs) ≤ 1 → occurrences x xs ≡ 0
@@ -217,6 +238,7 @@ once_out x xs o =
     ap (λ (c : Bool). (if c then 1 else 0) + occurrences x xs) (eq-eqb x x refl) in
     omega arith
 
+-- if an element of a path is unlinked, the path is the one without it
 pub path_unlinked : (f g f' g' : ℕ → ℕ) (a : ℕ) (xs : List ℕ) (b p : ℕ)
     → IsUnlinked f g f' g' p → IsPath f g a xs b
     → 0 < occurrences p xs → occurrences a xs ≡ 0
@@ -300,6 +322,7 @@ path_unlinked f g f' g' a (x ∷ xs) b p k h m na nb once = elim (here_or_later 
 
 -- ---- the elements that are left
 
+-- a list without one of its elements is shorter by one
 pub taken_length : (p : ℕ) (xs : List ℕ) → 0 < occurrences p xs → length (taken_out p xs) + 1 ≡ length xs
 taken_length p [] m = absurd (omega arith)
 taken_length p (x ∷ xs) m = by (nat_eq p x) m (taken_length p xs)
@@ -311,6 +334,7 @@ taken_length p (x ∷ xs) m = by (nat_eq p x) m (taken_length p xs)
     by true l r = omega arith
     by false l r = let h = r (omega arith) in omega arith
 
+-- after p is taken out, p occurs once less in the list, and each other number as often as before
 pub taken_times : (p q : ℕ) (xs : List ℕ)
     → 0 < occurrences p xs
     → occurrences q (taken_out p xs) + (if nat_eq q p then 1 else 0) ≡ occurrences q xs
@@ -328,6 +352,7 @@ taken_times p q (x ∷ xs) m = elim (here_or_later p x xs m) [
       ∙ (let h = taken_times p q xs l.1 in omega arith)
 ]
 
+-- a number occurs in a list as often as in the list without p and in the list of p together
 pub taken_counts : (p q : ℕ) (xs : List ℕ)
     → 0 < occurrences p xs
     → occurrences q (taken_out p xs) + occurrences q (p ∷ []) ≡ occurrences q xs
@@ -336,6 +361,7 @@ taken_counts p q xs m =
     let s : occurrences q (p ∷ []) ≡ (if nat_eq q p then 1 else 0) + 0 = refl in
     omega arith
 
+-- if all elements are less than the bound, they are after one is taken out
 pub taken_within : (bound p : ℕ) (xs : List ℕ) → AreWithin bound xs → AreWithin bound (taken_out p xs)
 taken_within bound p [] w = tt
 taken_within bound p (x ∷ xs) w = by (nat_eq p x) (taken_within bound p xs w.1)
@@ -344,6 +370,7 @@ taken_within bound p (x ∷ xs) w = by (nat_eq p x) (taken_within bound p xs w.1
     by true r = w.1
     by false r = (w.0, r)
 
+-- if all elements are less than the bound, they are after one less than it is put last
 pub within-append : (bound p : ℕ) (xs : List ℕ) → AreWithin bound xs → p < bound → AreWithin bound (xs ++ p ∷ [])
 within-append bound p [] w l = (l, tt)
 within-append bound p (x ∷ xs) w l = (w.0, within-append bound p xs w.1 l)

@@ -24,10 +24,12 @@ module _ {K : Type 0} (es fs : List (K × ℕ)) (is js : List ℕ) where
   tail_stays p ps s q e m =
       s q e (let t : occurrences q (p ∷ ps) ≡ (if nat_eq q p then 1 else 0) + occurrences q ps = refl in omega arith)
 
+  -- elements whose entries are in the other table as well have entries in it
   pub have_entries : (ps : List ℕ) → HaveEntries es is ps → Stay ps → HaveEntries fs js ps
   have_entries [] h s = tt
   have_entries (p ∷ ps) h s = ((h.0.0, s p (h.0.0, p) (times_head p ps) h.0.1), have_entries ps h.1 (tail_stays p ps s))
 
+  -- elements whose entries are in the other table as well have the same entries in order
   pub same_entries : (ps : List ℕ) → HaveEntries es is ps → Stay ps → in_order fs js ps ≡ in_order es is ps
   same_entries [] h s = refl
   same_entries (p ∷ ps) h s =
@@ -35,12 +37,14 @@ module _ {K : Type 0} (es fs : List (K × ℕ)) (is js : List ℕ) where
       (s p (h.0.0, p) (times_head p ps) h.0.1 ∙ sym h.0.1)
       ∙ ap (λ (ys : List (K × ℕ)). option_to_list (entry_of es is p) ++ ys) (same_entries ps h.1 (tail_stays p ps s))
 
+  -- if all elements have entries, they do after an element with an entry is put last
   pub have_append : (ps : List ℕ) (p : ℕ) (k : K)
       → HaveEntries fs js ps → entry_of fs js p ≡ Some (k, p)
       → HaveEntries fs js (ps ++ p ∷ [])
   have_append [] p k h e = ((k, e), tt)
   have_append (q ∷ ps) p k h e = (h.0, have_append ps p k h.1 e)
 
+  -- if an element with an entry is put last, the entries in order are those of before with this entry at the end
   pub in_order-append : (ps : List ℕ) (p : ℕ) (k : K)
       → HaveEntries fs js ps → entry_of fs js p ≡ Some (k, p)
       → in_order fs js (ps ++ p ∷ []) ≡ in_order fs js ps ++ (k, p) ∷ []
@@ -52,16 +56,19 @@ module _ {K : Type 0} (es fs : List (K × ℕ)) (is js : List ℕ) where
 
 -- ---- an entry after a list
 
+-- the items of a list have the same indices after one more is put last
 pub front_stays : {X : Type 0} (xs : List X) (y : X) (i : ℕ) (x : X)
     → slice_get xs i ≡ Some x → slice_get (xs ++ y ∷ []) i ≡ Some x
 front_stays [] y i x h = absurd (none-some x h)
 front_stays (z ∷ xs) y zero x h = h
 front_stays (z ∷ xs) y (suc i) x h = front_stays xs y i x h
 
+-- the item that is put last has the former length of the list for its index
 pub last_here : {X : Type 0} (xs : List X) (y : X) → slice_get (xs ++ y ∷ []) (length xs) ≡ Some y
 last_here [] y = refl
 last_here (z ∷ xs) y = last_here xs y
 
+-- an item of a list to which one is put last is an item of the list or the one that is put last
 pub front_or_last : {X : Type 0} (xs : List X) (y : X) (i : ℕ) (x : X)
     → slice_get (xs ++ y ∷ []) i ≡ Some x → (slice_get xs i ≡ Some x) ⊎ ((i ≡ length xs) × (y ≡ x))
 front_or_last [] y zero x h = inr (refl, same_Some y x h)
@@ -104,11 +111,13 @@ module _ {K : Type 0} (es : List (K × ℕ)) (is : List ℕ) (order : Order) (h 
   have : HaveEntries es' is' order.elements
   have = have_entries es es' is is' order.elements h.placed stay
 
+  -- after the insertion, the entries in order are those of before with the new one at the end
   pub shown_inserted : in_order es' is' (order.elements ++ p ∷ []) ≡ in_order es is order.elements ++ (key, p) ∷ []
   shown_inserted =
       in_order-append es es' is is' order.elements p key have here
       ∙ ap (λ (ys : List (K × ℕ)). ys ++ (key, p) ∷ []) (same_entries es es' is is' order.elements h.placed stay)
 
+  -- after the insertion, the elements of the order are those of the entries, and the index of each is known
   pub indexed_inserted : (after : Order)
       → after.bound ≡ order.bound → after.elements ≡ order.elements ++ p ∷ []
       → IsIndexed es' is' after
@@ -167,6 +176,7 @@ module _ {X : Type 0} (xs : List X) (i : ℕ) (d : X) (at : slice_get xs i ≡ S
   long : length (set xs i (get_or xs n d)) ≡ length xs
   long = length-set xs i (get_or xs n d)
 
+  -- the list that is left is shorter by one
   pub swapped_length : length ys + 1 ≡ length xs
   swapped_length =
       let l = within in let e = long in let t = length-take-le n (set xs i (get_or xs n d)) (omega arith) in omega arith
@@ -177,18 +187,21 @@ module _ {X : Type 0} (xs : List X) (i : ℕ) (d : X) (at : slice_get xs i ≡ S
       slice_get-get_or ys j d (omega arith)
       ∙ ap (λ (x : X). let o : Option X = Some x in o) (get_or-take n (set xs i (get_or xs n d)) j d l)
 
+  -- each entry but the last has the same index, unless it left
   pub swapped_other : (j : ℕ) → j ≢ i → j < n → slice_get ys j ≡ slice_get xs j
   swapped_other j ne l =
       read j l
       ∙ ap (λ (x : X). let o : Option X = Some x in o) (get_or-set_other xs i j (get_or xs n d) d ne)
       ∙ sym (slice_get-get_or xs j d (omega arith))
 
+  -- the last entry is at the index of the one that left, unless it left itself
   pub swapped_here : i < n → slice_get ys i ≡ slice_get xs n
   swapped_here l =
       read i l
       ∙ ap (λ (x : X). let o : Option X = Some x in o) (get_or-set_same xs i (get_or xs n d) d within)
       ∙ sym (slice_get-get_or xs n d (omega arith))
 
+  -- each index of the list that is left is less than the last index of the former list
   pub swapped_within : (j : ℕ) (x : X) → slice_get ys j ≡ Some x → j < n
   swapped_within j x e = let l = slice_get_within ys j x e in let s = swapped_length in omega arith
 
@@ -208,12 +221,14 @@ module _ {K : Type 0} (es : List (K × ℕ)) (is : List ℕ) (order : Order) (h 
   abbrev last : ℕ
   last = length es - 1
 
+  -- the element of the entry that leaves is in the order once
   pub member : occurrences p order.elements ≡ 1
   member = (h.listed i (key, p) at).0
 
   index : slice_index_or is p 0 ≡ i
   index = (h.listed i (key, p) at).1
 
+  -- the index of an entry fits in 32 bits
   pub index_small : i < 2 ^ 32
   index_small =
       let l = slice_get_within es i (key, p) at in let m = h.many in let f = h.few in let s = h.small in omega arith
@@ -247,6 +262,7 @@ module _ {K : Type 0} (es : List (K × ℕ)) (is : List ℕ) (order : Order) (h 
     | inr s ↦ subst (λ q. 0 < occurrences q order.elements) (sym s.0) (let m = member in omega arith)
   ]
 
+  -- the element of the moved entry has an index
   pub moved_within : moved < length is
   moved_within =
       let w = within_at order.bound moved order.elements h.within moved_member in let e = h.long in omega arith
@@ -313,10 +329,12 @@ module _ {K : Type 0} (es : List (K × ℕ)) (is : List ℕ) (order : Order) (h 
           by true r = t.1
           by false r = (t.0, r)
 
+  -- the other elements have the same entries in order after the removal
   pub shown_removed :
       in_order left left_indices (taken_out p order.elements) ≡ in_order es is (taken_out p order.elements)
   shown_removed = same_entries es left is left_indices (taken_out p order.elements) have_left stays
 
+  -- after the removal, the elements of the order are those of the entries, and the index of each is known
   pub indexed_removed : (after : Order)
       → after.bound ≡ order.bound
       → after.elements ≡ taken_out p order.elements
@@ -388,21 +406,25 @@ module _ {K : Type 0} (es : List (K × ℕ)) (is : List ℕ) (order : Order) (h 
 
 -- ---- the index of a look-up in the table
 
+-- if the look-up has the value at an index as its result, it finds the element of the entry at this index
 pub found_at : {K : Type 0} (es : List (K × ℕ)) (test : K → Bool) (i : ℕ) (key : K) (p : ℕ)
     → slice_get es i ≡ Some (key, p)
     → slice_get (values_of es) i ≡ lookup test es
     → lookup test es ≡ Some p
 found_at es test i key p at value = sym value ∙ slice_get-map (λ e. e.1) es i ∙ ap (option_map (λ e. e.1)) at
 
+-- an option that is not present is None
 pub none_found : (o : Option ℕ) → is_some o ≡ false → o ≡ None
 none_found None h = refl
 none_found (Some p) h = absurd (true≢false h)
 
+-- a list has an item at each index that is less than its length
 pub has_entry : {X : Type 0} (xs : List X) (i : ℕ) → i < length xs → slice_get xs i ≡ None → ⊥
 has_entry [] i l h = absurd (omega arith)
 has_entry (x ∷ xs) zero l h = none-some x (sym h)
 has_entry (x ∷ xs) (suc i) l h = has_entry xs i (omega arith) h
 
+-- numbers that are equal to a lower and a higher one are in the same order
 pub below_length : (q m l n : ℕ) → q ≡ m → m < l → n ≡ l → q < n
 below_length q m l n e b s = omega arith
 
@@ -412,6 +434,7 @@ nothing : {X : Type 0} (i : ℕ) → slice_get (let none : List X = [] in none) 
 nothing zero = refl
 nothing (suc i) = refl
 
+-- if the table has no entry and the order no element, the elements are those of the entries, with known indices
 pub indexed_cleared : {K : Type 0} (es : List (K × ℕ)) (is : List ℕ) (order : Order)
     → es ≡ [] → order.elements ≡ []
     → length is ≡ order.bound → order.bound < 2 ^ 32

@@ -44,9 +44,11 @@ hull_itself : (a : Range) → hull a a ≡ a
 hull_itself a =
     same_range (hull a a).lo (hull a a).hi a.lo a.hi (hull a a).ordered a.ordered (omega arith) (omega arith)
 
+-- the hull of a pointer's offsets with themselves is the pointer
 pub offsets_itself : (p : ValuePointer) → offsets_hull p p ≡ p
 offsets_itself p = same_pointer (offsets_hull p p) p refl (omega (arith, ints, clamps)) (omega (arith, ints, clamps))
 
+-- the join of a kind with itself is the kind
 pub kinds_itself : (k : Kind) → kind_join k k ≡ k
 kinds_itself Unreadable = refl
 kinds_itself (Scalar a) = ap Scalar (hull_itself a)
@@ -62,6 +64,7 @@ kinds_itself (MaybeValue m s) =
 
 -- ---- slots
 
+-- a second join with the same slot changes nothing
 pub slots_absorb : KindsAssociate → SlotsAbsorb
 slots_absorb h (Bytes x) (Bytes y) = ap Bytes (and_assoc y x y ∙ ap (bit_and x) (and_self y))
 slots_absorb h (Bytes x) (Spill k) = refl

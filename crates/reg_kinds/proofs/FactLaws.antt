@@ -15,6 +15,7 @@ use Rattle.reg_kinds.proofs.Tables.{same_table, same_facts}
 
 -- ---- slots
 
+-- if the join of kinds is commutative, so is that of slots
 pub slots_commute : KindsCommute → SlotsCommute
 slots_commute h (Bytes x) (Bytes y) = ap Bytes (and_comm x y)
 slots_commute h (Bytes x) (Spill k) = refl
@@ -41,6 +42,7 @@ last_bytes : (x : ℕ) (k : Kind) → slot_join (spilled k) (Bytes x) ≡ Bytes 
 last_bytes x Unreadable = ap Bytes (and_zero_l x)
 last_bytes x _ = refl
 
+-- if the join of kinds is associative, so is that of slots
 pub slots_associate : KindsAssociate → SlotsAssociate
 slots_associate h (Bytes x) (Bytes y) (Bytes z) = ap Bytes (and_assoc z x y)
 slots_associate h (Bytes x) (Bytes y) (Spill k) = sym (ap Bytes (and_zero_r x))
@@ -54,6 +56,7 @@ slots_associate h (Spill i) (Spill j) (Spill k) =
 
 -- ---- facts
 
+-- if the joins of kinds and of slots are commutative, so is that of facts
 pub facts_commute : KindsCommute → SlotsCommute → FactsCommute
 facts_commute h k a b =
     same_facts (facts_join a b) (facts_join b a)
@@ -66,6 +69,7 @@ kind_of_join a b r h = tabulate-at (λ n. kind_join (kind_at a n) (kind_at b n))
 slot_of_join : (a b : Facts) (i : ℕ) → i < 64 → slot_at (facts_join a b) i ≡ slot_join (slot_at a i) (slot_at b i)
 slot_of_join a b i h = tabulate-at (λ n. slot_join (slot_at a n) (slot_at b n)) 64 i (Bytes 0) h
 
+-- if the joins of kinds and of slots are associative, so is that of facts
 pub facts_associate : KindsAssociate → SlotsAssociate → FactsAssociate
 facts_associate h k a b c =
     same_facts (facts_join (facts_join a b) c) (facts_join a (facts_join b c))

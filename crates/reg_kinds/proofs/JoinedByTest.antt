@@ -15,13 +15,17 @@ use Rattle.reg_kinds.proofs.PointerLemmas.{same_pointer}
 
 -- a test that is an equivalence, and the relation that it implies
 pub record Test (X : Type 0) (Same : X → X → Type 0) : Type 0 where
+  -- the test
   pub test : X → X → Bool
+  -- the test is an equivalence
   pub laws : IsEquivalence test
+  -- elements that pass the test are related
   pub tells : (x y : X) → test x y ≡ true → Same x y
 
 abbrev pub joined : {X : Type 0} → (X → Kind) → (X → X → Bool) → (X → X → X) → X → X → Kind
 joined C test merge x y = if test x y then C (merge x y) else Unreadable
 
+-- a join by a test is commutative, if the merge of related elements is
 pub joined_commutes : {X : Type 0} {Same : X → X → Type 0} (C : X → Kind) (by : Test X Same)
     (merge : X → X → X)
     → ((x y : X) → Same x y → C (merge x y) ≡ C (merge y x))
@@ -82,6 +86,7 @@ module _ {X : Type 0} {Same : X → X → Type 0} (C : X → Kind) (by : Test X 
           ]
         ]
 
+-- a join by a test is associative, if the merge is and does not change the test
 pub joined_associates : {X : Type 0} {Same : X → X → Type 0} (C : X → Kind) (by : Test X Same)
     (merge : X → X → X)
     → ((x y : X) → kind_join (C x) (C y) ≡ joined C by.test merge x y)
@@ -105,11 +110,13 @@ offset_test = record { test = int_eq; laws = int_eq_equiv; tells = λ x y. (Deci
 abbrev pub same_pair : ℕ × ℕ → ℕ × ℕ → Bool
 same_pair p q = (p.0 == q.0) && (p.1 == q.1)
 
+-- pairs that pass the test are equal
 pub same_pair_tells : (p q : ℕ × ℕ) → same_pair p q ≡ true → p ≡ q
 same_pair_tells p q t =
     let parts = and_parts (p.0 == q.0) (p.1 == q.1) t in
     ap₂ (λ (x y : ℕ). let r : ℕ × ℕ = (x, y) in r) (eqb-true p.0 q.0 parts.0) (eqb-true p.1 q.1 parts.1)
 
+-- the test of pairs is an equivalence
 pub same_pair_laws : IsEquivalence same_pair
 same_pair_laws =
     record {
@@ -135,10 +142,12 @@ map_test =
 
 -- ---- the hull of offsets
 
+-- the hull of the offsets of two pointers into values of one map is commutative
 pub hull_turned : (p q : ValuePointer) → p.map ≡ q.map → offsets_hull p q ≡ offsets_hull q p
 hull_turned p q e =
     same_pointer (offsets_hull p q) (offsets_hull q p) e (omega (arith, ints, clamps)) (omega (arith, ints, clamps))
 
+-- the hull of the offsets of pointers into values is associative
 pub hull_regrouped : (p q r : ValuePointer) → offsets_hull (offsets_hull p q) r ≡ offsets_hull p (offsets_hull q r)
 hull_regrouped p q r =
     same_pointer (offsets_hull (offsets_hull p q) r) (offsets_hull p (offsets_hull q r)) refl

@@ -23,6 +23,7 @@ constructor_of (MaybeValue m s) = 6
 abbrev differ : Kind → Kind → Bool
 differ i j = not (constructor_of i == constructor_of j)
 
+-- the join of a kind with that of what may not be read is the latter
 pub nothing_last : (i : Kind) → kind_join i Unreadable ≡ Unreadable
 nothing_last Unreadable = refl
 nothing_last _ = refl
@@ -69,6 +70,7 @@ last_differs h i j k d =
     ∙ (ap (kind_join k) (kinds_commute h i j)
     ∙ (sym (first_differs k j i d) ∙ (kinds_commute h (kind_join k j) i ∙ ap (kind_join i) (kinds_commute h k j))))
 
+-- the join of kinds is associative, if the hull of ranges is commutative and associative
 pub kinds_associate : HullCommutes
     → HullAssociates
     → (i j k : Kind) → kind_join (kind_join i j) k ≡ kind_join i (kind_join j k)

@@ -7,6 +7,7 @@ use Rattle.reg_kinds.specs.Pointers.{offsets_hull}
 use Rattle.reg_kinds.specs.Join.{kind_join}
 use Rattle.reg_kinds.proofs.JoinedByTest.{joined_commutes, number_test, offset_test, pair_test, map_test, hull_turned}
 
+-- the join of kinds is commutative, if the hull of ranges is
 pub kinds_commute : HullCommutes → (j k : Kind) → kind_join j k ≡ kind_join k j
 kinds_commute h Unreadable Unreadable = refl
 kinds_commute h (Scalar a) (Scalar b) = ap Scalar (h a b)

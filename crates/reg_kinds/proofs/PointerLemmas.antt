@@ -20,6 +20,7 @@ same_fields m lo hi lo' hi' p q e f =
     subst (λ (x : ℤ). (h : x ≤ℤ hi) → made m lo hi p ≡ made m x hi h) e same in
     subst (λ (y : ℤ). (h : lo' ≤ℤ y) → made m lo hi p ≡ made m lo' y h) f moved q
 
+-- pointers into values are equal if their maps and the ends of their offsets are
 pub same_pointer : (r s : ValuePointer) → r.map ≡ s.map → r.lo ≡ s.lo → r.hi ≡ s.hi → r ≡ s
 same_pointer r s d e f =
     let same : made r.map r.lo r.hi r.ordered ≡ made r.map s.lo s.hi s.ordered =

@@ -8,11 +8,16 @@ use Rattle.reg_kinds.proofs.Tables.{filled, fill_more, rest_more, same_facts}
 
 -- the registers of g below n are those of f and e, joined; the others and the stack are those of f
 pub record AreJoinedBelow (f e : Facts) (n : ℕ) (g : Facts) : Type 0 where
+  -- the facts have eleven registers
   pub long : length g.registers ≡ 11
+  -- their stack is that of f
   pub kept : g.slots ≡ f.slots
+  -- the registers below n are joined
   pub done : (k : ℕ) → k < n → kind_at g k ≡ kind_join (kind_at f k) (kind_at e k)
+  -- the registers from n on are those of f
   pub rest : (k : ℕ) → n ≤ k → kind_at g k ≡ kind_at f k
 
+-- at first no register is joined
 pub none_joined : (f e : Facts) → length f.registers ≡ 11 → AreJoinedBelow f e 0 f
 none_joined f e long =
     record {
@@ -22,6 +27,7 @@ none_joined f e long =
       rest = λ k le. refl;
     }
 
+-- if register n gets the join of its kinds, the registers below n + 1 are joined
 pub one_joined : {f e g : Facts} (n : ℕ) (h : Facts)
     → n < 11 → AreJoinedBelow f e n g
     → h ≡ with_kind g n (kind_join (kind_at g n) (kind_at e n))
@@ -41,6 +47,7 @@ one_joined {f = f} {e = e} {g = g} n h low below is =
     } in
     subst (λ (x : Facts). AreJoinedBelow f e (n + 1) x) (sym is) more
 
+-- if all eleven registers are joined, the facts are f with the joins of both facts in its registers
 pub all_joined : (f e g : Facts)
     → AreJoinedBelow f e 11 g → g ≡ with_registers f (λ r. kind_join (kind_at f r) (kind_at e r))
 all_joined f e g h =

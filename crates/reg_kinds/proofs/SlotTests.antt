@@ -18,16 +18,19 @@ use Rattle.reg_kinds.specs.Many.{any_below, is_touched_spill, lacks, bits_in, st
 
 -- ---- tests
 
+-- no index below 0 passes a test
 pub none_first : (test : ℕ → Bool) → any_below 0 test ≡ false
 unfolding any_below
 none_first test = refl
 
+-- if no index below n passes a test, and n fails it too, no index below n + 1 passes it
 pub none_more : (n : ℕ) (test : ℕ → Bool) → any_below n test ≡ false → test n ≡ false → any_below (n + 1) test ≡ false
 unfolding any_below
 none_more n test e f =
     let one : suc n ≡ n + 1 = omega arith in
     subst (λ k. any_below k test ≡ false) one (or_from (test n) (any_below n test) f e)
 
+-- if an index below n passes a test, some index below n passes it
 pub one_below : (n i : ℕ) (test : ℕ → Bool) → i < n → test i ≡ true → any_below n test ≡ true
 unfolding any_below
 one_below zero i test lt e = absurd (omega arith)
@@ -37,6 +40,7 @@ one_below (suc n) i test lt e =
     (λ le. let same : i ≡ n = omega arith in or_left (test n) (any_below n test) (subst (λ k. test k ≡ true) same e))
     (cases_lt i n)
 
+-- if each index below n fails a test, none passes it
 pub none_below : (n : ℕ) (test : ℕ → Bool) → ((i : ℕ) → i < n → test i ≡ false) → any_below n test ≡ false
 unfolding any_below
 none_below zero test none = refl
@@ -66,10 +70,12 @@ lacks_none : (s : Slot) → lacks s 0 ≡ false
 lacks_none (Bytes mask) = ap (λ (x : ℕ). not (x == 0)) (and_zero_r mask)
 lacks_none (Spill k) = refl
 
+-- an access to other slots touches no spill of a slot
 pub spill_apart : (f : Facts) (p n i : ℕ)
     → (8 * i + 8 ≤ p) ⊎ (p + n ≤ 8 * i) → is_touched_spill (slot_at f i) (touches p n i) ≡ false
 spill_apart f p n i h = unspilled (slot_at f i) (touches p n i) (apart p n i h)
 
+-- an access to other slots lacks no byte of a slot
 pub lacks_apart : (f : Facts) (p n i : ℕ)
     → (8 * i + 8 ≤ p) ⊎ (p + n ≤ 8 * i) → lacks (slot_at f i) (bits_in p n i) ≡ false
 lacks_apart f p n i h = ap (lacks (slot_at f i)) (no_bits p n i h) ∙ lacks_none (slot_at f i)
@@ -98,6 +104,7 @@ input_at f x n p a b at e g =
     if not t then Err OutsideStack else told_of (spill_at f n (byte_index x)) (missing_at f n (byte_index x)))
     h.0)
 
+-- if bytes lie in the stack, only a touched spill or an unwritten byte is a reason against a helper's read of them
 pub input_is : (f : Facts) (x y : ℤ) (n p : ℕ) (a b : Bool)
     → y ≡ x
     → (if is_in_stack y n then Some (byte_index y) else None) ≡ Some p
@@ -108,6 +115,7 @@ input_is f x y n p a b same at e g =
 
 -- ---- bits
 
+-- shifts of a 16-bit number make the mask of a bits from bit b on, if it lies in eight bits
 pub ones_are : (a b : ℕ) → a + b ≤ 8 → ((1 * 2 ^ a % 65536 - 1) * 2 ^ b) % 65536 ≡ (2 ^ a - 1) * 2 ^ b
 ones_are a b h =
     let some : 0 < 2 = omega arith in

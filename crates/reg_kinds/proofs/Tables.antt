@@ -7,6 +7,7 @@ use Rattle.reg_kinds.specs.declared.facts.Facts.{Facts}
 use Rattle.reg_kinds.specs.Kinds.{tabulate}
 use Rattle.reg_kinds.specs.TableLaws.{tabulate-at, length-tabulate}
 
+-- a list of n elements that each equal a function of their index is the table of the function
 pub filled : {X : Type 0} (f : ℕ → X) (xs : List X) (n : ℕ) (d : X)
     → length xs ≡ n → ((k : ℕ) → k < n → get_or xs k d ≡ f k) → xs ≡ tabulate n f
 unfolding tabulate

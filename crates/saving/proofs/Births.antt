@@ -85,11 +85,14 @@ bind (Some handle) fd rest = (fd, handle) ∷ rest
 
 -- the maps that were live and the programs that were open are still so
 pub record KeepsBorn (s t : TenantState) : Type 0 where
+  -- a map that was live is live later
   pub maps : (handle : ℕ) → IsSome (live s handle) → IsSome (live t handle)
+  -- a program that was open is open at the same descriptor later
   pub programs : (fd : ℕ) (l : LoadedProgram)
       → table.named s.objects fd ≡ Some (object.Program l)
       → table.named t.objects fd ≡ Some (object.Program l)
 
+-- births in order are in order in a state that keeps the live maps and the open programs
 pub order_kept : (s t : TenantState) → KeepsBorn s t → (bs : List Birth) → AreInOrder s bs → AreInOrder t bs
 order_kept s t keeps [] order = tt
 order_kept s t keeps (b ∷ older) (low, high, apart, is, order) = (
@@ -104,6 +107,7 @@ order_kept s t keeps (b ∷ older) (low, high, apart, is, order) = (
     by (OfMap handle fd) (live_so, new) = (keeps.maps handle live_so, new)
     by (OfProgram fd) (l, there, maps) = (l, keeps.programs fd l there, maps)
 
+-- if the open objects are the same and no map is removed, the births are those of the other state too
 pub same_births : (s t : TenantState) (bs : List Birth)
     → t.objects ≡ s.objects
     → ((handle : ℕ) → IsSome (live s handle) → IsSome (live t handle))
@@ -147,6 +151,7 @@ named_is objects fd low =
     (le-ltb fd table.first_descriptor low)
     ∙ flattened-get objects (fd - table.first_descriptor)
 
+-- a descriptor that names an object is at least the first descriptor
 pub named_low : (objects : List (Option OpenObject)) (fd : ℕ) (o : OpenObject)
     → table.named objects fd ≡ Some o → table.first_descriptor ≤ fd
 named_low objects fd o e = by (nat_lt fd table.first_descriptor) refl e
@@ -177,7 +182,7 @@ opened_there objects fd other o low low_too apart =
     (Some o) None (λ e. apart (omega arith))
     ∙ sym (named_is objects other low_too)
 
--- a program that is open after it was open before or is the new object
+-- after an object is opened an open program is this object, or was open at its descriptor before
 pub opened_program : (objects : List (Option OpenObject)) (fd n : ℕ) (o : OpenObject) (l : LoadedProgram)
     → table.lowest objects ≡ Some fd
     → table.named (table.with_open objects fd o) n ≡ Some (object.Program l)
@@ -468,6 +473,7 @@ closed_either objects fd other = by (nat_lt fd table.first_descriptor) (nat_lt o
     by true false = inr refl
     by false false = at (unset objects n i)
 
+-- a descriptor that is open after a close names the object of before
 pub closed_there : (objects : List (Option OpenObject)) (fd other : ℕ)
     → (table.named (table.with_closed objects fd) other ≡ None → ⊥)
     → table.named (table.with_closed objects fd) other ≡ table.named objects other
@@ -554,6 +560,7 @@ module _ (s : TenantState) (h : HoldsItsMaps s) (fd : ℕ) where
       )
       by false e rest = rest
 
+  -- after a close the births of the state are those of before whose objects are still live
   pub close_births : (bs : List Birth) → AreBirths s bs → AreBirths (left_by s fd) (filter (lives (left_by s fd)) bs)
   close_births bs are = record {
     order = order_left bs are.order;

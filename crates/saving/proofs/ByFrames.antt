@@ -40,6 +40,7 @@ module _ (tenant : ℕ) where
 
   -- ---- each command of a walk
 
+  -- the command that loads a program is read from its frame
   pub program_carried : (insns : List Insn) → IsProgram insns → IsCarried (load_of insns)
   program_carried insns is =
       let room = is.room in
@@ -150,6 +151,7 @@ module _ (tenant : ℕ) where
         good = ((well.0, a.payload, ap (λ (status : ℤ). reply_to frame status a.payload) well.1), later.good);
       }
 
+-- the frames that carry a save's commands restore the state if the commands do
 pub restored_by_frames : IsProgram filler → RestoredIsAlike → RestoredByFrames
 restored_by_frames fine law tenant s births whole are =
     let (t, leads, alike, holds) = law s births whole are in

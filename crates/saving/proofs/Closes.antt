@@ -11,6 +11,7 @@ use Rattle.saving.proofs.Pairs.{ArePair}
 
 -- ---- the maps that are named
 
+-- the list of the maps that are named is as long as the list of all maps
 pub length_named : (objects : List (Option OpenObject)) (handle : ℕ) (ms : List (Option Map))
     → length (named_from objects handle ms) ≡ length ms
 unfolding named_from
@@ -31,13 +32,14 @@ named_get objects handle (suc i) (m ∷ ms) =
     let e : handle + 1 + i ≡ handle + suc i = omega arith in
     named_get objects (handle + 1) i ms ∙ ap (λ (p : ℕ). if is_named objects p then get_or ms i None else None) e
 
--- the map that is live under a handle with these open objects
+-- with these open objects the map of a handle is that of before if they name it, and absent otherwise
 pub live_with : (s : TenantState) (objects : List (Option OpenObject)) (handle : ℕ)
     → live (with_objects s objects) handle ≡ (if is_named objects handle then live s handle else None)
 live_with s objects handle =
     let e : 0 + handle ≡ handle = omega arith in
     named_get objects 0 handle s.maps ∙ ap (λ (p : ℕ). if is_named objects p then live s handle else None) e
 
+-- with these open objects the map of a handle that they name is not changed
 pub live_if : (s : TenantState) (objects : List (Option OpenObject)) (handle : ℕ)
     → is_named objects handle ≡ true → live (with_objects s objects) handle ≡ live s handle
 live_if s objects handle e = live_with s objects handle ∙ ap (λ (b : Bool). if b then live s handle else None) e
@@ -71,6 +73,7 @@ unset_fewer (o ∷ os) (suc n) handle e =
     by rest (inl here) = names_here o os handle here
     by rest (inr later) = names_later o os handle (rest later)
 
+-- a handle that is named after a close was named before it
 pub closed_fewer : (objects : List (Option OpenObject)) (fd : ℕ) → NamesFewer (with_closed objects fd) objects
 closed_fewer objects fd = by (nat_lt fd first_descriptor)
   where
@@ -78,6 +81,7 @@ closed_fewer objects fd = by (nat_lt fd first_descriptor)
     by true handle e = e
     by false handle e = unset_fewer objects (fd - first_descriptor) handle e
 
+-- a close does not change the length of the table of descriptors
 pub closed_length : (objects : List (Option OpenObject)) (fd : ℕ) → length (with_closed objects fd) ≡ length objects
 closed_length objects fd = by (nat_lt fd first_descriptor)
   where
@@ -85,6 +89,7 @@ closed_length objects fd = by (nat_lt fd first_descriptor)
     by true = refl
     by false = length-set {A = Option OpenObject} objects (fd - first_descriptor) None
 
+-- with fewer open objects the second state is still the first with its handles renamed
 pub fewer_pair : {move : ℕ → ℕ} {s t : TenantState}
     → ArePair move s t
     → (objects : List (Option OpenObject)) → NamesFewer objects s.objects
@@ -117,6 +122,7 @@ fewer_pair {move} {s} {t} h objects fewer = record {
         sym (named_there p there) ∙ ap (is_named (moved_objects move objects)) at ∙ named in
         (p, ap is_some (live_if s objects p still) ∙ there, at)
 
+-- with fewer open objects, and without the maps that none of them names, the state holds its maps
 pub fewer_held : {s : TenantState}
     → HoldsItsMaps s
     → (objects : List (Option OpenObject)) → length objects ≡ length s.objects
@@ -131,6 +137,7 @@ fewer_held {s} h objects long fewer = record {
 
 -- ---- one more open object
 
+-- with one more open object a handle is named if and only if this object or another one names it
 pub named_open : (objects : List (Option OpenObject)) (n : ℕ) (o : OpenObject) (handle : ℕ)
     → n < length objects → get_or objects n None ≡ None
     → is_named (set objects n (Some o)) handle ≡ (names handle o || is_named objects handle)

@@ -175,6 +175,7 @@ module _ {s : TenantState} (h : HoldsItsMaps s) where
           still_marked program_mark (is_of_program fd) most k older (omega arith)
           (test fd k (omega arith) (omega arith)) apart
 
+  -- births in order are at most as many as descriptors and handles together
   pub few_births : (bs : List Birth) → AreInOrder s bs → length bs ≤ most + most_maps
   few_births bs order =
       let maps = few_of map_mark most_maps bs (maps_taken bs order) in

@@ -119,6 +119,7 @@ module _ (one_alone : OneAlone) (held : MapsAreHeld) (bisimulation : AlikeIsBisi
       in_order (RepliesUnder false) (reply_under false) frames replies s t after
       (record { one = one; two = two; alike = alike }) is
 
+  -- states that are alike give each list of frames the same replies, whether memory is refused or not
   pub replies_alike : AlikeStatesReplyAlike
   replies_alike = record {
     alone = alone_too;

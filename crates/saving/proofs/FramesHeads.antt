@@ -6,6 +6,7 @@ use Rattle.std.proofs.lemmas.Option.{none-some, same_Some}
 use Rattle.command_frames.specs.declared.command.Head.{Head}
 use Rattle.command_frames.specs.Frame.{head_of}
 
+-- if a frame has a head, the tenant and the command number that are read from it are those of the head
 pub heads : (short : Bool) (m n : ℕ) (h : Head)
     → (if short then None else Some (record { tenant = m; command = n })) ≡ Some h
     → ((if short then 65535 else m) ≡ h.tenant) × ((if short then 65535 else n) ≡ h.command)

@@ -55,7 +55,7 @@ body_within n body =
 no_command : (fault : BadFrame) (command : Command) → let a : Result Command BadFrame = Err fault in a ≡ Ok command → ⊥
 no_command fault command e = cc
 
--- the bytes of a command that is parsed
+-- the key, the value, the slots or the packet of a parsed command are no longer than the longest frame
 pub parsed_within : (frame : List ℕ) (command : Command)
     → parsed frame ≡ Ok command → tail_length command ≤ longest_frame
 parsed_within frame command e = by_length (nat_lt longest_frame (length frame)) refl e

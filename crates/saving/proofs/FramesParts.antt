@@ -11,9 +11,13 @@ use Rattle.saving.specs.inside.Frames.{AnswersCommand}
 
 -- the part of a tenant was borrowed and written
 pub record IsLent (m : Memory) (t : ℕ) (old new : List ℕ) : Type 0 where
+  -- the size of the memory is the number of parts times the size of a part
   pub parts : size_of m ≡ m.parts * m.part
+  -- the tenant has a part, and a part has PART bytes
   pub served : (t < m.parts) × (m.part ≡ PART)
+  -- the old bytes are those of the tenant's part
   pub bytes : old ≡ part_bytes m t
+  -- the new bytes are as many as a part has
   pub whole : length new ≡ PART
 
 -- a reply to a command on the borrowed bytes is the reply to it on the part

@@ -19,6 +19,7 @@ use Rattle.saving.specs.inside.Frames.{AnswersCommand}
 use Rattle.saving.proofs.FramesHeads.{heads}
 use Rattle.saving.proofs.FramesStatuses.{no_fault_written}
 
+-- a reply with the tenant and the command number of a frame's head is the reply to the frame
 pub by_head : (frame : List ℕ) (h : Head)
     → head_of frame ≡ Some h → (status : ℤ) (payload : List ℕ)
     → reply_bytes h.tenant h.command status payload ≡ reply_to frame status payload
@@ -27,6 +28,7 @@ by_head frame h headed status payload =
     ap (λ (n : ℕ). reply_bytes n h.command status payload) (sym both.0)
     ∙ ap (λ (n : ℕ). reply_bytes (owner frame) n status payload) (sym both.1)
 
+-- a reply to the command of a frame is a possible reply to the frame
 pub may_tell : {births later : List Birth} (frame : List ℕ) (command : Command) (h : Head)
     (reply : List ℕ) (before after : TenantState)
     → head_of frame ≡ Some h → parsed frame ≡ Ok command
@@ -42,6 +44,7 @@ may_tell frame command h reply before after headed is t = (
   ),
 )
 
+-- a reply to the command of a frame is one to the frame, with the births after the command
 pub may_record : (frame : List ℕ) (command : Command) (h : Head) (reply : List ℕ)
     (before after : TenantState) (births later : List Birth)
     → head_of frame ≡ Some h → parsed frame ≡ Ok command
@@ -56,6 +59,7 @@ may_record frame command h reply before after births later headed is t = record 
   recorded = subst (λ (r : Result Command BadFrame). later ≡ births_after_frame r t.answer births) (sym is) t.recorded;
 }
 
+-- a reply that is not that of a fault by the frame's head is not that of a fault to the frame
 pub no_fault_replied : (frame : List ℕ) (h : Head) (reply : List ℕ)
     → head_of frame ≡ Some h
     → reply ≢ reply_bytes h.tenant h.command (status_of BadAddress) []
@@ -64,6 +68,7 @@ no_fault_replied frame h reply headed apart e = apart (e ∙ sym (by_head frame 
 
 -- ---- a frame without a command
 
+-- a frame that is rejected may get the error of its fault, and the state is not changed
 pub refused_frame : (frame reply : List ℕ) (s : TenantState) (fault : BadFrame) (errno : Errno) (h : Head)
     → head_of frame ≡ Some h → parsed frame ≡ Err fault
     → errno ≡ frame_errno fault
@@ -80,6 +85,7 @@ refused_frame frame reply s fault errno h headed is same written = (
   ),
 )
 
+-- the reply to a frame that is rejected has the error of its fault, and no birth is added or removed
 pub refused_record : (frame reply : List ℕ) (s : TenantState) (births : List Birth)
     (fault : BadFrame) (errno : Errno) (h : Head)
     → head_of frame ≡ Some h → parsed frame ≡ Err fault
@@ -98,6 +104,7 @@ refused_record frame reply s births fault errno h headed is same written = recor
       subst (λ (r : Result Command BadFrame). births ≡ births_after_frame r (refuses errno s) births) (sym is) refl;
 }
 
+-- the reply of an error other than BadAddress is not that of a fault
 pub refused_no_fault : (frame bytes : List ℕ) (s : TenantState) (errno : Errno) (h : Head)
     → head_of frame ≡ Some h → errno ≢ BadAddress
     → Writes h bytes (refuses errno s)

@@ -46,6 +46,7 @@ apart : (h : Head) (reply : List ℕ) (a : Answer)
     → reply ≢ reply_bytes h.tenant h.command (status_of BadAddress) []
 apart h reply a written other e = other (ap (λ (b : List ℕ). get_or b 8 0) (sym written ∙ e))
 
+-- the reply that is written of a writable result is not that of a fault
 pub no_fault_written : (h : Head) (bytes : List ℕ) (r : Result Reply Errno) (s : TenantState)
     → IsWritable r → Writes h bytes (shown_answer r s)
     → bytes ≢ reply_bytes h.tenant h.command (status_of BadAddress) []

@@ -13,12 +13,13 @@ use Rattle.tenant.specs.State.{TenantState}
 use Rattle.saving.specs.Births.{Birth, births_after}
 use Rattle.saving.proofs.FramesStatuses.{no_fault_written}
 
+-- the state of the result that a reply or an error represents is the given one
 pub shown_after : (r : Result Reply Errno) (s : TenantState) → s ≡ (shown_answer r s).after
 shown_after (Err errno) s = refl
 shown_after (Ok reply.Done) s = refl
 shown_after (Ok other) s = refl
 
--- the reply to the command, from the command that the code has parsed
+-- if the parsed command is known, the reply that is written of its result is a reply to it, with the births after it
 pub told : {command known : CodeCommand} {h : Head} {bytes : List ℕ} {before after : TenantState}
     {births later : List Birth} (refused : Bool) (r : Result Reply Errno)
     → command ≡ known

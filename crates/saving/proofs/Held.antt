@@ -40,6 +40,7 @@ none_is : {A : Type 0} (o : Option A) → is_none o ≡ true → o ≡ None
 none_is None e = refl
 none_is (Some x) e = absurd (true≢false (sym e))
 
+-- the index of the lowest free descriptor is in the table, and no object is open at it
 pub descriptor_free : (objects : List (Option OpenObject)) (fd : ℕ)
     → table.lowest objects ≡ Some fd
     → (fd - table.first_descriptor < length objects) × (get_or objects (fd - table.first_descriptor) None ≡ None)
@@ -112,6 +113,7 @@ module _ {s : TenantState} (h : HoldsItsMaps s) where
 
   -- ---- MAP_CREATE
 
+  -- after a map is created at the lowest free descriptor and a free handle the state holds its maps
   pub created_held : (fd handle : ℕ) (m : Map)
       → table.lowest s.objects ≡ Some fd → IsFree s handle
       → HoldsItsMaps (with_new_map s fd handle m)
@@ -217,7 +219,7 @@ module _ {s : TenantState} (h : HoldsItsMaps s) where
 
   -- ---- PROG_LOAD
 
-  -- a program whose maps are named is opened
+  -- after a program whose maps are named is opened the state still holds its maps
   pub opened_held : (fd : ℕ) (l : LoadedProgram)
       → table.lowest s.objects ≡ Some fd
       → ((p : ℕ) → list_any (λ m. m.1 == p) l.maps ≡ true → is_named s.objects p ≡ true)

@@ -26,7 +26,7 @@ use Rattle.saving.proofs.FramesStatuses.{no_fault_written}
 module _ (insns : List Insn) (refused : Bool) (a : Answer) (before after : TenantState)
     (loads : Loads refused before 1 (program_bytes insns) a)
     (left : after ≡ a.after) where
-  -- what the command does
+  -- the command that loads the program gets this result, and then the births are those after the load
   pub command_loaded : (births later : List Birth) (r : Result Reply Errno)
       → a ≡ shown_answer r after → IsWritable r
       → later ≡ with_opened a.status a.after births
@@ -54,14 +54,17 @@ module _ (insns : List Insn) (refused : Bool) (a : Answer) (before after : Tenan
         subst (λ (c : Result Command BadFrame). AnswersFrame refused before c a)
         (sym (program_carried number insns is)) loads
 
+    -- the reply to the load with this status has the status and the payload of the machine's result
     pub reply_is : load_reply number insns status ≡ reply_to (load_frame number insns) a.status a.payload
     reply_is =
         ap (λ (s : ℤ). reply_to (load_frame number insns) s []) status_is
         ∙ ap (λ (bytes : List ℕ). reply_to (load_frame number insns) a.status bytes) (sym none)
 
+    -- the reply with this status is a possible reply to the frame that loads the program
     pub frame_replied : MayReply (load_frame number insns) (load_reply number insns status) (Some before) (Some after)
     frame_replied = (refused, (a, carried, reply_is, ap Some left))
 
+    -- after the frame that loads the program the births are those after the load
     pub frame_recorded : (births later : List Birth) → later ≡ with_opened a.status a.after births
         → RecordsFrame (load_frame number insns) (load_reply number insns status) before after births later
     frame_recorded births later opened = record {
@@ -75,6 +78,7 @@ module _ (insns : List Insn) (refused : Bool) (a : Answer) (before after : Tenan
           (sym (program_carried number insns is)) opened;
     }
 
+    -- the reply to the frame that loads the program is not that of a fault
     pub frame_no_fault : (r : Result Reply Errno)
         → a ≡ shown_answer r after → IsWritable r
         → load_reply number insns status ≢ reply_to (load_frame number insns) (status_of BadAddress) []

@@ -65,6 +65,7 @@ shapes_same s t ms fd (suc n) h =
     by None e = refl
     by (Some handle) e = seen (live t handle) (live s handle) (h fd handle e)
 
+-- a whole program is still whole if the maps of its handles have the same shapes
 pub program_kept : (s t : TenantState) (l : LoadedProgram)
     → IsWholeProgram s l
     → ((fd handle : ℕ) → lookup (λ m. m == fd) l.maps ≡ Some handle
@@ -79,7 +80,7 @@ program_kept s t l whole h = record {
   bound = whole.bound;
 }
 
--- the handles of a program's maps are named
+-- the handle of each map of an open program is named
 pub program_names : (s : TenantState) (n : ℕ) (l : LoadedProgram)
     → table.named s.objects n ≡ Some (object.Program l)
     → (fd handle : ℕ) → lookup (λ m. m == fd) l.maps ≡ Some handle
@@ -103,6 +104,7 @@ leaves_weight None (Some y) h = absurd h
 leaves_weight (Some x) None h = absurd h
 leaves_weight (Some x) (Some y) h = ap shape_area h.shape
 
+-- a map that is not changed is as a run leaves it, and so is an absent map
 pub leaves_self : (o : Option Map) → LeavesMap o o
 leaves_self None = tt
 leaves_self (Some t) = record { shape = refl; whole = λ whole. whole }
@@ -125,7 +127,7 @@ sums_same [] (y ∷ ys) h = let rest = sums_same [] ys (λ i. h (suc i)) in let 
 sums_same (x ∷ xs) [] h = let rest = sums_same xs [] (λ i. h (suc i)) in let here = h zero in omega arith
 sums_same (x ∷ xs) (y ∷ ys) h = let rest = sums_same xs ys (λ i. h (suc i)) in let here = h zero in omega arith
 
--- each map is the same as before or has changed contents
+-- if each map is left as by a run, and the state holds its maps, it can still be restored
 pub contents_kept : {s : TenantState}
     → IsRestorable s
     → (ms : List (Option Map)) (b : Bool) → HoldsItsMaps (record s { maps = ms; refused = b })
@@ -143,7 +145,7 @@ contents_kept {s} can ms b holds each = record {
       (λ other handle e. leaves_shape (live s handle) (get_or ms handle None) (each handle));
 }
 
--- one map has changed contents
+-- if one map is left as by a run, each map of the list is
 pub one_left : (xs : List (Option Map)) (handle : ℕ) (t u : Map)
     → get_or xs handle None ≡ Some t → IsLeftOf t u
     → (p : ℕ) → LeavesMap (get_or xs p None) (get_or (set xs handle (Some u)) p None)
@@ -165,7 +167,7 @@ unfoldable pub AreLeftOf : MapsByDescriptor → List (ℕ × ℕ) → List (Opti
 AreLeftOf left [] xs = Unit {0}
 AreLeftOf left (m ∷ ms) xs = LeavesMap (get_or xs m.1 None) (left m.0) × AreLeftOf left ms xs
 
--- the maps after the run of a program
+-- if a run leaves each map of a program, it leaves each map of the list
 pub run_left : (left : MapsByDescriptor) (ms : List (ℕ × ℕ)) (xs ys : List (Option Map))
     → AreLeftOf left ms xs → length ys ≡ length xs
     → ((p : ℕ) → LeavesMap (get_or xs p None) (get_or ys p None))
@@ -203,6 +205,7 @@ unfoldable pub AreOnce : List ℕ → Type 0
 AreOnce [] = Unit {0}
 AreOnce (x ∷ xs) = (list_any (λ y. y == x) xs ≡ false) × AreOnce xs
 
+-- if a run leaves the map that each descriptor finds, it leaves the map of each handle in the list
 pub found_all : (left : MapsByDescriptor) (s : TenantState) (all ms : List (ℕ × ℕ))
     → ((fd : ℕ) → LeavesMap (and_then (lookup (λ m. m == fd) all) (live s)) (left fd))
     → ((fd : ℕ) → list_any (λ m. m.0 == fd) ms ≡ true → lookup (λ m. m == fd) all ≡ lookup (λ m. m == fd) ms)
@@ -273,6 +276,7 @@ once_left a (y ∷ ys) h = by (not (y == a)) (once_left a ys h.1)
     by true rest = (none_left y a ys h.0, rest)
     by false rest = rest
 
+-- a list of descriptors without its duplicates has each descriptor once
 pub distinct_once : (fds : List ℕ) → AreOnce (distinct fds)
 unfolding AreOnce distinct
 distinct_once [] = tt
@@ -390,7 +394,7 @@ all_bound s long (fd ∷ fds) h =
         (sym there)
         (record { keys = ap (λ (ks : List ℕ). fd ∷ ks) rest.keys; opened = ((descriptor, there), rest.opened) })
 
--- a program that is loaded is whole
+-- a program that is accepted with the targets of a state is whole in this state when it is loaded
 pub loaded_whole : LoadedMapsHaveShapes
     → (s : TenantState) → length s.objects ≡ table.most
     → (insns : List Insn) → IsProgram insns → IsAccepted insns (targets s)

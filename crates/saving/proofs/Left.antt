@@ -18,6 +18,7 @@ abbrev pub AreLeft : MapsByDescriptor → List (ℕ × ℕ) → List (Option Map
 AreLeft left [] xs = Unit {0}
 AreLeft left (m ∷ ms) xs = IsSome (left m.0) × IsSome (get_or xs m.1 None) × AreLeft left ms xs
 
+-- the list of the maps after a run is as long as before it
 pub length_left : (left : MapsByDescriptor) (ms : List (ℕ × ℕ)) (xs : List (Option Map))
     → length (maps_left left ms xs) ≡ length xs
 unfolding maps_left
@@ -38,6 +39,7 @@ abbrev Set : List (Option Map) → ℕ → Option Map → ℕ → Type 0
 Set xs n x i =
     ((i ≡ n) × (get_or (set xs n x) i None ≡ x)) ⊎ ((i ≢ n) × (get_or (set xs n x) i None ≡ get_or xs i None))
 
+-- after a map is replaced by another one the same handles have maps
 pub set_handles : (xs : List (Option Map)) (n : ℕ) (x : Option Map)
     → IsSome x → IsSome (get_or xs n None) → SameHandles xs (set xs n x)
 set_handles xs n x some there p = by (set_by_index xs n p x (there_within xs n there))
@@ -46,6 +48,7 @@ set_handles xs n x some there p = by (set_by_index xs n p x (there_within xs n t
     by (inl (at, e)) = ap is_some e ∙ some ∙ sym (ap (λ (j : ℕ). is_some (get_or xs j None)) at ∙ there)
     by (inr (other, e)) = ap is_some e
 
+-- if each map of a program is live and in the result of its run, the same handles have maps after it
 pub left_handles : (left : MapsByDescriptor) (ms : List (ℕ × ℕ)) (xs : List (Option Map))
     → AreLeft left ms xs → SameHandles xs (maps_left left ms xs)
 unfolding maps_left
@@ -70,7 +73,7 @@ set_moved move xs ys n x p there here apart same =
     by (inr (other, e)) (inl (at, f)) = absurd (other (sym (apart (sym at))))
     by (inr (other, e)) (inr (too, f)) = f ∙ same ∙ sym e
 
--- after a run the map under a moved handle is the same
+-- if a handle and its new one have the same map before a run, they have the same map after it
 pub left_moved : (move : ℕ → ℕ) (left : MapsByDescriptor) (ms : List (ℕ × ℕ))
     (xs ys : List (Option Map)) (p : ℕ)
     → AreLeft left ms xs → AreLeft left (moved_maps move ms) ys
@@ -116,6 +119,7 @@ listed (m ∷ ms) fd e = by (m.0 == fd) (listed ms fd) e
     by true rest e = (m.1, refl)
     by false rest e = rest e
 
+-- each map that an open program names is live, and is in the result of a run that leaves its maps
 pub program_left : {s : TenantState} (l : LoadedProgram)
     → HoldsItsMaps s
     → ((handle : ℕ) → list_any (λ m. m.1 == handle) l.maps ≡ true → is_named s.objects handle ≡ true)

@@ -8,22 +8,27 @@ use Rattle.bpf_maps.specs.Sum.{weight, total}
 
 -- ---- options
 
+-- an option that is not empty is `Some` of a value
 pub is_there : {A : Type 0} (o : Option A) → IsSome o → (x : A) × (o ≡ Some x)
 is_there None some = absurd (true≢false (sym some))
 is_there (Some x) some = (x, refl)
 
+-- an option that is `Some` of a value is not empty
 pub there_is : {A : Type 0} {o : Option A} {x : A} → o ≡ Some x → IsSome o
 there_is e = ap is_some e
 
+-- an option is not empty, or is `None`
 pub some_or_none : {A : Type 0} (o : Option A) → IsSome o ⊎ (o ≡ None)
 some_or_none None = inr refl
 some_or_none (Some x) = inl refl
 
+-- an option that is not empty is not `None`
 pub not_none : {A : Type 0} {o : Option A} → IsSome o → o ≡ None → ⊥
 not_none some none = true≢false (sym some ∙ ap is_some none)
 
 -- ---- an element that is set
 
+-- after an element is set its index has the new one, and each other index the one of before
 pub set_by_index : {A : Type 0} (xs : List (Option A)) (n i : ℕ) (x : Option A) → n < length xs
     → ((i ≡ n) × (get_or (set xs n x) i None ≡ x)) ⊎ ((i ≢ n) × (get_or (set xs n x) i None ≡ get_or xs i None))
 set_by_index xs n i x within = by (cases_eq i n)
@@ -56,6 +61,7 @@ module _ {A B : Type 0} (f : A → B) where
   length_map [] = refl
   length_map (x ∷ xs) = ap suc (length_map xs)
 
+  -- a function on the present elements does not change the index of the first absent one
   pub position_map : (xs : List (Option A)) → position is_none (map (option_map f) xs) ≡ position is_none xs
   position_map xs = simp (prefix_map xs, length_map xs)
 
@@ -68,7 +74,7 @@ one x = 1
 abbrev pub present : {A : Type 0} → List (Option A) → ℕ
 present xs = total one xs
 
--- the sum after one element is removed
+-- the sum is that without an element and the element's number
 pub total_out : {A : Type 0} (f : A → ℕ) (xs : List (Option A)) (n : ℕ) (x : A)
     → get_or xs n None ≡ Some x → total f xs ≡ f x + total f (set xs n None)
 unfolding total
@@ -76,7 +82,7 @@ total_out f [] n x there = absurd (none-some x there)
 total_out f (o ∷ os) zero x there = let here : weight f o ≡ f x = ap (weight f) there in omega arith
 total_out f (o ∷ os) (suc n) x there = let rest = total_out f os n x there in omega arith
 
--- the sum after one element is added
+-- after an element is put at a free index the sum is greater by its number
 pub total_in : {A : Type 0} (f : A → ℕ) (xs : List (Option A)) (n : ℕ) (x : A)
     → n < length xs → get_or xs n None ≡ None
     → total f (set xs n (Some x)) ≡ total f xs + f x
@@ -95,8 +101,11 @@ total_nothing f (o ∷ os) h =
 
 -- a second list with exactly the elements of the first, at other indices
 pub record IsShuffled {A : Type 0} (move : ℕ → ℕ) (xs ys : List (Option A)) : Type 0 where
+  -- each element of the first list is in the second one at its new index
   pub same : (i : ℕ) → IsSome (get_or xs i None) → get_or ys (move i) None ≡ get_or xs i None
+  -- two elements of the first list with the same new index have the same index
   pub apart : (i j : ℕ) → IsSome (get_or xs i None) → IsSome (get_or xs j None) → move i ≡ move j → i ≡ j
+  -- each element of the second list has the new index of an element of the first
   pub only : (k : ℕ) → IsSome (get_or ys k None) → (i : ℕ) × IsSome (get_or xs i None) × (move i ≡ k)
 
 set_none : {A : Type 0} (ys : List (Option A)) (n k : ℕ)
@@ -140,7 +149,7 @@ rest_none {A} move xs ys h = record {
     by k (zero, some, at) = absurd (true≢false (sym some))
     by k (suc i, some, at) = (i, some, at)
 
--- a sum does not depend on the indices
+-- two lists with the same elements, at other indices, have the same sum
 pub total_shuffled : {A : Type 0} (f : A → ℕ) (move : ℕ → ℕ) (xs ys : List (Option A))
     → IsShuffled move xs ys → total f ys ≡ total f xs
 unfolding total

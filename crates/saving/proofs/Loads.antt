@@ -46,6 +46,7 @@ abbrev bind : Option ℕ → ℕ → List (ℕ × ℕ) → List (ℕ × ℕ)
 bind None fd rest = rest
 bind (Some handle) fd rest = (fd, handle) ∷ rest
 
+-- if each map of a program is open at its descriptor, the program's descriptors name these maps
 pub same_handles : (f : Opened) (ms : List (ℕ × ℕ)) → AreOpen f ms → handles_from (table f) (keys_of ms) ≡ ms
 unfolding handles_from
 same_handles f [] h = refl
@@ -134,12 +135,14 @@ module _ (x s : TenantState) (f : Opened) (ms : List (ℕ × ℕ)) (are_open : A
       (seen_at fd (record { low = low; high = omega arith }))
       (seen_from (fd + 1) n (omega arith) (omega arith))
 
+  -- the targets that the verifier reads at the program's descriptors are the shapes of its maps
   pub seen :
       entries_of (keys_of ms) (targets_from x first_descriptor (table f)) ≡ shapes_from s ms first_descriptor most
   seen = seen_from first_descriptor most (omega arith) (omega arith)
 
 -- ---- the load
 
+-- a map of a program is named if each of the program's maps is open at its descriptor
 pub open_named : (f : Opened) (ms : List (ℕ × ℕ)) (handle : ℕ)
     → AreOpen f ms → list_any (λ m. m.1 == handle) ms ≡ true
     → is_named (table f) handle ≡ true
@@ -175,6 +178,7 @@ module _ (s : TenantState) (f : Opened) (l : LoadedProgram) (whole : IsWholeProg
   names_old : (handle : ℕ) → names handle (object.Program l) ≡ true → is_named (table f) handle ≡ true
   names_old handle e = open_named f l.maps handle are_open e
 
+  -- the load of the program succeeds, and opens it at the only free descriptor
   pub load_answer : SameEntriesSameVerdict
       → (fd : ℕ) → IsOnlyFree f fd
       → Answers false (state_of s f) (load_of l.insns) (opens fd (state_of s (set_at f fd (Some (object.Program l)))))

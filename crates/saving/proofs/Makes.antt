@@ -219,6 +219,7 @@ by_keys : (zeros : List ℕ) (es : List Pair) → map (pair_with zeros) (keys_of
 by_keys zeros [] = refl
 by_keys zeros (e ∷ es) = ap (λ (xs : List Pair). (e.0, zeros) ∷ xs) (by_keys zeros es)
 
+-- a new map of the shape of a whole map becomes this map if its entries are put in order
 pub put_all : (t : Map) → IsWholeMap t → ArePut (new_map t.shape) t.entries t
 put_all t whole = by t.shape.kind refl
   where
@@ -367,8 +368,11 @@ room_of x handle size free fits =
 
 -- the commands lead to a state that is alike to this one
 pub record LeadsTo (t : TenantState) (commands : List Command) (x : TenantState) : Type 0 where
+  -- the state after the commands
   pub end : TenantState
+  -- each command succeeds, and together they lead to this state
   pub leads : Leads t commands end
+  -- the state after the commands is the given one with its handles renamed
   pub after : Follows x end
 
 module _ (held : MapsAreHeld) (bisimulation : AlikeIsBisimulation) where
@@ -448,6 +452,7 @@ module _ (held : MapsAreHeld) (bisimulation : AlikeIsBisimulation) where
             },
           )
 
+  -- the commands that create a map and put its entries lead to a state with this map at the free descriptor
   pub map_leads : (s : TenantState) (f : Opened) (t : TenantState) (fd handle : ℕ) (m : Map)
       → Follows (state_of s f) t → IsOnlyFree f fd
       → live s handle ≡ Some m → IsWholeMap m

@@ -21,6 +21,7 @@ use Rattle.saving.proofs.Lists.{position_map}
 
 -- ---- the table of descriptors
 
+-- after a renaming of handles a descriptor names the object of before with its handles renamed
 pub named_moved : (move : ℕ → ℕ) (objects : List (Option OpenObject)) (fd : ℕ)
     → named (moved_objects move objects) fd ≡ option_map (moved_object move) (named objects fd)
 named_moved move objects fd = by (nat_lt fd first_descriptor)
@@ -38,15 +39,18 @@ named_moved move objects fd = by (nat_lt fd first_descriptor)
         ap flattened (slice_get-map (option_map (moved_object move)) objects (fd - first_descriptor))
         ∙ flat (slice_get objects (fd - first_descriptor))
 
+-- a renaming of handles does not change the lowest free descriptor
 pub lowest_moved : (move : ℕ → ℕ) (objects : List (Option OpenObject))
     → lowest (moved_objects move objects) ≡ lowest objects
 lowest_moved move objects =
     ap (option_map (λ index. first_descriptor + index)) (position_map (moved_object move) objects)
 
+-- to open an object and then rename handles is to rename them and then open the renamed object
 pub open_moved : (move : ℕ → ℕ) (objects : List (Option OpenObject)) (fd : ℕ) (o : OpenObject)
     → moved_objects move (with_open objects fd o) ≡ with_open (moved_objects move objects) fd (moved_object move o)
 open_moved move objects fd o = map-set (option_map (moved_object move)) objects (fd - first_descriptor) (Some o)
 
+-- to close a descriptor and then rename handles is to rename them and then close it
 pub closed_moved : (move : ℕ → ℕ) (objects : List (Option OpenObject)) (fd : ℕ)
     → moved_objects move (with_closed objects fd) ≡ with_closed (moved_objects move objects) fd
 closed_moved move objects fd = by (nat_lt fd first_descriptor)
@@ -59,14 +63,16 @@ closed_moved move objects fd = by (nat_lt fd first_descriptor)
 
 -- ---- names of handles
 
--- one of two tests holds
+-- if one of two tests holds, the first one does or the second one does
 pub or_parts : (a b : Bool) → (a || b) ≡ true → (a ≡ true) ⊎ (b ≡ true)
 or_parts true b e = inl refl
 or_parts false b e = inr e
 
+-- one of two tests holds if the first one does
 pub or_left : (a b : Bool) → a ≡ true → (a || b) ≡ true
 or_left a b e = ap (λ (x : Bool). x || b) e ∙ true-or b
 
+-- one of two tests holds if the second one does
 pub or_right : (a b : Bool) → b ≡ true → (a || b) ≡ true
 or_right a b e = ap (λ (x : Bool). a || x) e ∙ or-true a
 
@@ -74,10 +80,12 @@ or_right a b e = ap (λ (x : Bool). a || x) e ∙ or-true a
 abbrev pub first_names : Option OpenObject → ℕ → Bool
 first_names o handle = option_map_or (names handle) o false
 
+-- a handle that the first object names is named
 pub names_here : (o : Option OpenObject) (os : List (Option OpenObject)) (handle : ℕ)
     → first_names o handle ≡ true → is_named (o ∷ os) handle ≡ true
 names_here o os handle e = or_left (first_names o handle) (is_named os handle) e
 
+-- a handle that an object after the first one names is named
 pub names_later : (o : Option OpenObject) (os : List (Option OpenObject)) (handle : ℕ)
     → is_named os handle ≡ true → is_named (o ∷ os) handle ≡ true
 names_later o os handle e = or_right (first_names o handle) (is_named os handle) e
@@ -91,6 +99,7 @@ named_by (x ∷ xs) zero o handle there e =
     names_here x xs handle (ap (λ (y : Option OpenObject). first_names y handle) there ∙ e)
 named_by (x ∷ xs) (suc n) o handle there e = names_later x xs handle (named_by xs n o handle there e)
 
+-- the object at an index is that of the entry there, or `None` if the index is outside the list
 pub flattened-get : (xs : List (Option OpenObject)) (n : ℕ) → flattened (slice_get xs n) ≡ get_or xs n None
 flattened-get [] n = refl
 flattened-get (x ∷ xs) zero = refl
@@ -113,7 +122,7 @@ named_handle_is_named objects fd handle e =
     named_by objects (fd - first_descriptor) (object.Map handle) handle
     (stands_at objects fd (object.Map handle) e) (eq-eqb handle handle refl)
 
--- the handles of a program's maps
+-- the handle that a descriptor leads to is that of one of the program's maps
 pub lookup_names : (ms : List (ℕ × ℕ)) (fd handle : ℕ)
     → lookup (λ m. m == fd) ms ≡ Some handle → list_any (λ m. m.1 == handle) ms ≡ true
 lookup_names [] fd handle e = absurd (none-some handle e)
@@ -138,6 +147,7 @@ same_maps f g (m ∷ ms) h =
     (ap (λ (p : ℕ). (m.0, p)) (h m.1 (or_left (m.1 == m.1) (list_any (λ k. k.1 == m.1) ms) (eq-eqb m.1 m.1 refl))))
     (same_maps f g ms (λ handle e. h handle (or_right (m.1 == handle) (list_any (λ k. k.1 == handle) ms) e)))
 
+-- two renamings that agree on the handles that an object names rename it alike
 pub same_object : (f g : ℕ → ℕ) (o : OpenObject)
     → ((handle : ℕ) → names handle o ≡ true → f handle ≡ g handle)
     → moved_object f o ≡ moved_object g o
@@ -151,7 +161,7 @@ same_first : (f g : ℕ → ℕ) (o : Option OpenObject)
 same_first f g None h = refl
 same_first f g (Some o) h = ap (λ (x : OpenObject). Some x) (same_object f g o h)
 
--- two renamings that agree on the handles that are named
+-- two renamings that agree on the handles that are named rename all objects alike
 pub same_objects : (f g : ℕ → ℕ) (objects : List (Option OpenObject))
     → ((handle : ℕ) → is_named objects handle ≡ true → f handle ≡ g handle)
     → moved_objects f objects ≡ moved_objects g objects
@@ -196,6 +206,7 @@ module _ (move : ℕ → ℕ) (handle : ℕ) where
   first_moved None h = refl
   first_moved (Some o) h = names_moved o h
 
+  -- if no other named handle has the same new handle, a handle is named if and only if its new one is
   pub is_named_moved : (objects : List (Option OpenObject))
       → ((p : ℕ) → is_named objects p ≡ true → Alone p)
       → is_named (moved_objects move objects) (move handle) ≡ is_named objects handle
@@ -211,6 +222,7 @@ module _ (move : ℕ → ℕ) (handle : ℕ) where
 abbrev pub AreSame : (ℕ → ℕ) → TenantState → TenantState → List (Option OpenObject) → Type 0
 AreSame move s t objects = (handle : ℕ) → is_named objects handle ≡ true → live t (move handle) ≡ live s handle
 
+-- if each named map is the same at its new handle, the targets that a load reads are the same
 pub targets_moved : (move : ℕ → ℕ) (s t : TenantState) (fd : ℕ) (objects : List (Option OpenObject))
     → AreSame move s t objects
     → targets_from t fd (moved_objects move objects) ≡ targets_from s fd objects
@@ -234,6 +246,7 @@ abbrev bind : Option ℕ → ℕ → List (ℕ × ℕ) → List (ℕ × ℕ)
 bind None fd rest = rest
 bind (Some handle) fd rest = (fd, handle) ∷ rest
 
+-- after a renaming descriptors name the maps of before with their handles renamed
 pub handles_moved : (move : ℕ → ℕ) (objects : List (Option OpenObject)) (fds : List ℕ)
     → handles_from (moved_objects move objects) fds ≡ moved_maps move (handles_from objects fds)
 unfolding handles_from
@@ -256,7 +269,7 @@ handles_moved move objects (fd ∷ fds) =
     by None rest = rest
     by (Some handle) rest = ap (λ (ms : List (ℕ × ℕ)). (fd, move handle) ∷ ms) rest
 
--- the handles of the entries are named
+-- the handle of each map that descriptors name is named
 pub handles_named : (objects : List (Option OpenObject)) (fds : List ℕ) (handle : ℕ)
     → list_any (λ m. m.1 == handle) (handles_from objects fds) ≡ true
     → is_named objects handle ≡ true

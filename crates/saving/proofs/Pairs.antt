@@ -15,10 +15,14 @@ use Rattle.saving.proofs.Lists.{there_is, not_none, set_by_index, there_within, 
 use Rattle.saving.proofs.Moved.{open_moved, same_objects}
 
 pub record ArePair (move : ℕ → ℕ) (s t : TenantState) : Type 0 where
+  -- the first state holds its maps
   pub one : HoldsItsMaps s
+  -- the second state holds its maps
   pub two : HoldsItsMaps t
+  -- the second state is the first with its handles renamed
   pub by : IsMovedBy move s t
 
+-- a map that the first state names is in the second one under its new handle
 pub same_named : {move : ℕ → ℕ} {s t : TenantState}
     → ArePair move s t
     → (handle : ℕ) → is_named s.objects handle ≡ true
@@ -27,13 +31,14 @@ same_named h handle e = h.by.same handle (h.one.live_if_named handle e)
 
 -- ---- replies that change nothing, or only the flag
 
+-- replies with one status and one payload that change no state are alike
 pub unchanged : {move : ℕ → ℕ} {s t : TenantState}
     → ArePair move s t → (status : ℤ) (payload : List ℕ)
     → IsAlikeAnswer (record { status = status; payload = payload; after = s })
     (record { status = status; payload = payload; after = t })
 unchanged {move} h status payload = record { status = refl; payload = refl; after = (move, h.by) }
 
--- the relation does not depend on the flag
+-- the second state is the first with its handles renamed, whatever the two flags are
 pub any_flag : {move : ℕ → ℕ} {s t : TenantState}
     → IsMovedBy move s t
     → (a b : Bool) → IsMovedBy move (record s { refused = a }) (record t { refused = b })
@@ -41,6 +46,7 @@ any_flag h a b = record { objects = h.objects; same = h.same; apart = h.apart; o
 
 -- ---- changed contents of maps
 
+-- if the same handles have maps and the named maps change alike, the handles are renamed as before
 pub changed : {move : ℕ → ℕ} {s t : TenantState}
     → ArePair move s t → (ms ns : List (Option Map)) (a b : Bool)
     → ((p : ℕ) → is_some (get_or ms p None) ≡ is_some (live s p))
@@ -63,7 +69,7 @@ SetAt xs n m i =
     ((i ≡ n) × (get_or (set xs n (Some m)) i None ≡ Some m))
     ⊎ ((i ≢ n) × (get_or (set xs n (Some m)) i None ≡ get_or xs i None))
 
--- changed contents of one map
+-- if a named map is set in one state, and so at its new handle in the other, the handles are renamed as before
 pub changed_one : {move : ℕ → ℕ} {s t : TenantState}
     → ArePair move s t
     → (handle : ℕ) (m : Map) → is_named s.objects handle ≡ true
@@ -122,10 +128,12 @@ with_new_map s fd handle m = record s {
 
 -- a handle without a map
 pub record IsFree (s : TenantState) (handle : ℕ) : Type 0 where
+  -- the handle is one of the list of maps
   pub within : handle < length s.maps
+  -- no map is live under the handle
   pub none : live s handle ≡ None
 
--- the new map may have any free handle of each state
+-- if each state gets the same new map, at any free handle, the second is still the first with handles renamed
 pub created_pair : {move : ℕ → ℕ} {s t : TenantState}
     → ArePair move s t → (fd p q : ℕ) (m : Map) → IsFree s p
     → IsFree t q
@@ -233,6 +241,7 @@ is_absent : (o : Option Map) → is_none o ≡ true → o ≡ None
 is_absent None e = refl
 is_absent (Some m) e = absurd (true≢false (sym e))
 
+-- the lowest free handle is in the list of maps, and has no map
 pub free_at : (s : TenantState) (handle : ℕ) → free_handle s ≡ Some handle → IsFree s handle
 free_at s handle e =
     let (within, free, lower) = position-Some is_none s.maps handle None e in
@@ -243,6 +252,7 @@ SameRoom s t size =
     ((room_for s size ≡ None) × (room_for t size ≡ None))
     ⊎ ((p : ℕ) × (q : ℕ) × (room_for s size ≡ Some p) × (room_for t size ≡ Some q) × IsFree s p × IsFree t q)
 
+-- both states have room for an area of a size, each at a free handle, or neither has
 pub same_room_for : {move : ℕ → ℕ} {s t : TenantState} → ArePair move s t → (size : ℕ) → SameRoom s t size
 same_room_for {move} {s} {t} h size = by (nat_lt most_bytes (maps_area s.maps + size)) refl
   where

@@ -19,7 +19,7 @@ use Rattle.saving.proofs.Pieces.{get_none, get_front, get_after, piece_there, no
 pub after_one : (index before : ℕ) → (1 ≤ index) × (before ≡ index - 1) → index ≡ suc before
 after_one index before (some, less) = omega (arith, some, less)
 
--- the births that are left begin with this one
+-- the births from an index on are the birth there, then those from the next index on
 pub first_left : (births : List Birth) (i : ℕ) (b : Birth)
     → i < length births
     → b ≡ get_or births i b
@@ -30,6 +30,7 @@ first_left births i b within is =
 module _ (s : TenantState) where
   -- ---- the parts of one birth
 
+  -- the number of a birth's parts is one more than that of its keys divided by KEYS_OF_PART, rounded up
   pub part_count : (b : Birth) (keys : ℕ)
       → keys ≡ length (key_commands s b)
       → 1 + (keys / KEYS_OF_PART + min 1 (keys % KEYS_OF_PART)) ≡ length (birth_parts s b)
@@ -39,6 +40,7 @@ module _ (s : TenantState) where
       ∙ sym (piece_count KEYS_OF_PART (omega arith) (key_commands s b)) in
       omega (arith, same)
 
+  -- a part after a birth's first one puts the next KEYS_OF_PART keys, or as many as are left, if some are
   pub key_part : (b : Birth) (index piece first keys : ℕ)
       → index ≡ suc piece
       → first ≡ min (piece * KEYS_OF_PART) (2 ^ 64 - 1)
@@ -52,6 +54,7 @@ module _ (s : TenantState) where
       ∙ piece_there KEYS_OF_PART (omega arith) (key_commands s b) piece (omega (arith, same, count, within))
       ∙ ap (λ (n : ℕ). Some (take KEYS_OF_PART (drop n (key_commands s b)))) same
 
+  -- a birth has no part at an index at which no key is left to put
   pub no_key_part : (b : Birth) (index piece first keys : ℕ)
       → index ≡ suc piece
       → first ≡ min (piece * KEYS_OF_PART) (2 ^ 64 - 1)
@@ -63,6 +66,7 @@ module _ (s : TenantState) where
       ap (slice_get (birth_parts s b)) next
       ∙ no_piece KEYS_OF_PART (omega arith) (key_commands s b) piece (omega (arith, is, count, small, past))
 
+  -- the birth of a program has no part after its first one
   pub no_program_part : (b : Birth) (index piece fd : ℕ)
       → b ≡ OfProgram fd
       → index ≡ suc piece
@@ -79,7 +83,7 @@ module _ (s : TenantState) where
   later_more b births =
       append_assoc (birth_parts s b) (flat_map (birth_parts s) births) (closings s.objects first_descriptor most ∷ [])
 
-  -- the part is one of the first birth
+  -- a part of the first birth that is left is, at the same index, one of the parts that are left
   pub part_found : (births older : List Birth) (b : Birth) (left : ℕ) (commands : List Command)
       → births ≡ b ∷ older
       → slice_get (birth_parts s b) left ≡ Some commands
@@ -91,7 +95,7 @@ module _ (s : TenantState) where
       (slice_get_within (birth_parts s b) left commands found)
       ∙ found
 
-  -- the part comes after those of the first birth
+  -- an index after the parts of the first birth is one among those of the others, less the number of its parts
   pub birth_passed : (births older : List Birth) (b : Birth) (left count : ℕ)
       → births ≡ b ∷ older
       → count ≡ length (birth_parts s b)
@@ -103,7 +107,7 @@ module _ (s : TenantState) where
       ∙ get_after (birth_parts s b) (later_parts s older) left (get_none (birth_parts s b) left none)
       ∙ ap (λ (n : ℕ). slice_get (later_parts s older) (left - n)) (sym is)
 
-  -- no birth is left
+  -- if no birth is left, the next part closes the descriptors that are not open
   pub last_part : (births : List Birth) (left : ℕ)
       → births ≡ []
       → left ≡ 0
@@ -112,6 +116,7 @@ module _ (s : TenantState) where
       ap (λ (bs : List Birth). slice_get (later_parts s bs) left) none
       ∙ ap (slice_get (later_parts s [])) first
 
+  -- if no birth is left, no part follows the one that closes descriptors
   pub no_part : (births : List Birth) (left : ℕ)
       → births ≡ []
       → 1 ≤ left

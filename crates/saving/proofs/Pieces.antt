@@ -10,16 +10,19 @@ use Rattle.saving.specs.Pieces.{first_pieces, pieces}
 
 -- ---- an element by its index
 
+-- an index without an element is at least the length of the list
 pub get_none : {A : Type 0} (xs : List A) (i : ℕ) → slice_get xs i ≡ None → length xs ≤ i
 get_none [] i e = omega arith
 get_none (x ∷ xs) zero e = absurd (none-some x (sym e))
 get_none (x ∷ xs) (suc i) e = let le = get_none xs i e in omega (arith, le)
 
+-- an index in the first of two joined lists has the element of this list
 pub get_front : {A : Type 0} (xs ys : List A) (i : ℕ) → i < length xs → slice_get (xs ++ ys) i ≡ slice_get xs i
 get_front [] ys i lt = absurd (omega (arith, lt))
 get_front (x ∷ xs) ys zero lt = refl
 get_front (x ∷ xs) ys (suc i) lt = get_front xs ys i (omega (arith, lt))
 
+-- an index that is not in the first of two joined lists has an element of the second
 pub get_after : {A : Type 0} (xs ys : List A) (i : ℕ)
     → length xs ≤ i → slice_get (xs ++ ys) i ≡ slice_get ys (i - length xs)
 get_after [] ys i le = let same : i ≡ i - 0 = omega arith in ap (slice_get ys) same
@@ -76,11 +79,12 @@ module _ {A : Type 0} (size : ℕ) (some : 0 < size) where
       let left = length-drop size (x ∷ xs) in
       first_past most (drop size (x ∷ xs)) i (fewer most x xs le) (omega (arith, past, more, left))
 
-  -- a piece by its index
+  -- a piece that begins within the list has the next elements from its start on, at most as many as its size
   pub piece_there : (xs : List A) (i : ℕ)
       → i * size < length xs → slice_get (pieces size xs) i ≡ Some (take size (drop (i * size) xs))
   piece_there xs i lt = first_there (length xs) xs i (omega arith) lt
 
+  -- a list that is no longer than the pieces before an index has no piece at this index
   pub no_piece : (xs : List A) (i : ℕ) → length xs ≤ i * size → slice_get (pieces size xs) i ≡ None
   no_piece xs i past = first_past (length xs) xs i (omega arith) past
 
@@ -98,6 +102,7 @@ module _ {A : Type 0} (size : ℕ) (some : 0 < size) where
       (piece_there xs k (omega (arith, less, more))) in
       omega (arith, few, many)
 
+  -- the number of pieces is the length of the list divided by the size of a piece, rounded up
   pub piece_count : (xs : List A) → length (pieces size xs) ≡ length xs / size + min 1 (length xs % size)
   piece_count xs =
       let bounds = div_ceil_times (length xs) size some in

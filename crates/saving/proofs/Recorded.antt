@@ -53,6 +53,7 @@ recorded_by k births p held are = λ q. (held_in_each k p q held, births_in_each
 -- ---- a new tenant, and each command
 
 module _ (maps : MapsAreHeld) (law : BirthsAreKept) where
+  -- the invariant holds for a new tenant without births
   pub recorded_new : (k : KeptTenant) (births : List Birth)
       → ((part : List ℕ) → state_in part k ≡ new_tenant)
       → births ≡ []
@@ -66,7 +67,7 @@ module _ (maps : MapsAreHeld) (law : BirthsAreKept) where
   module _ (k : KeptTenant) (births : List Birth)
       (is : IsRecorded (record { kept = k; births = births }))
       (p : List ℕ) where
-    -- after a command there are at most as many births as there is room for
+    -- after a command the births are at most as many as descriptors and handles together
     pub few_after : (refused : Bool) (command : Command) (a : Answer)
         → Answers refused (state_in p k) command a
         → length (births_after command a births) ≤ most + most_maps
@@ -76,6 +77,7 @@ module _ (maps : MapsAreHeld) (law : BirthsAreKept) where
         (maps.kept refused (state_in p k) command a held answers)
         (law.kept refused (state_in p k) command a births held are answers)
 
+    -- if the invariant holds before a command, it holds after it, with the births after it
     pub recorded_after : {command : Command} {h : Head} {reply : List ℕ} (l : KeptTenant)
         (later : List Birth) (q : List ℕ)
         → AnswersCommand command h reply (state_in p k) (state_in q l) births later
@@ -109,7 +111,7 @@ module _ (maps : MapsAreHeld) (law : BirthsAreKept) where
       runs_keep births fd between t inputs rs (maps.kept false s command a held told)
       (law.kept false s command a births held are told) rest
 
-  -- packets are run, or nothing is changed
+  -- after a batch the invariant still holds, whether the packets were run or the batch was rejected
   pub recorded_runs : {U E : Type 0} (r : Result U E) (k l : KeptTenant) (births : List Birth)
       (p q : List ℕ) (fd : ℕ) (inputs : List BatchInput) (room written : List ℕ)
       → IsRecorded (record { kept = k; births = births })
@@ -123,7 +125,7 @@ module _ (maps : MapsAreHeld) (law : BirthsAreKept) where
   recorded_runs (Err e) k l births p q fd inputs room written is runs same =
       subst (λ (x : KeptTenant). IsRecorded (record { kept = x; births = births })) (sym same) is
 
--- an implication in the error of a result
+-- if one statement implies another, it does so in the error of a result
 pub with_err : {U E : Type 0} {P Q : Type 0} (r : Result U E) → (P → Q) → OnErr r P → OnErr r Q
 with_err (Ok x) f p = tt
 with_err (Err e) f p = f p
@@ -143,6 +145,7 @@ no_birth Invalid s births = refl
 no_birth TooManyOpen s births = refl
 no_birth NoSpace s births = refl
 
+-- the births that the code records by a reply are those by the status that it represents
 pub births_opened : (r : Result Reply Errno) (s : TenantState) (births : List Birth)
     → with_told r s.objects births ≡ with_opened (shown_answer r s).status (shown_answer r s).after births
 births_opened (Ok reply.Done) s births = refl
@@ -155,6 +158,7 @@ births_opened (Err errno) s births = no_birth errno s births
 
 -- ---- births with the latest first
 
+-- to filter a list and then reverse it is to reverse it and then filter it
 pub filter-reverse : {A : Type 0} (test : A → Bool) (xs : List A) → reverse (filter test xs) ≡ filter test (reverse xs)
 filter-reverse test [] = refl
 filter-reverse {A} test (x ∷ xs) =

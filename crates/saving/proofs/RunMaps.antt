@@ -37,13 +37,18 @@ use Rattle.tagged_model.specs.Step.{Step, goes, ends, faults, or_fault, assigned
 
 -- the table is whole, each key has an object, and each object has the size of a value
 pub record IsWholeRunMap (t : RunMap) : Type 0 where
+  -- the table of keys is whole
   pub table : IsWholeTable t.table
+  -- the object of each key is one of the map's objects
   pub owns : KeysHaveObjects t.count t.table.entries
+  -- each of the map's objects has the size of a value
   pub sized : (number : ℕ) → number < t.count → length (t.values number) ≡ t.table.shape.value_size
 
 -- the map has the same shape later, and is whole if it was whole before
 pub record IsLater (t u : RunMap) : Type 0 where
+  -- the shape is not changed
   pub shape : u.table.shape ≡ t.table.shape
+  -- a map that was whole is whole later
   pub whole : IsWholeRunMap t → IsWholeRunMap u
 
 -- both are absent, or the second is the first at a later time
@@ -329,7 +334,9 @@ run_same code (suc n) s m = ending_same s (step code s) (run code n) (step_same 
 
 -- the map after a run, from the map before it
 pub record IsLeftOf (given left : Table (List ℕ)) : Type 0 where
+  -- the run does not change the shape
   pub shape : left.shape ≡ given.shape
+  -- a map that was whole before the run is whole after it
   pub whole : IsWholeMap given → IsWholeMap left
 
 abbrev pub LeavesMap : Option (Table (List ℕ)) → Option (Table (List ℕ)) → Type 0
@@ -388,6 +395,7 @@ ends_whole t whole = record {
   ended = refl;
 }
 
+-- a run leaves exactly the maps that it was given, each with its shape, and whole if it was whole
 pub leaves_maps : (code : List Insn) (maps : MapsByDescriptor) (words packet : List ℕ) (m : ℕ)
     → LeavesMap (maps m) (left_of code maps words packet m)
 leaves_maps code maps words packet m =

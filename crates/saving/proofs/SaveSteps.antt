@@ -18,7 +18,7 @@ use Rattle.saving.proofs.Saves.{then_more, one_less, nothing_left, first_of_rest
 frames_append : (n : ℕ) (cs ds : List Command) → frames_of n (cs ++ ds) ≡ frames_of n cs ++ frames_of n ds
 frames_append n cs ds = flat_map-append (λ (c : Command). framed (frame_of n c)) cs ds
 
--- one command is written, the first of those that are left
+-- after the frame of the first command that is left is written, all frames are those so far and those still left
 pub one_command : (before : List ℕ) {all after : List ℕ} (n m : ℕ) (c : Command) (left rest : List Command)
     → left ≡ c ∷ rest → m ≡ n
     → before ++ frames_of n left ≡ all → after ≡ before ++ framed (frame_of n c)
@@ -29,7 +29,7 @@ one_command before {all} {after} n m c left rest is same was written =
     (ap (λ (cs : List Command). before ++ frames_of n cs) (sym is) ∙ was)
     written
 
--- several commands are written
+-- after the frames of the next commands are written, all frames are those so far and those still left
 pub some_commands : (before : List ℕ) {all after : List ℕ} (n m : ℕ) (cs left rest : List Command)
     → left ≡ cs ++ rest → m ≡ n
     → before ++ frames_of n left ≡ all → after ≡ before ++ frames_of n cs
@@ -42,14 +42,14 @@ some_commands before {all} {after} n m cs left rest is same was written =
     ∙ was)
     written
 
--- none is left
+-- if no command is left, the frames so far are all
 pub no_commands : {all now : List ℕ} (n : ℕ) (left : List Command)
     → left ≡ [] → now ++ frames_of n left ≡ all → now ≡ all
 no_commands {all} {now} n left none was = nothing_left (frames_of n left) was (ap (frames_of n) none)
 
 -- ---- the keys of a map
 
--- one key is put, the first of those that are left, of which at most n are to be put
+-- the commands that put the next keys are that of the next entry, and those that put one key less after it
 pub next_put : (fd : ℕ) (es : List NumberedEntry) (element : Option ℕ) (e : NumberedEntry) (n m : ℕ)
     → ((p : ℕ) → occurrences p (values_of es) ≤ 1)
     → n ≡ suc m
@@ -58,7 +58,7 @@ pub next_put : (fd : ℕ) (es : List NumberedEntry) (element : Option ℕ) (e : 
 next_put fd es element e n m once more is =
     ap₂ (λ (k : ℕ) (xs : List NumberedEntry). puts fd (take k xs)) more (rest_of_next element e es once (sym is))
 
--- no key is left
+-- if no entry is left, no key is left to put
 pub no_key : (fd : ℕ) (es : List NumberedEntry) (element : Option ℕ) (n : ℕ)
     → None ≡ next_entry element es
     → puts fd (take n (rest_after element es)) ≡ []
@@ -67,11 +67,11 @@ no_key fd es element n is =
     (none_first (rest_after element es) (sym (first_of_rest element es) ∙ sym is))
     ∙ ap (puts fd) (take-nil n)
 
--- no more keys are to be put
+-- to put none of the entries takes no command
 pub no_put : (fd : ℕ) (es : List NumberedEntry) (n : ℕ) → n ≡ 0 → puts fd (take n es) ≡ []
 no_put fd es n none = ap (λ (k : ℕ). puts fd (take k es)) none
 
--- one key is skipped
+-- if i entries are skipped up to an element, i + 1 are skipped up to the next entry
 pub skip_one : (es : List NumberedEntry) (element : Option ℕ) (e : NumberedEntry) (i : ℕ)
     → ((p : ℕ) → occurrences p (values_of es) ≤ 1)
     → Some e ≡ next_entry element es
@@ -80,7 +80,7 @@ pub skip_one : (es : List NumberedEntry) (element : Option ℕ) (e : NumberedEnt
 skip_one es element e i once is so_far =
     ap (drop 1) (sym (rest_of_next element e es once (sym is)) ∙ so_far) ∙ drop-drop 1 i es
 
--- there are fewer keys than are to be skipped
+-- if no entry is left after those that are skipped so far, none is left once more are to be skipped
 pub all_skipped : (es : List NumberedEntry) (element : Option ℕ) (i count : ℕ)
     → None ≡ next_entry element es → i ≤ count
     → rest_after element es ≡ drop i es
@@ -101,11 +101,12 @@ same_puts : (fd : ℕ) (v : ℕ → List ℕ) (es : List (List ℕ × ℕ))
 same_puts fd v [] = refl
 same_puts fd v (e ∷ es) = ap (λ (cs : List Command). put_of fd (e.0, v e.1) ∷ cs) (same_puts fd v es)
 
+-- the commands that put the entries of a live map are those for its numbered entries
 pub map_puts : (part : List ℕ) (t : LiveMaps) (k fd : ℕ)
     → map (put_of fd) (map_in part t k).entries ≡ puts fd (numbered_entries part t k)
 map_puts part t k fd = same_puts fd (value_in part t k) (keys_at t k).entries
 
--- the commands that put the keys of a map from an index on, at most `count` of them
+-- the commands that put at most `count` keys from an index on are those for the entries after the skipped ones
 pub some_puts : (part : List ℕ) (t : LiveMaps) (k fd first count : ℕ) (element : Option ℕ)
     → rest_after element (numbered_entries part t k) ≡ drop first (numbered_entries part t k)
     → take count (drop first (map (put_of fd) (map_in part t k).entries))
@@ -118,7 +119,7 @@ some_puts part t k fd first count element skipped =
     ∙ take-map put count (drop first es)
     ∙ ap (λ (xs : List NumberedEntry). puts fd (take count xs)) (sym skipped)
 
--- the frames of a result, if it is one frame
+-- if the only command's frame is written, or there is an error, the frames of all commands are, or it is an error
 pub ok_one : {U E : Type 0} (r : Result U E) (old new : List ℕ) (n : ℕ) (c : Command) (all : List Command)
     → all ≡ c ∷ []
     → OnOk r (new ≡ old ++ framed (frame_of n c))
@@ -129,7 +130,7 @@ ok_one (Ok x) old new n c all is one =
     ∙ ap (λ (cs : List Command). old ++ frames_of n cs) (sym is)
 ok_one (Err e) old new n c all is one = tt
 
--- the frames of a result, if a frame was written before
+-- if the first frame and then the others are written, or there is an error, all are, or it is an error
 pub ok_more : {U E : Type 0} (r : Result U E) (old : List ℕ) {mid : List ℕ} (new : List ℕ) (n m : ℕ)
     (c : Command) (rest all : List Command)
     → all ≡ c ∷ rest → m ≡ n

@@ -70,44 +70,49 @@ parts_are_whole s births =
 
 -- ---- frames
 
--- the frames after one more frame
+-- bytes that are written after a frame follow the old ones and the frame
 pub then_more : {A : Type 0} (old : List A) {mid new : List A} (frame rest : List A)
     → mid ≡ old ++ frame → new ≡ mid ++ rest → new ≡ old ++ (frame ++ rest)
 then_more {A} old frame rest one more = more ∙ ap (λ (xs : List A). xs ++ rest) one ∙ append_assoc old frame rest
 
--- a frame that is written is no longer left
+-- once the next frame is written, all is what is written so far and what is left after this frame
 pub one_less : {A : Type 0} (before : List A) {all after : List A} (frame rest : List A)
     → before ++ (frame ++ rest) ≡ all → after ≡ before ++ frame
     → after ++ rest ≡ all
 one_less {A} before frame rest left written =
     ap (λ (xs : List A). xs ++ rest) written ∙ append_assoc before frame rest ∙ left
 
+-- if nothing is left, what is written so far is all
 pub nothing_left : {A : Type 0} {all now : List A} (rest : List A) → now ++ rest ≡ all → rest ≡ [] → now ≡ all
 nothing_left {A} {all} {now} rest left none = sym (append-nil now) ∙ ap (λ (xs : List A). now ++ xs) (sym none) ∙ left
 
 -- ---- the fillers
 
--- the slots of the filler
+-- the slots of the filler are these sixteen bytes
 pub filler_bytes : program_bytes filler ≡ 183 ∷ 0 ∷ 0 ∷ 0 ∷ 0 ∷ 0 ∷ 0 ∷ 0 ∷ 149 ∷ 0 ∷ 0 ∷ 0 ∷ 0 ∷ 0 ∷ 0 ∷ 0 ∷ []
 unfolding spelling
 filler_bytes = refl
 
+-- if fillers are left to load, the next command is a load of the filler
 pub filled_next : (n i : ℕ) → i < n → filled (n - i) ≡ load_of filler ∷ filled (n - (i + 1))
 unfolding filled
 filled_next n i lt = let e : n - i ≡ suc (n - (i + 1)) = omega arith in ap filled e
 
+-- once n fillers are loaded, none of n is left to load
 pub filled_none : (n i : ℕ) → n ≤ i → filled (n - i) ≡ []
 unfolding filled
 filled_none n i le = let e : n - i ≡ 0 = omega arith in ap filled e
 
 -- ---- the closings
 
+-- the closings of descriptors are that of the first one and those of the others
 pub closings_next : (objects : List (Option OpenObject)) (fd n : ℕ)
     → 0 < n
     → closings objects fd n ≡ closing fd (named objects fd) ++ closings objects (fd + 1) (n - 1)
 unfolding closings
 closings_next objects fd n lt = let e : n ≡ suc (n - 1) = omega arith in ap (closings objects fd) e
 
+-- if no descriptor is left, no closing is left
 pub closings_none : (objects : List (Option OpenObject)) (fd n : ℕ) → n ≡ 0 → closings objects fd n ≡ []
 unfolding closings
 closings_none objects fd n e = ap (closings objects fd) e
@@ -129,7 +134,7 @@ self : (p q : ℕ) → p ≡ q → nat_eq q p ≡ true
 self p q e = eq-eqb q p (sym e)
 
 module _ {K : Type 0} where
-  -- the next entry is the first of them
+  -- the entry after an element is the first of those after it
   pub first_of_rest : (element : Option ℕ) (es : List (K × ℕ))
       → next_entry element es ≡ first_entry (rest_after element es)
   first_of_rest None es = refl
@@ -145,6 +150,7 @@ module _ {K : Type 0} where
           by true r = refl
           by false r = r
 
+  -- a list of entries without a first entry is empty
   pub none_first : (es : List (K × ℕ)) → first_entry es ≡ None → es ≡ []
   none_first [] e = refl
   none_first (x ∷ es) e = absurd (none-some x (sym e))
@@ -214,7 +220,7 @@ module _ {K : Type 0} where
       by true is r = rest_of_first e es is ∙ ap (λ (ys : List (K × ℕ)). e ∷ ys) (sym (other (first_seen e es is)))
       by false is r = r is ∙ ap (λ (ys : List (K × ℕ)). e ∷ ys) (sym (other (behind_seen p e es is)))
 
-  -- the entries after the next one
+  -- the entries after an element are the next one and those after the next one
   pub rest_of_next : (element : Option ℕ) (e : K × ℕ) (es : List (K × ℕ))
       → ((p : ℕ) → occurrences p (values_of es) ≤ 1)
       → next_entry element es ≡ Some e

@@ -15,9 +15,11 @@ use Rattle.saving.specs.Frames.{command_code, body_of, frame_of}
 
 -- ---- numbers
 
+-- a number of 32 bits is read from its four bytes
 pub number_of_bytes : (n : ℕ) (rest : List ℕ) → n < 2 ^ 32 → little_number 4 (little_bytes 4 n ++ rest) ≡ n
 number_of_bytes n rest small = omega arith
 
+-- a number of 16 bits is read from its two bytes
 pub half_of_bytes : (n : ℕ) (rest : List ℕ) → n < 2 ^ 16 → little_number 2 (little_bytes 2 n ++ rest) ≡ n
 half_of_bytes n rest small = omega arith
 
@@ -49,6 +51,7 @@ parsed_as tenant c short =
 same_create : (a b c d e f g h : ℕ) → a ≡ e → b ≡ f → c ≡ g → d ≡ h → map_create a b c d 0 ≡ map_create e f g h 0
 same_create a b c d e f g h p q r s = cc
 
+-- the frame of MAP_CREATE with flags 0 is read as this command if its fields fit in four bytes
 pub create_parsed : (tenant kind key value max : ℕ)
     → kind < 2 ^ 32 → key < 2 ^ 32
     → value < 2 ^ 32 → max < 2 ^ 32
@@ -61,6 +64,7 @@ create_parsed tenant kind key value max a b c d =
 abbrev at_least_if : Bool → Command → Result Command BadFrame
 at_least_if b c = if b then Ok c else Err Body
 
+-- the frame of MAP_UPDATE_ELEM with flags 0 is read as this command if it is not too long
 pub update_parsed : (tenant fd : ℕ) (bytes : List ℕ)
     → fd < 2 ^ 32 → length bytes + 16 ≤ longest_frame
     → parsed (frame_of tenant (map_update fd 0 bytes)) ≡ Ok (map_update fd 0 bytes)
@@ -70,6 +74,7 @@ update_parsed tenant fd bytes a short =
     (le-leb before_key_and_value (length (body_of (map_update fd 0 bytes))) (omega arith))
     ∙ ap (λ (n : ℕ). Ok (map_update n 0 bytes)) (number_of_bytes fd [] a)
 
+-- the frame of PROG_LOAD for a socket filter is read as this command if it is not too long
 pub load_parsed : (tenant : ℕ) (slots : List ℕ)
     → length slots + 8 ≤ longest_frame
     → parsed (frame_of tenant (prog_load 1 slots)) ≡ Ok (prog_load 1 slots)
@@ -78,6 +83,7 @@ load_parsed tenant slots short =
     ∙ ap (λ (b : Bool). at_least_if b (prog_load 1 slots))
     (le-leb word_length (length (body_of (prog_load 1 slots))) (omega arith))
 
+-- the frame of CLOSE is read as this command if its descriptor fits in four bytes
 pub close_parsed : (tenant fd : ℕ) → fd < 2 ^ 32 → parsed (frame_of tenant (close fd)) ≡ Ok (close fd)
 close_parsed tenant fd a = ap (λ (n : ℕ). Ok (close n)) (number_of_bytes fd [] a)
 

@@ -17,6 +17,7 @@ use Rattle.saving.proofs.Tables.{Opened, table, IsDescriptor, IsOnlyFree, table-
 
 -- ---- commands one after another
 
+-- if commands lead to a state, and others from there to a second one, both in order lead to the second
 pub leads_then : (cs ds : List Command) (s t u : TenantState) → Leads s cs t → Leads t ds u → Leads s (cs ++ ds) u
 leads_then [] ds s t u h k = subst (λ (x : TenantState). Leads x ds u) h k
 leads_then (c ∷ cs) ds s t u (a, answers, well, rest) k = (a, answers, well, leads_then cs ds a.after t u rest k)
@@ -24,17 +25,24 @@ leads_then (c ∷ cs) ds s t u (a, answers, well, rest) k = (a, answers, well, l
 -- ---- a state that is alike to another
 
 pub record Follows (x t : TenantState) : Type 0 where
+  -- the new handle of each handle
   pub move : ℕ → ℕ
+  -- both states hold their maps, and the second is the first with its handles renamed
   pub pair : ArePair move x t
 
 -- the reply of the other state to the same command, and the state after it
 pub record FollowsTo (t : TenantState) (c : Command) (a : Answer) : Type 0 where
+  -- the result of the command in the other state
   pub b : Answer
+  -- the machine gives this result in the other state, without a refusal of memory
   pub answers : Answers false t c b
+  -- the status is that of the first result
   pub status : b.status ≡ a.status
+  -- the state after the command is that of the first result with its handles renamed
   pub after : Follows a.after b.after
 
 module _ (held : MapsAreHeld) (bisimulation : AlikeIsBisimulation) where
+  -- a state with renamed handles gives a command the same status, and again has renamed handles after it
   pub follows : (x t : TenantState) (c : Command) (a : Answer) → Follows x t → Answers false x c a → FollowsTo t c a
   follows x t c a h is =
       let (b, answers, alike) = bisimulation false x t c a h.pair.one h.pair.two (h.move, h.pair.by) is in
@@ -61,6 +69,7 @@ state_of s f = record { objects = table f; maps = named_from (table f) 0 s.maps;
 abbrev pub IsWithin : TenantState → Opened → Type 0
 IsWithin s f = (handle : ℕ) → is_named (table f) handle ≡ true → IsSome (live s handle)
 
+-- the state with these open objects holds its maps if each map that they name is live
 pub held_of : (s : TenantState) (f : Opened) → HoldsItsMaps s → IsWithin s f → HoldsItsMaps (state_of s f)
 held_of s f h within = record {
   descriptors = table-length f;
@@ -69,6 +78,7 @@ held_of s f h within = record {
   named_if_live = λ handle some. (live_parts s (table f) handle some).0;
 }
 
+-- a state with these open objects, exactly the maps that they name and a clear flag is the state of them
 pub same_state : (s : TenantState) (f : Opened) (x : TenantState)
     → x.objects ≡ table f → length x.maps ≡ length s.maps
     → ((handle : ℕ) → live x handle ≡ (if is_named (table f) handle then live s handle else None))
@@ -90,7 +100,7 @@ twice : (a b : Bool) (o : Option Map)
 twice true b o h = ap (λ (x : Bool). if x then o else None) (h refl)
 twice false b o h = refl
 
--- a state with fewer open objects
+-- the state of some objects, with fewer of them open, is the state of the fewer objects
 pub narrowed : (s : TenantState) (f g : Opened)
     → NamesFewer (table g) (table f) → with_objects (state_of s f) (table g) ≡ state_of s g
 narrowed s f g fewer =
@@ -102,11 +112,13 @@ narrowed s f g fewer =
     ∙ twice (is_named (table g) handle) (is_named (table f) handle) (live s handle) (fewer handle))
     refl
 
+-- a handle that is named after a descriptor is closed was named before
 pub closed_names : (f : Opened) (fd : ℕ) → IsDescriptor fd → NamesFewer (table (set_at f fd None)) (table f)
 closed_names f fd is =
     subst (λ (os : List (Option OpenObject)). NamesFewer os (table f)) (table-closed f fd is)
     (closed_fewer (table f) fd)
 
+-- CLOSE of an open descriptor succeeds, and leads to the state without its object
 pub close_answer : (s : TenantState) (f : Opened) (fd : ℕ) (o : OpenObject)
     → IsDescriptor fd → f fd ≡ Some o
     → Answers false (state_of s f) (close fd) (gives [] (state_of s (set_at f fd None)))
@@ -118,6 +130,7 @@ close_answer s f fd o is there =
 
 -- ---- a descriptor is opened
 
+-- after the free descriptor is opened a handle is named if the new object or another one names it
 pub opened_names : (f : Opened) (fd : ℕ) (o : OpenObject) (handle : ℕ)
     → IsOnlyFree f fd
     → is_named (table (set_at f fd (Some o))) handle ≡ (names handle o || is_named (table f) handle)

@@ -26,7 +26,9 @@ table f = tabled f first_descriptor most
 
 -- a descriptor of the table
 pub record IsDescriptor (fd : ℕ) : Type 0 where
+  -- it is at least the first descriptor
   pub low : first_descriptor ≤ fd
+  -- it is at most the last descriptor
   pub high : fd < first_descriptor + most
 
 set_here : (f : Opened) (i : ℕ) (x : Option OpenObject) → set_at f i x i ≡ x
@@ -35,9 +37,11 @@ set_here f i x = ap (λ (b : Bool). if b then x else f i) (eq-eqb i i refl)
 set_there : (f : Opened) (i : ℕ) (x : Option OpenObject) (k : ℕ) → k ≢ i → set_at f i x k ≡ f k
 set_there f i x k other = ap (λ (b : Bool). if b then x else f k) (ne_eqb k i other)
 
+-- a descriptor that is set has the new object
 pub set_same : (f : Opened) (i : ℕ) (x : Option OpenObject) → set_at f i x i ≡ x
 set_same f i x = set_here f i x
 
+-- the object of a descriptor that is not set is not changed
 pub set_other : (f : Opened) (i : ℕ) (x : Option OpenObject) (k : ℕ) → k ≢ i → set_at f i x k ≡ f k
 set_other f i x k other = set_there f i x k other
 
@@ -63,9 +67,11 @@ tabled-same f g fd n h =
     let within : i < n = omega arith in
     tabled-get f fd n i within ∙ h i within ∙ sym (tabled-get g fd n i within))
 
+-- the length of the table is the number of descriptors
 pub table-length : (f : Opened) → length (table f) ≡ most
 table-length f = tabled-length f first_descriptor most
 
+-- the entry at the index of a descriptor is the descriptor's object
 pub table-get : (f : Opened) (fd : ℕ) → IsDescriptor fd → get_or (table f) (fd - first_descriptor) None ≡ f fd
 table-get f fd is =
     let low = is.low in
@@ -73,11 +79,13 @@ table-get f fd is =
     let e : first_descriptor + (fd - first_descriptor) ≡ fd = omega arith in
     tabled-get f first_descriptor most (fd - first_descriptor) (omega arith) ∙ ap f e
 
+-- two tables are equal if each descriptor has the same object in both
 pub table-same : (f g : Opened) → ((fd : ℕ) → IsDescriptor fd → f fd ≡ g fd) → table f ≡ table g
 table-same f g h =
     tabled-same f g first_descriptor most
     (λ i lt. h (first_descriptor + i) (record { low = omega arith; high = omega arith }))
 
+-- a descriptor of the table names its object
 pub named-table : (f : Opened) (fd : ℕ) → IsDescriptor fd → named (table f) fd ≡ f fd
 named-table f fd is =
     let low = is.low in
@@ -86,7 +94,7 @@ named-table f fd is =
     ∙ flattened-get (table f) (fd - first_descriptor)
     ∙ table-get f fd is
 
--- each table is given by its objects
+-- the table of the objects that a table's descriptors name is this table
 pub table_of : (xs : List (Option OpenObject)) → length xs ≡ most → table (named xs) ≡ xs
 table_of xs long =
     ext_get_or None (table (named xs)) xs (table-length (named xs) ∙ sym long)
@@ -139,10 +147,12 @@ table-set f fd x is =
             let apart : first_descriptor + i ≢ fd = λ same. other (omega arith) in
             e ∙ tabled-get f first_descriptor most i lt ∙ sym (set_there f fd x (first_descriptor + i) apart)
 
+-- the table after an object is opened is that with the object set at its descriptor
 pub table-open : (f : Opened) (fd : ℕ) (o : OpenObject)
     → IsDescriptor fd → with_open (table f) fd o ≡ table (set_at f fd (Some o))
 table-open f fd o is = table-set f fd (Some o) is
 
+-- the table after a descriptor is closed is that with no object at the descriptor
 pub table-closed : (f : Opened) (fd : ℕ) → IsDescriptor fd → with_closed (table f) fd ≡ table (set_at f fd None)
 table-closed f fd is =
     let low = is.low in
@@ -180,10 +190,14 @@ prefix_to f fd (suc n) (suc k) lt below free =
 
 -- a free descriptor, with no free one below it
 pub record IsLowestFree (f : Opened) (fd : ℕ) : Type 0 where
+  -- it is a descriptor of the table
   pub descriptor : IsDescriptor fd
+  -- no object is open at it
   pub free : f fd ≡ None
+  -- an object is open at each lower descriptor
   pub lower : (other : ℕ) → first_descriptor ≤ other → other < fd → IsSome (f other)
 
+-- a free descriptor with no free one below it is the lowest free descriptor of the table
 pub lowest-is : (f : Opened) (fd : ℕ) → IsLowestFree f fd → lowest (table f) ≡ Some fd
 lowest-is f fd is =
     let low = is.descriptor.low in
@@ -202,10 +216,14 @@ lowest-is f fd is =
 
 -- the only free descriptor
 pub record IsOnlyFree (f : Opened) (fd : ℕ) : Type 0 where
+  -- it is a descriptor of the table
   pub descriptor : IsDescriptor fd
+  -- no object is open at it
   pub free : f fd ≡ None
+  -- an object is open at each other descriptor
   pub others : (other : ℕ) → IsDescriptor other → other ≢ fd → IsSome (f other)
 
+-- the only free descriptor is the lowest free descriptor of the table
 pub lowest-table : (f : Opened) (fd : ℕ) → IsOnlyFree f fd → lowest (table f) ≡ Some fd
 lowest-table f fd is =
     let high = is.descriptor.high in
@@ -247,12 +265,18 @@ tabled-named f fd (suc n) handle e =
 
 -- a descriptor whose object names the handle
 pub record NamesAt (f : Opened) (handle : ℕ) : Type 0 where
+  -- the descriptor
   pub fd : ℕ
+  -- it is a descriptor of the table
   pub descriptor : IsDescriptor fd
+  -- the object of the descriptor
   pub o : OpenObject
+  -- this object is open at the descriptor
   pub at : f fd ≡ Some o
+  -- the object names the handle
   pub named : names handle o ≡ true
 
+-- a handle that is named is named by the object of a descriptor
 pub names_at : (f : Opened) (handle : ℕ) → is_named (table f) handle ≡ true → NamesAt f handle
 names_at f handle e =
     let (i, lt, o, at, named) = tabled-named f first_descriptor most handle e in
@@ -264,12 +288,14 @@ names_at f handle e =
       named = named;
     }
 
+-- a handle that the object of a descriptor names is named
 pub named_from_at : (f : Opened) (handle : ℕ) → NamesAt f handle → is_named (table f) handle ≡ true
 named_from_at f handle h =
     named_by (table f) (h.fd - first_descriptor) h.o handle (table-get f h.fd h.descriptor ∙ h.at) h.named
 
 -- ---- the maps of each object have other handles
 
+-- the table with its handles renamed is the table of the renamed objects
 pub table-moved : (move : ℕ → ℕ) (f : Opened) (fd n : ℕ)
     → moved_objects move (tabled f fd n) ≡ tabled (λ k. option_map (moved_object move) (f k)) fd n
 unfolding tabled

@@ -122,6 +122,7 @@ module _ (a b : List Named) where
 
 -- ---- the verdict
 
+-- a program that is accepted is accepted with all targets that are the same at the descriptors that it loads
 pub same_verdict : MapsAreListed
     → (code : List Insn) (a b : List Named)
     → entries_of (maps_of code) a ≡ entries_of (maps_of code) b
@@ -134,6 +135,7 @@ same_verdict listed code a b same accepted = (
 
 -- ---- the filler
 
+-- the filler is a program
 pub filler_program : IsProgram filler
 filler_program = record { each = ((omega arith, search rules), (tt, tt)); some = omega arith; room = omega arith }
 
@@ -161,5 +163,6 @@ filler_safe shapes (suc (suc n)) =
     none_then None = refl
     none_then (Some f) = refl
 
+-- the filler is accepted, whatever the open descriptors name
 pub filler_accepted : (named : List Named) → IsAccepted filler named
 filler_accepted named = (filler_shape named, filler_safe (shapes_of filler named))

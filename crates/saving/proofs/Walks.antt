@@ -250,6 +250,7 @@ module _ (held : MapsAreHeld) (bisimulation : AlikeIsBisimulation)
   unfolding without
   next_here b older = next_birth s b older
 
+  -- with fillers at all descriptors, the commands of births in order lead to a state with the objects that were born
   pub walk : (bs : List Birth) (t : TenantState)
       → AreInOrder s bs → Follows (state_of s (at_births s [])) t
       → LeadsTo t (born s bs) (state_of s (at_births s bs))

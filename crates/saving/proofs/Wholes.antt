@@ -18,6 +18,7 @@ use Rattle.saving.specs.Restorable.{AreDistinct, IsWholeTable}
 
 -- ---- keys
 
+-- a key is equal to itself
 pub same_key : (key : List ℕ) → is_key key key ≡ true
 same_key [] = refl
 same_key (x ∷ xs) = ap₂ (λ (a b : Bool). a && b) (eq-eqb x x refl) (same_key xs)
@@ -45,6 +46,7 @@ one_key (x ∷ xs) (y ∷ ys) e = by (x == y) refl (one_key xs ys) e
     by true same rest e = ap₂ (λ (z : ℕ) (zs : List ℕ). z ∷ zs) (eqb-true x y same) (rest e)
     by false same rest e = absurd (true≢false (sym e))
 
+-- if it is false that one of two tests holds, both are false
 pub none_of : (a b : Bool) → (a || b) ≡ false → (a ≡ false) × (b ≡ false)
 none_of true b e = absurd (true≢false e)
 none_of false b e = (refl, e)
@@ -53,7 +55,7 @@ any_mid : (p : List ℕ → Bool) (xs ys : List (List ℕ)) (x : List ℕ) → l
 any_mid p [] ys x e = (none_of (p x) (list_any p ys) e).0
 any_mid p (z ∷ xs) ys x e = any_mid p xs ys x (none_of (p z) (list_any p (xs ++ x ∷ ys)) e).1
 
--- the key in the middle is not among the keys before it
+-- if keys are distinct, a key among them is not among those before it
 pub mid_apart : (before : List (List ℕ)) (key : List ℕ) (after : List (List ℕ))
     → AreDistinct (before ++ key ∷ after) → list_any (is_key key) before ≡ false
 mid_apart [] key after h = refl
@@ -61,10 +63,12 @@ mid_apart (b ∷ bs) key after h =
     ap₂ (λ (x y : Bool). x || y) (key_either key b ∙ any_mid (is_key b) bs after key h.0) (mid_apart bs key after h.1)
 
 module _ {A : Type 0} where
+  -- the keys of two joined lists of entries are those of the first, then those of the second
   pub keys_append : (es fs : List (List ℕ × A)) → keys_of (es ++ fs) ≡ keys_of es ++ keys_of fs
   keys_append [] fs = refl
   keys_append (e ∷ es) fs = ap (λ (ks : List (List ℕ)). e.0 ∷ ks) (keys_append es fs)
 
+  -- a key that is not among the keys of the entries has no object
   pub not_found : (key : List ℕ) (es : List (List ℕ × A))
       → list_any (is_key key) (keys_of es) ≡ false → found key es ≡ None
   not_found key es e = by (found key es) (is_some-lookup (is_key key) es ∙ e)
@@ -132,11 +136,13 @@ module _ {A : Type 0} where
   each_key P [] h = tt
   each_key P (e ∷ es) h = (h.0, each_key P es h.1)
 
+  -- a property of all keys holds for the key of each entry
   pub from_keys : (P : List ℕ → Type 0) (es : List (List ℕ × A))
       → AllByRecursion P (keys_of es) → AllByRecursion (λ e. P e.0) es
   from_keys P [] h = tt
   from_keys P (e ∷ es) h = (h.0, from_keys P es h.1)
 
+  -- a property of all entries holds for all that are left after one is removed
   pub all_without : (P : List ℕ × A → Type 0) (test : List ℕ → Bool) (es : List (List ℕ × A))
       → AllByRecursion P es → AllByRecursion P (remove_entry test es)
   all_without P test [] h = tt
@@ -162,6 +168,7 @@ distinct_with (k ∷ ks) key h e =
     any_end p (x ∷ xs) e f =
         let parts = none_of (p x) (list_any p xs) e in ap₂ (λ (a b : Bool). a || b) parts.0 (any_end p xs parts.1 f)
 
+-- a property of all elements and of a new one holds for all with the new one at the end
 pub all_end : {X : Type 0} (P : X → Type 0) (xs : List X) (x : X)
     → AllByRecursion P xs → P x → AllByRecursion P (xs ++ x ∷ [])
 all_end P [] x h p = (p, tt)
@@ -174,8 +181,11 @@ no_array e = cc
 
 module _ {A : Type 0} (t : Table A) (key : List ℕ) where
   pub record IsRoomFor : Type 0 where
+    -- the key is not in the table
     pub absent : look_up t key ≡ None
+    -- the map is a hash map
     pub hash : t.shape.kind ≡ Hash
+    -- the map is not full
     pub room : (length t.entries + t.deleted) ≢ t.shape.max_entries
 
   has_room : (kind : MapKind) (flags : ℕ)
@@ -205,6 +215,7 @@ module _ {A : Type 0} (t : Table A) (key : List ℕ) where
           absurd (let wrong : (let missing : Verdict A = Refused NoEntry in missing) ≡ New = e in cc wrong)
       by_exist false e = by_full (is_full t) refl e
 
+  -- a key whose update is a new one is absent from a hash map that is not full
   pub new_has_room : (flags : ℕ) → verdict t key flags ≡ New → IsRoomFor
   new_has_room flags e = by_flags (nat_le flags exist) e
     where
@@ -227,9 +238,12 @@ module _ {A : Type 0} (t : Table A) (key : List ℕ) where
           absurd (let wrong : (let refused : Verdict A = Refused Invalid in refused) ≡ New = e in cc wrong)
 
   pub record IsRemoved (a : A) : Type 0 where
+    -- the key has this object in the table
     pub there : look_up t key ≡ Some a
+    -- the map is a hash map
     pub hash : t.shape.kind ≡ Hash
 
+  -- a deletion that succeeds is of a key with an object, in a hash map
   pub removed_is : (a : A) → removal t key ≡ Ok a → IsRemoved a
   removed_is a e = by t.shape.kind (look_up t key) refl refl e
     where
@@ -246,6 +260,7 @@ module _ {A : Type 0} (t : Table A) (key : List ℕ) where
 -- ---- the tables after calls
 
 module _ {A : Type 0} {t : Table A} (whole : IsWholeTable t) where
+  -- a whole table is still whole after a new key of the map's key size is put
   pub whole_with_new : (key : List ℕ) (a : A) (flags : ℕ)
       → length key ≡ t.shape.key_size → verdict t key flags ≡ New
       → IsWholeTable (with_new t key a)
@@ -264,6 +279,7 @@ module _ {A : Type 0} {t : Table A} (whole : IsWholeTable t) where
         indices = λ array. absurd (no_array (sym array ∙ room.hash));
       }
 
+  -- a whole table is still whole with another object for a key
   pub whole_with_object : (key : List ℕ) (a : A) → IsWholeTable (with_object t key a)
   whole_with_object key a =
       let same = keys_set (is_key key) t.entries a in
@@ -281,6 +297,7 @@ module _ {A : Type 0} {t : Table A} (whole : IsWholeTable t) where
         indices = λ array. same ∙ whole.indices array;
       }
 
+  -- a whole table is still whole after a key is deleted
   pub whole_with_deleted : (key : List ℕ) (a : A) → removal t key ≡ Ok a → IsWholeTable (with_deleted t key)
   whole_with_deleted key a e =
       let is = removed_is t key a e in
@@ -291,6 +308,7 @@ module _ {A : Type 0} {t : Table A} (whole : IsWholeTable t) where
         indices = λ array. absurd (no_array (sym array ∙ is.hash));
       }
 
+  -- a whole table is still whole at the end of a run
   pub whole_after_run : IsWholeTable (after_run t)
   whole_after_run = record {
     keys = whole.keys;
@@ -299,7 +317,7 @@ module _ {A : Type 0} {t : Table A} (whole : IsWholeTable t) where
     indices = whole.indices;
   }
 
--- a table with the same keys and other objects
+-- a table with the keys of a whole table, and other objects, is whole
 pub whole_by_keys : {A B : Type 0} {t : Table A}
     → IsWholeTable t
     → (es : List (List ℕ × B)) → keys_of es ≡ keys_of t.entries
@@ -319,6 +337,7 @@ whole_by_keys {A} {B} {t} whole es same = record {
 
 -- ---- a new table
 
+-- a property of the key of each index holds for the keys of any successive indices
 pub indexed_keys : (P : List ℕ → Type 0)
     → ((i : ℕ) → P (index_key i))
     → (from n : ℕ) → AllByRecursion P (keys_of (indexed (λ i. i) from n))
@@ -326,6 +345,7 @@ unfolding indexed
 indexed_keys P h from zero = tt
 indexed_keys P h from (suc n) = (h from, indexed_keys P h (from + 1) n)
 
+-- the key of an index has four bytes
 pub index_length : (i : ℕ) → length (index_key i) ≡ 4
 unfolding index_key
 index_length i = length-low_bytes 4 i
@@ -352,6 +372,7 @@ indexed_apart i from (suc n) lt small =
     ap₂ (λ (a b : Bool). a || b) (index_apart i from lt (omega arith))
     (indexed_apart i (from + 1) n (omega arith) (omega arith))
 
+-- the keys of successive indices of 32 bits are distinct
 pub indexed_distinct : (from n : ℕ) → from + n ≤ 2 ^ 32 → AreDistinct (keys_of (indexed (λ k. k) from n))
 unfolding indexed
 indexed_distinct from zero small = tt
@@ -360,6 +381,7 @@ indexed_distinct from (suc n) small = (
   indexed_distinct (from + 1) n (omega arith),
 )
 
+-- n successive indices have n keys
 pub indexed_long : (from n : ℕ) → length (keys_of (indexed (λ k. k) from n)) ≡ n
 unfolding indexed
 indexed_long from zero = refl

@@ -59,6 +59,7 @@ call_kinds witness f s k v admits is r = by (r == 0) (nat_le r 5)
     by false true = tt
     by false false = admits.registers r
 
+-- if a call returns a value of a kind, the facts after it describe the state after it
 pub call_admits : CallAdmits
 call_admits witness f shapes s k v still is =
     record {
@@ -124,6 +125,7 @@ module _ (witness : Witness) (s : RunState) (site : ℕ) (v : Tagged)
   slot_more (slot.Spill k) c below (inl h) = inl (h.0, h.1, value_more k h.0 below h.2, h.3)
   slot_more (slot.Spill k) c below (inr h) = inr (null_more k c below h)
 
+-- for a site that no fact mentions, the witness may record what the look-up there gave
 pub site_admits : SiteAdmits
 site_admits witness f shapes s site v below still =
     record {

@@ -15,10 +15,15 @@ IsSmall byte = (i b : ℕ) → byte i ≡ Some b → b < 256
 
 -- the n bytes from index p on are present: the list of them has n bytes below 256
 pub record AreRead (byte : ℕ → Option ℕ) (p n : ℕ) : Type 0 where
+  -- the list of these bytes
   pub list : List ℕ
+  -- all these bytes are present, and they are those of the list
   pub read : gathered byte p n ≡ Some list
+  -- the list has n bytes
   pub count : length list ≡ n
+  -- each number of the list is below 256
   pub bytes : All (λ b. b < 256) list
+  -- the number that the bytes represent is one of n bytes
   pub small : number_of list < 256 ^ n
 
 none_read : (byte : ℕ → Option ℕ) (p : ℕ) → gathered byte p zero ≡ Some []
@@ -36,6 +41,7 @@ one_more_read byte p n b bs e f =
 one_more_small : (b x n : ℕ) → b < 256 → x < 256 ^ n → b + 256 * x < 256 ^ suc n
 one_more_small b x n h g = rw pow-suc (omega arith)
 
+-- if each of n bytes from an index on is present and below 256, they are read
 pub all_read : (byte : ℕ → Option ℕ) (n p : ℕ)
     → IsSmall byte
     → ((k : ℕ) → k < n → (b : ℕ) × (byte (p + k) ≡ Some b))

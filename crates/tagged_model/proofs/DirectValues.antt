@@ -35,6 +35,7 @@ first_found count (x ∷ []) e owns =
     )
 first_found count (x ∷ y ∷ es) e owns = absurd (let z : ⊥ = cc in z)
 
+-- a map whose shape has a direct value has an object for it
 pub direct_found : (shape : MapShape) (t : RunMap) (offset : ℕ)
     → IsMapOf shape t → has_direct_value shape offset ≡ true
     → (number : ℕ) × (direct_object t.table offset ≡ Some number) × (number < t.count)

@@ -21,6 +21,7 @@ use Rattle.tagged_model.proofs.StackAccesses.{refused}
 
 -- ---- tests of every slot
 
+-- if no index below n passes the test, each of them fails it
 pub none_below : (n : ℕ) (test : ℕ → Bool) → any_below n test ≡ false → (i : ℕ) → i < n → test i ≡ false
 unfolding any_below
 none_below zero test e i lt = absurd (omega arith)

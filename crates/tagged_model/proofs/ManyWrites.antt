@@ -40,6 +40,7 @@ module _ (i : ℕ) (c : Cell) (p : ℕ) (new : List ℕ) where
       (λ f. let g = ltb-false (8 * i) (p + length new) f in omega arith)
       (and_cases (ltb p (8 * i + 8)) (ltb (8 * i) (p + length new)) t)
 
+  -- after a write, a byte of the slot is the one written there, if it was written, else the old one
   pub byte_over : (j : ℕ) → j < 8 → byte_at (cell_over i c p new) j ≡ after j
   byte_over j few =
       cond_both (touches p (length new) i) (bytes after) c (λ (d : Cell). byte_at d j ≡ after j)
@@ -72,6 +73,7 @@ module _ (i : ℕ) (c : Cell) (p : ℕ) (new : List ℕ) where
       (λ t. (b, byte_over j few ∙ cond-false (IsNew j) (slice_get new (8 * i + j - p)) (byte_at c j) t ∙ e))
       (cases_Bool (IsNew j))
 
+  -- after a write of bytes over a cell of bytes, it has only bytes
   pub small_over : AreBytes c → AreSmall new → AreBytes (cell_over i c p new)
   small_over small news =
       cond_both (touches p (length new) i) (bytes after) c AreBytes
@@ -114,6 +116,7 @@ module _ (i : ℕ) (c : Cell) (p : ℕ) (new : List ℕ) where
           let to = ltb-true (8 * i) (p + length new) h.1 in
           and_from (ltb p (8 * i + 8)) (ltb (8 * i) (p + hi)) h.0 (lt-ltb (8 * i) (p + hi) (omega arith))
 
+  -- after a write of lo to hi bytes, the cell is what is known of its slot: the first lo of them are present
   pub slot_filled : (witness : Witness) (t : Slot) (lo hi : ℕ)
       → lo ≤ length new → length new ≤ hi
       → HasSlot witness t c
@@ -134,6 +137,7 @@ shorter x n hi le e =
     let low : (x +ℤ pos n) ≤ℤ pos 0 = omega (arith, ints) in
     and_from (int_le (negsuc 511) x) (int_le (x +ℤ pos n) (pos 0)) h.0 (grind (arith, ints))
 
+-- if the facts allow a write of lo to hi bytes, those after it admit the state after a write of so many bytes
 pub stack_write_many : (witness : Witness) (f g : Facts) (s : RunState) (x : ℤ) (lo hi : ℕ) (bs : List ℕ)
     → IsInRange s → AdmitsBy witness f s
     → AreSmall bs → lo ≤ length bs

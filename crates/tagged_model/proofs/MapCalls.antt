@@ -91,6 +91,7 @@ module _ (shape : MapShape) (t : RunMap) (is : IsMapOf shape t)
     put_keeps key (Present number) h = valued number
     put_keeps key New h = with_new_object key (h refl)
 
+    -- an update of a map with bytes of the size of a value keeps its shape and its objects
     pub updated_keeps : (key : List ℕ) (flags : ℕ) → KeepsShape shape t (updated t key value flags).map
     updated_keeps key flags = put_keeps key (verdict t.table key flags) (new_of_hash t.table key flags)
 
@@ -110,6 +111,7 @@ module _ (shape : MapShape) (t : RunMap) (is : IsMapOf shape t)
     bytes = bytes;
   }
 
+  -- a delete from a map keeps its shape and its objects
   pub removed_keeps : (key : List ℕ) → KeepsShape shape t (removed t key).map
   removed_keeps key =
       taken_keeps key (removal t.table key)

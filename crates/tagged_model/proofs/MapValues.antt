@@ -131,6 +131,7 @@ module _ {A B : Type 0} (value : A → B) where
   removal_valued Hash None = refl
   removal_valued Hash (Some p) = refl
 
+-- a map of objects and the map of their values return the same and change alike
 pub go_along : (A B : Type 0) → CallsRefineValues A B
 go_along A B = record {
   new = λ value object shape.

@@ -36,6 +36,7 @@ module _ {A : Type 0} where
   not_new : (fault : MapFault) → ◌≡◌ {A = Verdict A} (Refused fault) New → ⊥
   not_new fault e = cc
 
+-- by the verdict on an update, a present key is found and a new one is not, and memory never runs out
 pub tell : (A : Type 0) → MapVerdictsMatchLookUps A
 tell A = record {
   present = λ t key flags object.

@@ -20,6 +20,7 @@ bit_below a k i h = ap (λ n. bit_at n i) (and_nothing (a * 2 ^ k)) ∙ (bit_at_
 
 -- ---- n bits from the a-th on
 
+-- each of the n bits from bit a on is set in a mask of n ones that is shifted by a
 pub shifted_bit : (n a i : ℕ) → i < n → bit_at ((2 ^ n - 1) * 2 ^ a) (a + i) ≡ 1
 shifted_bit n a i h =
     let above : a ≤ a + i = omega arith in
@@ -29,6 +30,7 @@ shifted_bit n a i h =
 clash : (x : ℕ) → x ≡ 0 → x ≡ 1 → ⊥
 clash x e f = omega arith
 
+-- a bit that is set in a mask of n ones that is shifted by a is one of the n bits from bit a on
 pub only_shifted : (n a i : ℕ) → bit_at ((2 ^ n - 1) * 2 ^ a) i ≡ 1 → (a ≤ i) × (i < a + n)
 only_shifted n a i one =
     ⊎_elim
@@ -51,11 +53,13 @@ only_shifted n a i one =
 touched_bit : (p n i : ℕ) → i < n → bit_at (byte_bits p n) (p % 8 + i) ≡ 1
 touched_bit p n i h = shifted_bit n (p % 8) i h
 
+-- a bit that is set in the mask of an access is that of one of its n bytes, counted within their slot
 pub only_touched : (p n i : ℕ) → bit_at (byte_bits p n) i ≡ 1 → (p % 8 ≤ i) × (i < p % 8 + n)
 only_touched p n i one = only_shifted n (p % 8) i one
 
 -- ---- the bits of n bytes that lie in slot i
 
+-- in the mask of the bytes of an access that lie in slot i, the bit of each such byte is set
 pub bit_in : (p n i j : ℕ) → j < 8 → p ≤ 8 * i + j → 8 * i + j < p + n → bit_at (bits_in p n i) j ≡ 1
 bit_in p n i j few from to =
     let a = p - 8 * i in
@@ -63,6 +67,7 @@ bit_in p n i j few from to =
     let within : j - a < min 8 (p + n - 8 * i) - a = omega arith in
     ap (bit_at (bits_in p n i)) (sym at) ∙ shifted_bit (min 8 (p + n - 8 * i) - a) a (j - a) within
 
+-- a bit that is set in the mask of an access for slot i is that of a byte of the access
 pub only_in : (p n i j : ℕ) → bit_at (bits_in p n i) j ≡ 1 → (p ≤ 8 * i + j) × (8 * i + j < p + n)
 only_in p n i j one =
     let h = only_shifted (min 8 (p + n - 8 * i) - (p - 8 * i)) (p - 8 * i) j one in

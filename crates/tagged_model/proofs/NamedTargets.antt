@@ -24,6 +24,7 @@ parts ns i n within is =
     ∙ ap (λ (m : Named). m ∷ drop (suc i) ns) (sym is)
     ∙ ap (λ (k : ℕ). n ∷ drop k ns) (sym (add-one i))
 
+-- if the first entry of the rest of a list has the descriptor, the descriptor names its target in the rest
 pub found_here : (ns : List Named) (i : ℕ) (n : Named) (fd : ℕ)
     → i < length ns → n ≡ get_or ns i n
     → n.fd ≡ fd
@@ -31,6 +32,7 @@ pub found_here : (ns : List Named) (i : ℕ) (n : Named) (fd : ℕ)
 found_here ns i n fd within is same =
     ap (λ (ms : List Named). target_of ms fd) (parts ns i n within is) ∙ front_is n (drop (i + 1) ns) fd same
 
+-- an entry with another descriptor does not change what a descriptor names in the rest of a list
 pub found_later : (ns : List Named) (i : ℕ) (n : Named) (fd : ℕ)
     → i < length ns → n ≡ get_or ns i n
     → (n.fd ≡ fd → ⊥)
@@ -38,5 +40,6 @@ pub found_later : (ns : List Named) (i : ℕ) (n : Named) (fd : ℕ)
 found_later ns i n fd within is other =
     ap (λ (ms : List Named). target_of ms fd) (parts ns i n within is) ∙ front_is_not n (drop (i + 1) ns) fd other
 
+-- past the end of a list a descriptor names nothing
 pub found_nowhere : (ns : List Named) (i : ℕ) (fd : ℕ) → length ns ≤ i → target_of (drop i ns) fd ≡ None
 found_nowhere ns i fd past = ap (λ (ms : List Named). target_of ms fd) (drop_of_length-le ns past) ∙ none_left fd

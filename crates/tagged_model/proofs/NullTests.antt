@@ -65,6 +65,7 @@ module _ (witness : Witness) (site : ℕ) (is_null : witness.gave site ≡ Scala
   null_tells : Tells witness site true
   null_tells = record { of_value = λ m v e l. zero_of witness v (e ∙ is_null); of_slot = null_slot }
 
+  -- if a look-up gave null, the facts settled as null admit the state
   pub null_settled : (f : Facts) (s : RunState) → AdmitsBy witness f s → AdmitsBy witness (facts_settled site true f) s
   null_settled = settled witness site true null_tells
 
@@ -86,6 +87,7 @@ module _ (witness : Witness) (site : ℕ) (is_pointer : witness.gave site ≢ Sc
   start_tells : Tells witness site false
   start_tells = record { of_value = start_of; of_slot = start_slot }
 
+  -- if a look-up did not give null, the facts settled as not null admit the state
   pub start_settled : (f : Facts) (s : RunState)
       → AdmitsBy witness f s → AdmitsBy witness (facts_settled site false f) s
   start_settled = settled witness site false start_tells

@@ -14,6 +14,7 @@ use Rattle.tagged_model.specs.Admits.{Witness, IsOfKind, IsScalarOf}
 in_full : (x y w : ℕ) → x < y → y ≤ w → (0 ≤ x) × (x ≤ y - 1) × (x < w)
 in_full x y w h g = (omega arith, omega arith, omega arith)
 
+-- a number of k bits, at most 64, is a value of the kind of all such numbers
 pub full_scalar : (k x : ℕ) → x < 2 ^ k → 2 ^ k ≤ 2 ^ 64 → IsScalarOf (full k) (Scalar x)
 full_scalar k x h g = let p = in_full x (2 ^ k) (2 ^ 64) h g in (x, refl, record { from = p.0; to = p.1 }, p.2)
 

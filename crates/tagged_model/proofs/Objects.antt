@@ -62,6 +62,7 @@ module _ (s : RunState) (m : ℕ) (t u : RunMap) (is : s.maps m ≡ Some t) wher
       (λ e. subst (λ j. P j (Some u)) (sym (eqb-true k m e)) here)
       (λ _. others k)
 
+  -- if a map changes and loses no object, the facts still admit the state
   pub map_admits : (witness : Witness) (f : Facts)
       → t.count ≤ u.count → AdmitsBy witness f s → AdmitsBy witness f (with_map s m u)
   map_admits witness f more h =
@@ -72,6 +73,7 @@ module _ (s : RunState) (m : ℕ) (t u : RunMap) (is : s.maps m ≡ Some t) wher
         objects = changed (λ k o. witness.objects k ≤ objects_of o) (omega arith) h.objects;
       }
 
+  -- if a map changes to one whose values are bytes, the numbers of the state are still in range
   pub map_proper : ((number : ℕ) → AreBytes (u.values number)) → IsInRange s → IsInRange (with_map s m u)
   map_proper bytes h =
       record {
@@ -85,6 +87,7 @@ module _ (s : RunState) (m : ℕ) (t u : RunMap) (is : s.maps m ≡ Some t) wher
         packet = h.packet;
       }
 
+  -- if a map changes to one of the same shape, the state still has a map of each shape
   pub map_kept : (shapes : ℕ → Option MapShape)
       → ((shape : MapShape) → IsMapOf shape t → IsMapOf shape u)
       → HasMaps shapes s
@@ -110,6 +113,7 @@ module _ (s : RunState) (m : ℕ) (t u : RunMap) (is : s.maps m ≡ Some t) wher
           (λ b. let same = eqb-true k number b in size (omega arith))
           (λ _. h.sized k lt)
 
+-- if bytes replace the value of an object, the values of all objects are still bytes
 pub values_small : (t : RunMap) (number : ℕ) (new : List ℕ)
     → AreBytes new → ((k : ℕ) → AreBytes (t.values k))
     → (k : ℕ) → AreBytes (set_at t.values number new k)
@@ -125,6 +129,7 @@ module _ (s : RunState) (m number : ℕ) (shape : MapShape) (proper : IsInRange 
   size : length (object.map.values number) ≡ shape.value_size
   size = object.is.sized number object.owned
 
+  -- the bytes at offsets within an object are present
   pub object_read : (y : ℤ) (n : ℕ)
       → pos 0 ≤ℤ y → (y +ℤ pos n) ≤ℤ pos shape.value_size
       → (bs : List ℕ) × (object_bytes s m number y n ≡ Some bs) × (length bs ≡ n) × AreBytes bs
@@ -132,6 +137,7 @@ module _ (s : RunState) (m number : ℕ) (shape : MapShape) (proper : IsInRange 
       let r = value_read (object.map.values number) all y n low (subst (λ k. (y +ℤ pos n) ≤ℤ pos k) (sym size) high) in
       (r.0, ap (λ o. and_then o (λ t. value_bytes (t.values number) y n)) object.there ∙ r.1, r.2, r.3)
 
+  -- a write of bytes within an object changes no fact
   pub object_over : (witness : Witness) (f : Facts) (shapes : ℕ → Option MapShape) (y : ℤ) (bs : List ℕ)
       → AdmitsBy witness f s → HasMaps shapes s
       → AreBytes bs → pos 0 ≤ℤ y

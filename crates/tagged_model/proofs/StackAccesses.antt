@@ -12,9 +12,11 @@ use Rattle.tagged_model.specs.State.{access_start}
 
 -- ---- results
 
+-- a result is not both a reason and a value
 pub refused : {A : Type 0} (r : Reason) (y : A) → Err r ≡ Ok y → ⊥
 refused r y e = cc
 
+-- equal results have equal values
 pub same_ok : {A : Type 0} (x y : A) → ◌≡◌ {A = Result A Reason} (Ok x) (Ok y) → x ≡ y
 same_ok x y e = cc
 
@@ -54,6 +56,7 @@ at_byte_index offset size f y e =
       h.2,
     )
 
+-- each access has a byte
 pub some_bytes : (size : AccessSize) → 0 < bytes_of size
 some_bytes Byte = omega arith
 some_bytes Half = omega arith

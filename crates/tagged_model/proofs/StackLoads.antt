@@ -92,6 +92,7 @@ cell_gives witness (slot.Spill l) c p size signed k small even has e = absurd (r
 
 -- ---- loads from the stack
 
+-- if the facts allow a load from the stack, it gives a value of the kind that they predict
 pub stack_gives : (witness : Witness) (f : Facts) (s : RunState) (offset : ℤ) (size : AccessSize)
     (signed : Bool) (k : Kind)
     → IsInRange s → AdmitsBy witness f s

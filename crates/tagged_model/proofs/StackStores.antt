@@ -164,6 +164,7 @@ module _ (witness : Witness) (f : Facts) (s : RunState) (proper : IsInRange s) (
         packet = proper.packet;
       }
 
+  -- if the facts allow a store into the stack, the machine does it, and the facts after it admit the state after it
   pub stack_stored : (g : Facts) (offset : ℤ) (size : AccessSize) (k : Kind) (v : Tagged)
       → IsOfKind witness k v → stack_write f offset size k ≡ Ok g
       → (t : RunState) × (stack_store s offset size v ≡ Some t) × AdmitsBy witness g t × IsInRange t

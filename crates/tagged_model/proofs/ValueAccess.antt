@@ -19,6 +19,7 @@ low_bytes_small (suc n) x (suc k) d lt = low_bytes_small n (x / 256) k d (omega 
 
 -- ---- loads and stores
 
+-- a load within an object gives a value of the predicted kind
 pub value_loaded : ValueLoadAdmits
 value_loaded witness s m number shape y size signed proper object low high =
     let h = object_read s m number shape proper object y (bytes_of size) low high in
@@ -29,6 +30,7 @@ value_loaded witness s m number shape y size signed proper object low high =
       widened_is witness size signed (number_of h.0) small,
     )
 
+-- a store of a number within an object changes no fact
 pub value_stored : ValueStoreAdmits
 value_stored witness f shapes s m number shape y size n still object low high =
     let bs = low_bytes (bytes_of size) n in

@@ -38,6 +38,7 @@ new_byte c j k bs from to =
     (and_from (leb j k) (ltb k (j + length bs)) (le-leb j k from) (lt-ltb k (j + length bs) to))
     ∙ slice_get-get_or bs (k - j) 0 (omega arith)
 
+-- after the bytes of a number are written over a cell of bytes, it has only bytes
 pub over_small : (c : Cell) (j n x : ℕ) → AreBytes c → AreBytes (written_over c j (low_bytes n x))
 over_small c j n x small i b =
     cond_both (leb j i && ltb i (j + length (low_bytes n x))) (slice_get (low_bytes n x) (i - j))
@@ -53,6 +54,7 @@ touched_there c p n x k lt e =
     let at = only_touched p n k e in
     (get_or bs (k - p % 8) 0, new_byte c (p % 8) k bs at.0 (omega arith))
 
+-- after a number is written over some bytes of a cell, these and the bytes that were present are present
 pub both_there : (mask : ℕ) (c : Cell) (p n x : ℕ)
     → HasBytes mask c
     → HasBytes (bit_or mask (byte_bits p n)) (written_over c (p % 8) (low_bytes n x))

@@ -24,10 +24,11 @@ at_each P m here others handle = by (cases_eq handle m)
     by (inl same) = subst P (sym same) here
     by (inr other) = others handle other
 
+-- two lists of maps by handles are equal if each handle has the same map in both
 pub same_at : (f g : ℕ → Option Map) → ((i : ℕ) → f i ≡ g i) → at_handles f ≡ at_handles g
 same_at f g h = ap at_handles (fun_ext h)
 
--- if the map of one handle is set and the others are the same
+-- if one handle has this map and each other one the same as before, the list is that of before with this map set
 pub set_at : (f g : ℕ → Option Map) (n : ℕ) (x : Option Map)
     → n < most_maps → f n ≡ x
     → ((i : ℕ) → i ≢ n → f i ≡ g i)
@@ -87,10 +88,12 @@ map_of part o =
 abbrev pub map_if : List ℕ → Option LiveMap → Option Map
 map_if part o = option_map (λ l. map_of part o) o
 
+-- a handle has a live map, or none
 pub live_or_not : (o : Option LiveMap) → IsSome o ⊎ (o ≡ None)
 live_or_not None = inr refl
 live_or_not (Some l) = inl refl
 
+-- a live map that is present is not absent
 pub not_live : (o : Option LiveMap) → IsSome o → o ≡ None → ⊥
 not_live o some none = true≢false (sym some ∙ ap (λ (x : Option LiveMap). is_some x) none)
 
@@ -103,6 +106,7 @@ held_is_live t handle some = by (live_or_not (live_at t handle))
     by (inr gone) =
         absurd (let none : holds_at t handle ≡ 0 = ap (λ (o : Option LiveMap). (live_or o).holds) gone in omega arith)
 
+-- a handle with a live map has the map whose values are in the bytes of the part
 pub map_there : (part : List ℕ) (t : LiveMaps) (handle : ℕ)
     → IsSome (live_at t handle) → map_at part t handle ≡ Some (map_in part t handle)
 map_there part t handle live = by (live_at t handle) live
@@ -111,14 +115,16 @@ map_there part t handle live = by (live_at t handle) live
     by None some = absurd (true≢false (sym some))
     by (Some l) some = refl
 
+-- a handle without a live map has no map
 pub none_there : (part : List ℕ) (t : LiveMaps) (handle : ℕ) → live_at t handle ≡ None → map_at part t handle ≡ None
 none_there part t handle e = ap (map_if part) e
 
+-- a handle with the same live map has the same map in the same bytes
 pub same_live : (part : List ℕ) (old new : LiveMaps) (handle : ℕ)
     → live_at new handle ≡ live_at old handle → map_at part new handle ≡ map_at part old handle
 same_live part old new handle e = ap (map_if part) e
 
--- a map that is live before and after has the same pairs
+-- a map that is live before and after, with the same pairs, is the same map in the state
 pub same_map_at : (part later : List ℕ) (old new : LiveMaps) (handle : ℕ)
     → IsSome (live_at old handle) → IsSome (live_at new handle)
     → map_in later new handle ≡ map_in part old handle

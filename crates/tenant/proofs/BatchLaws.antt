@@ -31,6 +31,7 @@ batch_is_its_frames fd (frame ∷ frames) (input ∷ inputs) (result ∷ results
       batch_is_its_frames fd frames inputs results between after tests.1 rest,
     )
 
+-- runs of a program on packets have one result for each packet
 pub one_result_each : OneResultEach
 unfolding RunsInOrder
 one_result_each fd [] [] before after runs = refl
@@ -56,5 +57,6 @@ refused_object s words packet errno (Some (object.Map handle)) same = refused_by
 refused_object s words packet errno (Some (object.Program l)) same =
     long_by s l words packet errno (nat_lt longest_packet (length packet)) same
 
+-- the error of a run on a packet is that of the test-run command of the packet
 pub refused_as_its_frame : RefusedAsItsFrame
 refused_as_its_frame s fd words packet errno same = refused_object s words packet errno (named s.objects fd) same

@@ -33,6 +33,7 @@ with_room o contexts many ends room program enough =
     ap (λ (first : Option Errno). else_refusal first (packets_refusal contexts many ends room)) program
     ∙ ap (λ (b : Bool). if b then Some Invalid else option_map packet_errno (batch_fault contexts many ends)) no_fewer
 
+-- a batch on a program with room for fewer results than packets is rejected as invalid
 pub without_room : (o : Option OpenObject) (contexts many : ℕ) (ends : List ℕ) (room : ℕ)
     → object_refusal o ≡ None → room < length ends
     → batch_refusal o contexts many ends room ≡ Some Invalid
@@ -41,7 +42,7 @@ without_room o contexts many ends room program less =
     ap (λ (first : Option Errno). else_refusal first (packets_refusal contexts many ends room)) program
     ∙ ap (λ (b : Bool). if b then Some Invalid else option_map packet_errno (batch_fault contexts many ends)) fewer
 
--- the object is rejected
+-- the refusal of the object that is named comes before all others
 pub refused_first : {o p : Option OpenObject} {errno : Errno} (later : Option Errno)
     → o ≡ p → Some errno ≡ object_refusal o
     → Some errno ≡ else_refusal (object_refusal p) later

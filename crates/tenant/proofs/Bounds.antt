@@ -28,6 +28,7 @@ weights_are_positive code cost most =
 pub all_allowed : (o : Option OpenObject) (bound packets : ℕ) → bound ≡ 0 → IsAllowed o bound packets packets
 all_allowed o bound packets zero = (λ _. refl, λ other. absurd (other zero))
 
+-- for a program, the number of packets that a bound allows is the one that follows from the program's cost
 pub allowed_of_program : (o : Option OpenObject) (l : LoadedProgram) (cost : Cost) (bound packets n : ℕ)
     → bound ≢ 0 → o ≡ Some (object.Program l)
     → IsCostOf cost l.insns
@@ -45,6 +46,7 @@ allowed_otherwise None errno bound packets refused = (λ _. refl, λ _. refl)
 allowed_otherwise (Some (object.Map handle)) errno bound packets refused = (λ _. refl, λ _. refl)
 allowed_otherwise (Some (object.Program l)) errno bound packets refused = grind arith
 
+-- the cost of a program is the cost of the object that a descriptor names
 pub cost_of_program : (o : Option OpenObject) (l : LoadedProgram) (cost : Cost)
     → o ≡ Some (object.Program l) → IsCostOf cost l.insns → HasCost o (Some cost)
 cost_of_program o l cost is has =

@@ -158,6 +158,7 @@ closed_at objects fd o opened = by_test (nat_lt fd first_descriptor) refl opened
     by_test true is e = absurd (none-some o e)
     by_test false is e = (refl, at (slice_get objects (fd - first_descriptor)) refl e, ltb-false fd first_descriptor is)
 
+-- the handle of a descriptor among a program's maps is listed at least once
 pub bound_times : (ms : List (ℕ × ℕ)) (fd p : ℕ)
     → lookup (λ m. m == fd) ms ≡ Some p → 1 ≤ times_listed p (map (λ m. m.1) ms)
 unfolding times_listed
@@ -186,11 +187,16 @@ bound_times (m ∷ ms) fd p e = by_test (m.0 == fd) (λ found. bound_times ms fd
 -- the descriptor of an object is closed, and the holds of the object are released
 pub record IsClosed (k : KeptTenant) (objects : List (Option OpenObject)) (t : LiveMaps)
     (part later : List ℕ) (fd : ℕ) (o : OpenObject) : Type 0 where
+  -- the descriptor named the object
   pub opened : named k.objects fd ≡ Some o
+  -- the descriptor is closed, and no other
   pub closed : objects ≡ with_closed k.objects fd
+  -- each map that is still live has the shape, keys and values of before
   pub left : LeavesHeldMaps (record { live = k.live; part = part }) (record { live = t; part = later })
+  -- each map has lost as many holds as the object had of it
   pub fewer : (q : ℕ) → holds_at t q + times_named q o ≡ holds_at k.live q
 
+-- after a descriptor is closed and the holds of its object are released the tenant is well formed
 pub closed_kept : {k : KeptTenant} {objects : List (Option OpenObject)} {t : LiveMaps}
     {part later : List ℕ} {fd : ℕ} {o : OpenObject}
     → IsWellFormedTenant k → IsClosed k objects t part later fd o
@@ -231,7 +237,7 @@ closed_kept {k} {objects} {t} {part} {later} {fd} {o} is c =
           (now, shaped ∙ ap (λ (m : Map). Some m.shape) (sym same));
     }
 
--- the reply and the state are those of the machine
+-- the reply to a close of an open descriptor, and the state after it, are those of the machine
 pub closed_is : {k old : KeptTenant} {objects : List (Option OpenObject)} {t : LiveMaps}
     {part later : List ℕ} {fd : ℕ} {o : OpenObject}
     → k ≡ old → IsWellFormedTenant k
@@ -246,7 +252,7 @@ closed_is {k} {old} {objects} {t} {part} {later} {fd} {o} same is c =
     ∙ ap (closed (state_in part k) fd) (sym c.opened)
     ∙ ap (λ (x : KeptTenant). closed (state_in part x) fd (named x.objects fd)) same
 
--- a descriptor that is not open
+-- to close a descriptor that is not open changes nothing
 pub nothing_closed : (objects : List (Option OpenObject)) (fd : ℕ)
     → named objects fd ≡ None → with_closed objects fd ≡ objects
 nothing_closed objects fd e = by_test (nat_lt fd first_descriptor) e

@@ -16,7 +16,7 @@ use Rattle.tenant.specs.declared.object.OpenObject.{OpenObject}
 use Rattle.tenant.specs.declared.object.OpenObject.TheVariants as object
 use Rattle.tenant.proofs.Targets.{named_at}
 
--- the sum over one more descriptor
+-- one more descriptor adds the number of its object to the sum
 pub total_more : (f : OpenObject → ℕ) (xs : List (Option OpenObject)) (fd : ℕ)
     → first_descriptor ≤ fd → fd - first_descriptor < length xs
     → total f (take (fd + 1 - first_descriptor) xs) ≡ total f (take (fd - first_descriptor) xs) + weight f (named xs fd)
@@ -32,6 +32,7 @@ pub open_one : (r : Option (Bor OpenObject)) {o : Option OpenObject}
 open_one None is some = absurd (true≢false (sym some))
 open_one (Some x) is some = sym (ap (weight (λ y. 1)) is)
 
+-- a descriptor that is not open counts as none
 pub closed_none : (r : Option (Bor OpenObject)) {o : Option OpenObject}
     → option_copied r ≡ o → is_some r ≡ false → weight (λ x. 1) o ≡ 0
 closed_none None is none = sym (ap (weight (λ y. 1)) is)
@@ -45,6 +46,7 @@ program_one (Ok p) (Some (object.Map handle)) is some = absurd (none-some Invali
 program_one (Ok p) (Some (object.Program l)) is some = refl
 program_one (Err e) o is some = absurd (true≢false (sym some))
 
+-- a descriptor that names no program counts as no program
 pub program_none : {A : Type 0} (r : Result A Errno) (o : Option OpenObject)
     → result_err r ≡ object_refusal o → is_ok r ≡ false → weight one_program o ≡ 0
 program_none (Ok p) o is none = absurd (true≢false none)
@@ -63,6 +65,7 @@ as_counts maps entries bytes programs descriptors refused = record {
   memory_refused = refused;
 }
 
+-- counts with equal fields are equal
 pub same_counts : {a b c d e v w x y z : ℕ} {f g : Bool}
     → a ≡ v → b ≡ w
     → c ≡ x → d ≡ y

@@ -65,12 +65,13 @@ room (Some p) false e = (p, refl, refl)
 
 -- ---- a creation that is rejected
 
+-- a creation that succeeds has no fault, and its map is live with this handle
 pub created_ok : (o : Option MapFault) (old : LiveMaps) (shape : MapShape) (key : ℕ) (new : LiveMaps)
     → Creates o old shape (Ok key) new → (o ≡ None) × IsCreated old shape key new
 created_ok None old shape key new is = (refl, is)
 created_ok (Some f) old shape key new (is, same) = absurd (let wrong : Ok key ≡ Err f = is in cc wrong)
 
--- it is rejected for lack of room or of memory
+-- a creation that fails has its fault, or memory is refused and only the flag of this is set
 pub created_err : (o : Option MapFault) (old : LiveMaps) (shape : MapShape) (f : MapFault) (new : LiveMaps)
     → Creates o old shape (Err f) new
     → ((o ≡ Some f) × (new ≡ old))
@@ -115,6 +116,7 @@ room_within k m all low = let (within, free) = index_free k.live.maps m low in o
 abbrev pub kept_created : KeptTenant → LiveMaps → ℕ → ℕ → KeptTenant
 kept_created k t fd m = with_both k (with_open k.objects fd (object.Map m)) t
 
+-- after a new map is opened at the lowest free descriptor the tenant is well formed
 pub created_kept : {k : KeptTenant} {t : LiveMaps} {shape : MapShape} {m fd : ℕ}
     → IsWellFormedTenant k → length k.live.maps ≡ MAPS
     → lowest k.objects ≡ Some fd → IsCreated k.live shape m t
@@ -190,6 +192,7 @@ created_kept {k} {t} {shape} {m} {fd} is all low new = record {
 
 -- ---- the whole command
 
+-- the state after a map is created is that of the machine
 pub state_created : (part later : List ℕ) (k : KeptTenant) {t : LiveMaps} {shape : MapShape} {m : ℕ}
     (fd : ℕ)
     → length k.live.maps ≡ MAPS → IsCreated k.live shape m t
@@ -213,6 +216,7 @@ state_created part later k {t} {shape} {m} fd all new fresh keeps =
     other_map i other (inr none) =
         none_there later t i (new.others i other ∙ none) ∙ sym (none_there part k.live i none)
 
+-- without a fault the machine creates the map at the lowest free descriptor and the lowest free handle
 pub created_is : (refused : Bool) (part : List ℕ) (k : KeptTenant) (shape : MapShape) {handle fd : ℕ}
     → AreHeld k.live → length k.live.maps ≡ MAPS
     → lowest k.objects ≡ Some fd → create_fault k.live shape ≡ None
@@ -225,7 +229,7 @@ created_is refused part k shape {handle} {fd} is all low none free =
     ∙ ap (λ (o : Option ℕ). created_as refused (state_in part k) shape fd o)
     (room_is part k shape is all ∙ room_there ∙ sym lowest_is ∙ free)
 
--- if there is no room or no memory
+-- the reply to a creation that is rejected is the machine's for a refusal of memory or for lack of room
 pub create_refused : (part : List ℕ) (k : KeptTenant) (t : LiveMaps) (shape : MapShape)
     (f : MapFault) {fd : ℕ}
     → AreHeld k.live → length k.live.maps ≡ MAPS
@@ -262,6 +266,7 @@ create_refused part k t shape f {fd} is all low made =
               ∙ sym (created_is true part k shape is all low none free),
         )
 
+-- after a creation that is rejected the tenant is well formed
 pub refused_kept : (k : KeptTenant) (t : LiveMaps) (shape : MapShape) (f : MapFault)
     → IsWellFormedTenant k
     → Creates (create_fault k.live shape) k.live shape (Err f) t

@@ -46,18 +46,27 @@ done_delete (Ok p) key old new (is, same) = (p, refl, same)
 
 -- the key was removed from the map that the descriptor names, or this was rejected
 pub record IsRemoved (k : KeptTenant) (t : LiveMaps) (fd m : ℕ) (key : List ℕ) (r : Done) : Type 0 where
+  -- the descriptor names the live map of the handle
   pub found : IsMapOf k fd m
+  -- the key has the map's key size
   pub size : length key ≡ (shape_at k.live m).key_size
+  -- the key is removed from the map's table of keys, or this is rejected
   pub removed : Removes (removal (table_of (keys_at k.live m)) key) key (keys_at k.live m) r (keys_at t m)
+  -- only the keys of this map and their elements change
   pub rest : OnlyKeysChange m k.live t
+  -- the flag of refused memory is not changed
   pub refused : t.refused ≡ k.live.refused
 
 -- after that the run on the map is ended: no element of it is kept apart
 pub record IsEnded (m : ℕ) (old new : LiveMaps) : Type 0 where
+  -- the keys of the map and their elements are not changed, and no element is kept apart
   pub ended : keys_at new m ≡ after_run (keys_at old m)
+  -- only the keys of this map and their elements change
   pub rest : OnlyKeysChange m old new
+  -- the flag of refused memory is not changed
   pub refused : new.refused ≡ old.refused
 
+-- after a deletion that is rejected the tenant is well formed
 pub unremoved_kept : {k : KeptTenant} {t : LiveMaps} {fd m : ℕ} {key : List ℕ} {f : MapFault}
     → IsWellFormedTenant k → IsRemoved k t fd m key (Err f)
     → IsWellFormedTenant (with_live k t)
@@ -66,6 +75,7 @@ unremoved_kept {k} {t} {fd} {m} {key} {f} is c =
     refused_delete f (removal (table_of (keys_at k.live m)) key) key (keys_at k.live m) (keys_at t m) c.removed in
     keys_kept is c.found.live c.rest (ap (λ (p : KeyTable). p.kept) same ∙ is.maps.ended m)
 
+-- after a deletion and the end of the run on the map the tenant is well formed
 pub removed_kept : {k : KeptTenant} {t u : LiveMaps} {fd m : ℕ} {key : List ℕ} {r : Done}
     → IsWellFormedTenant k → IsRemoved k t fd m key r
     → IsEnded m t u
@@ -91,6 +101,7 @@ delete_is calls part {k} {t} {fd} {m} {key} c =
     ∙ ap (element_taken_out s m (map_in part k.live m) key)
     (calls.removal (value_in part k.live m) (table_of (keys_at k.live m)) key)
 
+-- the reply to a deletion that is rejected, and the state after it, are those of the machine
 pub delete_refused : LiveMapsRefineValues
     → CallsRefineValues ℕ (List ℕ)
     → (part : List ℕ) {k : KeptTenant} {t : LiveMaps} {fd m : ℕ} {key : List ℕ} {f : MapFault}
@@ -104,6 +115,7 @@ delete_refused along calls part {k} {t} {fd} {m} {key} {f} c =
     no_map part part k t (each_same part k.live t m c.found.live c.rest.live here c.rest.others) c.refused in
     ap (refuses (map_errno f)) state ∙ ap (taken_out part k m key) (sym told) ∙ sym (delete_is calls part c)
 
+-- the reply to a deletion that succeeds, and the state after it, are those of the machine
 pub deleted : LiveMapsRefineValues
     → CallsRefineValues ℕ (List ℕ)
     → (part : List ℕ) {k : KeptTenant} {t u : LiveMaps} {fd m : ℕ} {key : List ℕ}

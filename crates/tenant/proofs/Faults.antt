@@ -62,12 +62,14 @@ no_memory e = absurd (omega (arith, e))
 too_big : ◌≢◌ {A = ℕ} 249 242
 too_big e = absurd (omega (arith, e))
 
+-- the lowest byte of the status of slots that are no program is not that of a fault
 pub codec_other : (k : FaultKind) → low (status_of (codec_errno k)) ≢ 242
 codec_other kind.Empty = too_big
 codec_other kind.TooLong = too_big
 codec_other kind.Memory = no_memory
 codec_other other = invalid
 
+-- the lowest byte of the status of a program that is rejected is not that of a fault
 pub verdict_other : (why : Reason) → low (status_of (verdict_errno why)) ≢ 242
 verdict_other reason.JumpOutside = invalid
 verdict_other reason.JumpBackward = invalid

@@ -41,7 +41,7 @@ one_each : (part : List ℕ) (o : Option LiveMap) → weight (λ t. 1) (map_if p
 one_each part None = refl
 one_each part (Some l) = refl
 
--- as many maps are live
+-- the state has as many maps as are live
 pub maps_are : (part : List ℕ) (k : KeptTenant)
     → AreHeld k.live → total (λ t. 1) (state_in part k).maps ≡ total (λ l. 1) k.live.maps
 maps_are = sums_are (λ t. 1) (λ l. 1) one_each
@@ -51,7 +51,7 @@ same_keys : (part : List ℕ) (o : Option LiveMap)
 same_keys part None = refl
 same_keys part (Some l) = length-map l.keys.entries _
 
--- they have as many keys
+-- the maps of the state have as many keys as the live maps
 pub keys_are : (part : List ℕ) (k : KeptTenant)
     → AreHeld k.live
     → total (λ t. length t.entries) (state_in part k).maps ≡ total (λ l. length l.keys.entries) k.live.maps

@@ -20,6 +20,7 @@ use Rattle.tenant.proofs.Named.{named_is_live}
 use Rattle.tenant.proofs.LoadingHandles.{seconds, handles_keys, lookup_named, times_named, times_once, length-seconds, length-firsts, paired}
 use Rattle.tenant.proofs.LoadingShapes.{shapes_picked, shape_is, shaped_map}
 
+-- a loaded program is determined by its instructions, its targets and its maps
 pub loaded_is : (l : LoadedProgram) (insns : List Insn) (named : List Named) (maps : List (ℕ × ℕ))
     → l.insns ≡ insns → l.named ≡ named
     → l.maps ≡ maps
@@ -29,7 +30,7 @@ loaded_is l insns named maps a b c =
     ∙ ap (λ (ns : List Named). record { insns = insns; named = ns; maps = l.maps }) b
     ∙ ap (λ (ms : List (ℕ × ℕ)). record { insns = insns; named = named; maps = ms }) c
 
--- the map of a handle of the program is live
+-- the handle of each map that descriptors name is live
 pub loaded_live : {k : KeptTenant}
     → IsWellFormedTenant k
     → (fds : List ℕ) → AreLive k.live (seconds (handles_from k.objects fds))
@@ -46,6 +47,7 @@ module _ (have : LoadedMapsHaveShapes) (k : KeptTenant) (part : List ℕ) (insns
       (get_or_from_slice_get (maps_of insns) i fd 0 at)
       (have.named insns (targets (state_in part k)) accepted i 0 (slice_get_within (maps_of insns) i fd at))))
 
+  -- an accepted program has as many handles as it loads maps
   pub loaded_count : length (seconds (handles_from k.objects (maps_of insns))) ≡ length (maps_of insns)
   loaded_count =
       let ms = handles_from k.objects (maps_of insns) in length-seconds ms ∙ sym (length-firsts ms) ∙ ap length keys
@@ -57,6 +59,7 @@ module _ (have : LoadedMapsHaveShapes) (k : KeptTenant) (part : List ℕ) (insns
       let ms = handles_from k.objects (maps_of insns) in
       ap (λ (fds : List ℕ). zip fds (seconds ms)) (sym keys) ∙ paired ms
 
+  -- an accepted program is bound to the live maps that its descriptors name
   pub loaded_bound : MapsAreListed → IsWellFormedTenant k → IsBound k.live (loaded_program (state_in part k) insns)
   loaded_bound listed is = record {
     each = keys;

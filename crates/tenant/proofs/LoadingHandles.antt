@@ -28,11 +28,13 @@ abbrev pub listed : Option ℕ → ℕ → List (ℕ × ℕ)
 listed None fd = []
 listed (Some handle) fd = (fd, handle) ∷ []
 
+-- the entry of a descriptor is the one with the handle that its object names
 pub listed_at : (o : Option OpenObject) (fd : ℕ) → handle_at o fd ≡ listed (named_handle o) fd
 listed_at None fd = refl
 listed_at (Some (object.Map handle)) fd = refl
 listed_at (Some (object.Program l)) fd = refl
 
+-- the entries of a list of descriptors are that of the first, then those of the others
 pub handles_cons : (objects : List (Option OpenObject)) (fd : ℕ) (fds : List ℕ) (o : Option OpenObject)
     → named objects fd ≡ o
     → handles_from objects (fd ∷ fds) ≡ handle_at o fd ++ handles_from objects fds
@@ -41,6 +43,7 @@ handles_cons objects fd fds None e = rw e refl
 handles_cons objects fd fds (Some (object.Map handle)) e = rw e refl
 handles_cons objects fd fds (Some (object.Program l)) e = rw e refl
 
+-- the empty list of descriptors has no entries
 pub handles_none : (objects : List (Option OpenObject)) → handles_from objects [] ≡ []
 unfolding handles_from
 handles_none objects = refl
@@ -62,6 +65,7 @@ handles_next objects (x ∷ fds) (suc i) fd within at =
     ∙ ap (λ (ms : List (ℕ × ℕ)). ms ++ handle_at (named objects fd) fd)
     (sym (handles_cons objects x (take i fds) (named objects x) refl))
 
+-- one more descriptor of a list adds its entry at the end
 pub handles_more : (objects : List (Option OpenObject)) (fds : List ℕ) (i fd : ℕ) → i < length fds → get_or fds i 0 ≡ fd
     → handles_from objects (take (i + 1) fds) ≡ handles_from objects (take i fds) ++ handle_at (named objects fd) fd
 handles_more objects fds i fd within at =
@@ -74,6 +78,7 @@ abbrev pub AreMaps : List (Option OpenObject) → List ℕ → Type 0
 AreMaps objects fds =
     (i fd : ℕ) → slice_get fds i ≡ Some fd → (handle : ℕ) × (named objects fd ≡ Some (object.Map handle))
 
+-- if all descriptors of a list name maps, the entries have these descriptors in this order
 pub handles_keys : (objects : List (Option OpenObject)) (fds : List ℕ)
     → AreMaps objects fds → keys_of (handles_from objects fds) ≡ fds
 handles_keys objects [] maps = ap keys_of (handles_none objects)
@@ -104,6 +109,7 @@ first_handle objects fd fds = by_object (named objects fd) refl
 abbrev IsListed : List (Option OpenObject) → List ℕ → ℕ → ℕ → Type 0
 IsListed objects fds fd handle = (i : ℕ) × (slice_get fds i ≡ Some fd) × (named objects fd ≡ Some (object.Map handle))
 
+-- a descriptor with a handle among the entries is in the list, and names the map of this handle
 pub lookup_named : (objects : List (Option OpenObject)) (fds : List ℕ) (fd handle : ℕ)
     → lookup (λ m. m == fd) (handles_from objects fds) ≡ Some handle
     → (i : ℕ) × (slice_get fds i ≡ Some fd) × (named objects fd ≡ Some (object.Map handle))
@@ -147,6 +153,7 @@ times_of_none objects handle = ap (λ (ms : List (ℕ × ℕ)). times_listed han
 abbrev IsAmong : List (Option OpenObject) → List ℕ → ℕ → Type 0
 IsAmong objects fds handle = (i fd : ℕ) × (slice_get fds i ≡ Some fd) × (named objects fd ≡ Some (object.Map handle))
 
+-- if a handle is among the entries, some descriptor of the list names its map
 pub times_named : (objects : List (Option OpenObject)) (fds : List ℕ) (handle : ℕ)
     → 1 ≤ times_listed handle (seconds (handles_from objects fds))
     → (i fd : ℕ) × (slice_get fds i ≡ Some fd) × (named objects fd ≡ Some (object.Map handle))
@@ -184,7 +191,7 @@ total-two f xs i j x y apart a b =
     let part = total-part f (set xs i None) j y (set_there xs i j None apart ∙ b) in
     omega arith
 
--- a map is named by at most one descriptor
+-- two descriptors that name the same map are equal
 pub one_names : (objects : List (Option OpenObject)) (a b handle : ℕ)
     → descriptors handle objects ≤ 1 → named objects a ≡ Some (object.Map handle)
     → named objects b ≡ Some (object.Map handle)
@@ -212,6 +219,7 @@ times_zero : (n : ℕ) → (1 ≤ n → ⊥) → n ≡ 0
 times_zero zero h = refl
 times_zero (suc n) h = absurd (h (omega arith))
 
+-- if no map has two descriptors and the list has none twice, no handle is twice among the entries
 pub times_once : (objects : List (Option OpenObject)) (fds : List ℕ)
     → ((handle : ℕ) → descriptors handle objects ≤ 1)
     → AreApart fds
@@ -251,13 +259,15 @@ times_once objects (x ∷ fds) single apart handle =
 
 -- ---- the handles of all of them
 
+-- the handles of the entries are as many as the entries
 pub length-seconds : (ms : List (ℕ × ℕ)) → length (seconds ms) ≡ length ms
 length-seconds ms = length-map ms (λ m. m.1)
 
+-- the descriptors of the entries are as many as the entries
 pub length-firsts : (ms : List (ℕ × ℕ)) → length (keys_of ms) ≡ length ms
 length-firsts ms = length-map ms (λ m. m.0)
 
--- descriptors with the handles of the maps that they name
+-- the descriptors of entries, each with its handle, are the entries
 pub paired : (ms : List (ℕ × ℕ)) → zip (keys_of ms) (seconds ms) ≡ ms
 paired [] = refl
 paired (m ∷ ms) = ap (λ (ns : List (ℕ × ℕ)). m ∷ ns) (paired ms)

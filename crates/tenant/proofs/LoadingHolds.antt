@@ -10,11 +10,17 @@ use Rattle.tenant.proofs.Releases.{one_at, here_one, none_one}
 
 -- the live maps after a hold of the map of a handle
 pub record IsHeld (old new : LiveMaps) (handle : ℕ) : Type 0 where
+  -- the live map of the handle is that of before with one more hold
   pub more : live_at new handle ≡ option_map one_more (live_at old handle)
+  -- the handle has a live map
   pub live : IsSome (live_at new handle)
+  -- its map has one more hold
   pub holds : holds_at new handle ≡ holds_at old handle + 1
+  -- the table of keys of its map is not changed
   pub keys : keys_at new handle ≡ keys_at old handle
+  -- the live map of another handle is not changed
   pub others : (other : ℕ) → other ≢ handle → live_at new other ≡ live_at old other
+  -- the flag of refused memory is not changed
   pub refused : new.refused ≡ old.refused
 
 same_map : (part : List ℕ) (o : Option LiveMap) → map_if part (option_map one_more o) ≡ map_if part o
@@ -34,6 +40,7 @@ module _ {old new : LiveMaps} {handle : ℕ} (is : AreHeld old) (there : IsSome 
       at_each (λ q. keys_at new q ≡ keys_at old q) handle h.keys
       (λ q other. ap (λ (o : Option LiveMap). (live_or o).keys) (h.others q other))
 
+  -- the map of this handle has one more hold, and each other map as many as before
   pub holds_one : (q : ℕ) → holds_at new q ≡ holds_at old q + one_at handle q
   holds_one =
       at_each (λ q. holds_at new q ≡ holds_at old q + one_at handle q) handle
@@ -43,6 +50,7 @@ module _ {old new : LiveMaps} {handle : ℕ} (is : AreHeld old) (there : IsSome 
       let none = none_one handle q other in
       omega arith)
 
+  -- after one more hold the same maps are live
   pub held_one : IsHeldMore old new
   held_one = record {
     held = record {
@@ -61,9 +69,11 @@ module _ {old new : LiveMaps} {handle : ℕ} (is : AreHeld old) (there : IsSome 
     refused = h.refused;
   }
 
+-- without one more hold the same maps are live
 pub held_all : {live : LiveMaps} → AreHeld live → IsHeldMore live live
 held_all is = record { held = is; live = λ q there. there; shape = λ q. refl; same = λ part q. refl; refused = refl }
 
+-- if the same maps are live after some holds, and then after others, they are live after all of them
 pub held_then : {a b c : LiveMaps} → IsHeldMore a b → IsHeldMore b c → IsHeldMore a c
 held_then h k = record {
   held = k.held;

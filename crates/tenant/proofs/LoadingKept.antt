@@ -30,6 +30,7 @@ weight-most : (k : KeptTenant)
 weight-most k is q i (object.Map p) there = one_at_most (p == q)
 weight-most k is q i (object.Program l) there = (is.bound i l there).once q
 
+-- the number of a map's holds and of those of a new program together fits in 32 bits
 pub few_hold : {k : KeptTenant} {l : LoadedProgram}
     → IsWellFormedTenant k → IsBound k.live l
     → (q : ℕ) → holds_at k.live q + times_listed q (map_handles l) < 4294967296
@@ -48,6 +49,7 @@ still_bound more was = bound_along was more.live (λ handle live. more.shape han
 same_program : (l m : LoadedProgram) → object.Program m ≡ object.Program l → l ≡ m
 same_program l m e = cc
 
+-- after a program that holds its maps is opened at the lowest free descriptor the tenant is well formed
 pub opened_kept : {k : KeptTenant} {t : LiveMaps} {fd : ℕ} {l : LoadedProgram}
     → IsWellFormedTenant k → lowest k.objects ≡ Some fd
     → IsBound k.live l → IsHeldMore k.live t
@@ -77,7 +79,7 @@ opened_kept {k} {t} {fd} {l} is low bound more holds = record {
     bound_of m n (inl (here, same)) = subst (IsBound t) (same_program l m same) (still_bound more bound)
     bound_of m n (inr (other, there)) = still_bound more (is.bound n m there)
 
--- the state after the load
+-- the state after a program is opened is the machine's
 pub state_opened : (part : List ℕ) (k : KeptTenant) {t : LiveMaps} (fd : ℕ) (l : LoadedProgram)
     → IsHeldMore k.live t
     → state_in part (kept_opened k t fd l) ≡ with_program (state_in part k) fd l
@@ -86,7 +88,7 @@ state_opened part k {t} fd l more =
     record { objects = with_open k.objects fd (object.Program l); maps = ms; refused = k.refused || b })
     (same_at (map_at part t) (map_at part k.live) (more.same part)) more.refused
 
--- the invariant after a refusal of memory
+-- a well-formed tenant is still well formed after a refusal of memory
 pub flagged_kept : {k : KeptTenant}
     → IsWellFormedTenant k
     → IsWellFormedTenant (record { objects = k.objects; live = k.live; refused = true })

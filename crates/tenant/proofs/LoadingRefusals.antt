@@ -11,10 +11,11 @@ use Rattle.tenant.specs.inside.Loading.{with_program}
 use Rattle.tenant.specs.Machine.{Answer, refuses, refuses_load, opens, loaded_program, targets, LoadsAs, LoadsUnder, Loads}
 use Rattle.tenant.specs.State.{TenantState}
 
--- a property of the value of a result, or of its error
+-- a property of the value of a result holds for the value that it has
 pub of_ok : {T E : Type 0} (r : Result T E) (x : T) (P : T → Type 0) → r ≡ Ok x → IfOk r P → P x
 of_ok r x P is holds = subst (λ s. IfOk s P) is holds
 
+-- a property of the error of a result holds for the error that it has
 pub of_err : {T E : Type 0} (r : Result T E) (e : E) (P : E → Type 0) → r ≡ Err e → IfErr r P → P e
 of_err r e P is holds = subst (λ s. IfErr s P) is holds
 
@@ -38,6 +39,7 @@ under_free refused s kind fd slots answer socket low loads =
     socket_filter refused s kind slots answer socket
     (subst (λ (o : Option ℕ). LoadsUnder refused s o slots answer) (sym low) loads)
 
+-- the machine may reject a socket filter with the verifier's refusal, if a descriptor is free
 pub load_refused : (s : TenantState) (kind fd : ℕ) (slots : List ℕ) (refusal : Refusal)
     → kind ≡ 1 → lowest s.objects ≡ Some fd
     → Judges (targets s) slots (Err refusal)
@@ -47,6 +49,7 @@ load_refused s kind fd slots refusal socket low is = (
   under_free false s kind fd slots (refuses_load refusal s) socket low (Err refusal, is, refl),
 )
 
+-- the machine may open an accepted socket filter at the lowest free descriptor
 pub program_opened : (s : TenantState) (kind fd : ℕ) (slots : List ℕ) (l : LoadedProgram)
     → kind ≡ 1 → lowest s.objects ≡ Some fd
     → Judges (targets s) slots (Ok l.insns) → l ≡ loaded_program s l.insns

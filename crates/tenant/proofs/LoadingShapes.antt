@@ -49,13 +49,14 @@ among (x ∷ fds) zero fd there =
     let same : (x == fd) ≡ true = eq-eqb x fd (same_Some x fd there) in ap (λ (b : Bool). b || is_among fds fd) same
 among (x ∷ fds) (suc i) fd there = ap (λ (b : Bool). (x == fd) || b) (among fds i fd there) ∙ or-true (x == fd)
 
--- a descriptor that is selected has the same shape
+-- a descriptor of the list has the same shape among the selected entries as among all
 pub shapes_picked : (fds : List ℕ) (ns : List Named) (i fd : ℕ)
     → slice_get fds i ≡ Some fd → shapes_named (entries_of fds ns) fd ≡ shapes_named ns fd
 shapes_picked fds ns i fd there = ap shape_in (picked (is_among fds) ns fd (among fds i fd there))
 
 -- ---- the targets of the open descriptors
 
+-- the target of a descriptor in a list with one more entry in front, which may be absent
 pub entry_target : ℕ → Option Target → List Named → ℕ → Option Target
 entry_target fd None rest other = at.target_of rest other
 entry_target fd (Some t) rest other = if fd == other then Some t else at.target_of rest other
@@ -104,6 +105,7 @@ from_on s from fd (x ∷ xs) (suc n) e =
     ∙ other_entry from (and_then x (object_target s)) (targets_from s (from + 1) xs) fd (λ same. omega arith)
     ∙ from_on s (from + 1) fd xs n (omega arith)
 
+-- the target that the verifier reads at a descriptor is that of the object that it names
 pub targets_named : (s : TenantState) (fd : ℕ)
     → at.target_of (targets s) fd ≡ and_then (named s.objects fd) (object_target s)
 targets_named s fd = by_test (nat_lt fd first_descriptor) refl
@@ -122,7 +124,7 @@ targets_named s fd = by_test (nat_lt fd first_descriptor) refl
         from_on s first_descriptor fd s.objects (fd - first_descriptor) (omega (arith, low))
         ∙ ap (λ (o : Option OpenObject). and_then o (object_target s)) (sym (named_at s.objects fd low))
 
--- the shape of a map
+-- the shape that the verifier reads at a descriptor is that of the live map that it names
 pub shape_is : (s : TenantState) (fd handle : ℕ) (t : Map)
     → named s.objects fd ≡ Some (object.Map handle)
     → live s handle ≡ Some t

@@ -15,11 +15,12 @@ use Rattle.tenant.specs.Kept.{KeptTenant, map_at, state_in}
 use Rattle.tenant.specs.inside.Named.{IsMapOf}
 use Rattle.tenant.proofs.AtHandles.{at-within, map_there}
 
--- the map of a handle
+-- the map of a handle in the state is the one that the bytes of the part give
 pub live_is : (part : List ℕ) (k : KeptTenant) (handle : ℕ)
     → handle < most_maps → live (state_in part k) handle ≡ map_at part k.live handle
 live_is part k handle within = at-within (map_at part k.live) handle within
 
+-- a map that a descriptor names is live in the state, with the values in the part
 pub live_named : (part : List ℕ) {k : KeptTenant} {fd handle : ℕ}
     → IsMapOf k fd handle → live (state_in part k) handle ≡ Some (map_in part k.live handle)
 live_named part {k} {fd} {handle} found = live_is part k handle found.within ∙ map_there part k.live handle found.live
@@ -41,14 +42,15 @@ on_map_is part {k} {fd} {handle} fits f {b} found is =
 abbrev pub has_size : List ℕ → Map → Bool
 has_size key t = length key == t.shape.key_size
 
+-- a test whether two sizes are equal holds if they are
 pub same_size : (n : ℕ) {m : ℕ} → n ≡ m → (n == m) ≡ true
 same_size n {m} same = eq-eqb n m same
 
--- a key of another size
+-- a test whether two sizes are equal fails if they are not
 pub other_size : (n : ℕ) {a m : ℕ} → n ≢ a → a ≡ m → (n == m) ≡ false
 other_size n {a} {m} other same = ne_eqb n m (λ e. other (e ∙ sym same))
 
--- the value of the element that was found, if one was found
+-- the reply to a look-up with a key of the map's size is the value of the element that was found, or NoEntry
 pub found_at : CallsRefineValues ℕ (List ℕ)
     → (part : List ℕ) {k : KeptTenant} {fd handle : ℕ} (key : List ℕ) {r : Option ℕ}
     → IsMapOf k fd handle

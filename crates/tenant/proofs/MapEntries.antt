@@ -52,11 +52,13 @@ module _ {K : Type 0} {J : Type 0} (f : K × ℕ → J) where
       by true g r = g
       by false g r = r
 
+  -- the next of the entries with other keys is the next entry with its other key
   pub next_moved : (element : Option ℕ) (es : List (K × ℕ))
       → next_entry element (map moved es) ≡ option_map moved (next_entry element es)
   next_moved None es = first_moved es
   next_moved (Some p) es = behind_moved p es
 
+  -- the entries with other keys have the same elements
   pub elements_moved : (es : List (K × ℕ)) → values_of (map moved es) ≡ values_of es
   elements_moved [] = refl
   elements_moved (e ∷ es) = ap (λ (ps : List ℕ). e.1 ∷ ps) (elements_moved es)
@@ -66,6 +68,7 @@ module _ {K : Type 0} {J : Type 0} (f : K × ℕ → J) where
 abbrev with_value : List ℕ → LiveMaps → ℕ → List ℕ × ℕ → List ℕ × List ℕ
 with_value part t k e = (e.0, value_in part t k e.1)
 
+-- the next numbered entry of a map is the next one of its table of keys, with its value
 pub next_numbered : (part : List ℕ) (t : LiveMaps) (k : ℕ) (element : Option ℕ)
     → next_entry element (numbered_entries part t k)
     ≡ option_map (λ (e : List ℕ × ℕ). (with_value part t k e, e.1)) (next_entry element (keys_at t k).entries)
@@ -93,6 +96,7 @@ none_follows : (element : Option ℕ) → next_entry {K = List ℕ} element [] �
 none_follows None = refl
 none_follows (Some p) = refl
 
+-- a map that is not live has no next entry
 pub none_numbered : (part : List ℕ) (t : LiveMaps) (k : ℕ) (element : Option ℕ)
     → is_some (live_at t k) ≡ false → None ≡ next_entry element (numbered_entries part t k)
 none_numbered part t k element none =
@@ -102,6 +106,7 @@ none_numbered part t k element none =
     (no_entries (live_at t k) none)
     ∙ ap (option_map (λ (e : List ℕ × ℕ). (with_value part t k e, e.1))) (none_follows element))
 
+-- if tables of keys are sound, no element is twice among the entries of a map
 pub numbered_once : (part : List ℕ) (t : LiveMaps) (k : ℕ)
     → AreSound t
     → (p : ℕ) → occurrences p (values_of (numbered_entries part t k)) ≤ 1

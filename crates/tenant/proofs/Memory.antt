@@ -78,7 +78,7 @@ load_by : (socket : Bool) (s : TenantState) (o : Option ℕ) (slots : List ℕ) 
 load_by true s o slots a x is = load_told s o slots a is
 load_by false s o slots a x is = inl is
 
--- whether memory is refused or not
+-- a result is that without a refusal of memory, or memory is refused to a command that takes some
 pub told_or_refused : (refused : Bool) (s : TenantState) (command : Command) (a : Answer) → Answers refused s command a
     → Answers false s command a ⊎ ((takes_memory command ≡ true) × (a ≡ refuses_for_memory s))
 told_or_refused false s command a is = inl is
@@ -209,7 +209,7 @@ module _ (s : TenantState) where
   closed_other fd None = not_open
   closed_other fd (Some o) = (unlike 0 refl, refl)
 
-  -- a command other than a creation or a load
+  -- a command that takes no memory has no status of a refusal of memory, and the flag is not changed
   pub answer_other : (refused : Bool) (command : Command) (a : Answer)
       → Answers refused s command a → takes_memory command ≡ false → IsOther s a
   answer_other refused (map_create kind key value max flags) a is differs =
@@ -295,7 +295,9 @@ flag_kept s other a is = (answer_other s false other a is refl).1
 
 -- slots are rejected for a fault, and a program by a rule, never since memory is refused
 pub record NoVerdictIsMemory : Type 0 where
+  -- no slots are rejected since memory is refused
   pub slots : (bytes : List ℕ) (fault : CodecFault) → IsProgramFault bytes fault → fault.kind ≢ kind.Memory
+  -- no rule rejects a program since memory is refused
   pub rules : (code : List Insn) (named : List Named) (slot : ℕ) (why : Reason)
       → IsRefused code named slot why → why ≢ reason.Memory
 

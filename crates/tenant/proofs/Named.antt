@@ -10,7 +10,7 @@ use Rattle.tenant.proofs.Closes.{closed_at}
 use Rattle.tenant.proofs.Releases.{here_one}
 use Rattle.tenant.proofs.Sums.{total-part}
 
--- an open object has its holds among the holders
+-- an object that is open names a map no more times than all open objects do
 pub named_held : (objects : List (Option OpenObject)) (fd : ℕ) (o : OpenObject)
     → named objects fd ≡ Some o → (q : ℕ) → times_named q o ≤ holders q objects
 named_held objects fd o opened q =
@@ -28,6 +28,6 @@ named_is_live {k} {handle} is fd opened =
     let live = held_is_live k.live handle (omega arith) in
     record { opened = opened; live = live; within = is.maps.within handle live }
 
--- a map that was found is in an equal state
+-- a descriptor that names the map of a handle in a tenant names it in an equal one
 pub map_in_state : {old k : KeptTenant} {fd handle : ℕ} → k ≡ old → IsMapOf old fd handle → IsMapOf k fd handle
 map_in_state {fd = fd} {handle = handle} same found = subst (λ (x : KeptTenant). IsMapOf x fd handle) (sym same) found

@@ -41,6 +41,7 @@ new_is_kept live none = record {
   bound = λ n l there. absurd (none-some (object.Program l) (sym (get_or-none most n) ∙ there));
 }
 
+-- a tenant without open objects and live maps is well formed
 pub empty_is_kept : (objects : List (Option OpenObject)) (live : LiveMaps)
     → objects ≡ nothing_open → live.maps ≡ replicate MAPS None
     → IsWellFormedTenant (record { objects = objects; live = live; refused = false })

@@ -24,7 +24,7 @@ right_size : (n m size : ℕ) (empty : Bool)
 right_size n m size empty e is (inl (full, same)) = rw (sym e ∙ full) (eq-eqb n m (same ∙ is))
 right_size n m size empty e is (inr none) = rw (sym e ∙ none) refl
 
--- the reply is the next key in the table of keys
+-- the reply to a request for the next key is the one that the table of keys gives
 pub next_is : CallsRefineValues ℕ (List ℕ)
     → (part : List ℕ) {k : KeptTenant} {fd handle : ℕ} (key : List ℕ) {size : ℕ} {empty : Bool} {r : Option (List ℕ)}
     → IsMapOf k fd handle → size ≡ (shape_at k.live handle).key_size
@@ -38,7 +38,7 @@ next_is along part {k} {fd} {handle} key {size} {empty} {r} found size_is e eith
     ∙ sym (on_map_is part (is_empty_or_fits key) (λ p t. gives_if_found s (next_of t key)) found
     (right_size (length key) (shape_at k.live handle).key_size size empty e size_is either))
 
--- a key of another size
+-- the machine rejects a request for the key after one of another size as invalid
 pub refused_key : (part : List ℕ) {k : KeptTenant} {fd handle : ℕ} (key : List ℕ)
     → IsMapOf k fd handle → (length key == 0) ≡ false
     → (length key == (shape_at k.live handle).key_size) ≡ false

@@ -34,6 +34,7 @@ loads_by : OneJudgement
 loads_by one true refused s o slots x a b h k = loads_under one refused s o slots a b h k
 loads_by one false refused s o slots x a b h k = h ∙ sym k
 
+-- a command has one result, if slots have one judgement
 pub one_answer_is : OneJudgement → OneAnswer
 one_answer_is one refused s (prog_load kind slots) a b x y =
     loads_by one (kind == 1) refused s (table.lowest s.objects) slots _ a b x y
@@ -48,6 +49,7 @@ one_frame : OneAnswer
 one_frame one refused s (Err fault) a b x y = x ∙ sym y
 one_frame one refused s (Ok command) a b x y = one refused s command a b x y
 
+-- a frame has one reply, if a command has one result
 pub one_reply_is : OneAnswer → OneReply
 one_reply_is one refused frame x y None a b h k = (h.1 ∙ sym k.1, h.0 ∙ sym k.0)
 one_reply_is one refused frame x y (Some s) a b (p, h, x_is, a_is) (q, k, y_is, b_is) =
@@ -56,6 +58,7 @@ one_reply_is one refused frame x y (Some s) a b (p, h, x_is, a_is) (q, k, y_is, 
       a_is ∙ ap (λ (r : Answer). Some r.after) same ∙ sym b_is,
     )
 
+-- the frames of a tenant have one list of replies without refusals, if a frame has one reply
 pub one_alone_is : OneReply → OneAlone
 one_alone_is one before a b [] [] [] h k = (refl, h ∙ sym k)
 one_alone_is one before a b [] (x ∷ xs) ys h k = absurd h

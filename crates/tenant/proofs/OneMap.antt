@@ -8,7 +8,7 @@ use Rattle.tenant.specs.Kept.{KeptTenant, map_at, state_in}
 use Rattle.tenant.proofs.AtHandles.{at_each, set_at, same_at, same_live, same_map_at, map_there}
 use Rattle.tenant.proofs.StillKept.{with_live}
 
--- the state after a command that changes one map
+-- if only one map differs, the state is that of before with this map at its handle
 pub one_map : (part later : List ℕ) (k : KeptTenant) (t : LiveMaps) (handle : ℕ) {changed : Map}
     → handle < most_maps → IsSome (live_at t handle)
     → ((other : ℕ) → other ≢ handle → map_at later t other ≡ map_at part k.live other)
@@ -23,7 +23,7 @@ one_map part later k t handle {changed} within live others here flag =
     record { objects = k.objects; maps = ms; refused = k.refused || refused })
     maps flag
 
--- the state after a command that changes no map
+-- if each handle has the same map as before, the state is not changed
 pub no_map : (part later : List ℕ) (k : KeptTenant) (t : LiveMaps)
     → ((handle : ℕ) → map_at later t handle ≡ map_at part k.live handle)
     → t.refused ≡ k.live.refused

@@ -8,7 +8,7 @@ use Rattle.fd_table.specs.Table.{first_descriptor, lowest, with_open}
 use Rattle.bpf_maps.specs.Sum.{total}
 use Rattle.tenant.proofs.Sums.{total-set}
 
--- the element at an index after one is filled
+-- an element that is present after one is put is the new one, or was present at the same index before
 pub set_cases : {A : Type 0} (xs : List (Option A)) (n i : ℕ) (x y : A)
     → n < length xs → get_or (set xs n (Some x)) i None ≡ Some y
     → ((i ≡ n) × (y ≡ x)) ⊎ ((i ≢ n) × (get_or xs i None ≡ Some y))
@@ -25,16 +25,18 @@ set_cases xs n i x y within there = by_index (cases_eq i n)
         )
     by_index (inr other) = inr (other, sym (get_or-set_other xs n i (Some x) None other) ∙ there)
 
+-- the element at an index that is not set is not changed
 pub set_there : {A : Type 0} (xs : List (Option A)) (n i : ℕ) (x : Option A)
     → i ≢ n → get_or (set xs n x) i None ≡ get_or xs i None
 set_there xs n i x other = get_or-set_other xs n i x None other
 
--- an entry that was freed
+-- the index of an entry that is freed has no element
 pub unset_here : {A : Type 0} (xs : List (Option A)) (n : ℕ) → get_or (set xs n None) n None ≡ None
 unset_here [] n = refl
 unset_here (x ∷ xs) zero = refl
 unset_here (x ∷ xs) (suc n) = unset_here xs n
 
+-- an element that is present after an entry is freed is at another index, and was present before
 pub unset_cases : {A : Type 0} (xs : List (Option A)) (n i : ℕ) (y : A)
     → get_or (set xs n None) i None ≡ Some y → (i ≢ n) × (get_or xs i None ≡ Some y)
 unset_cases xs n i y there = by_index (cases_eq i n)
@@ -73,11 +75,13 @@ descriptor_free xs fd e = by_position (position is_none xs) refl e
         let (within, free) = index_free xs n p in
         (omega (arith, within, same), ap (λ (m : ℕ). get_or xs m None) (sym same) ∙ free)
 
+-- after an object is opened at the lowest free descriptor the sum is greater by its number
 pub opened_sum : {A : Type 0} (f : A → ℕ) (xs : List (Option A)) (fd : ℕ) (x : A)
     → lowest xs ≡ Some fd → total f (with_open xs fd x) ≡ total f xs + f x
 opened_sum f xs fd x e =
     let (within, free) = descriptor_free xs fd e in total-set f xs (fd - first_descriptor) x within free
 
+-- if a descriptor is free, some descriptor is the lowest free one
 pub some_lowest : {A : Type 0} (xs : List (Option A)) → is_none (lowest xs) ≡ false → (fd : ℕ) × (lowest xs ≡ Some fd)
 some_lowest xs e = by_option (lowest xs) refl e
   where

@@ -52,12 +52,19 @@ was_live old new handle e live =
 -- ---- a release of the map of a handle
 
 pub record IsReleased (old new : LiveMaps) (part later : List ℕ) (handle : ℕ) : Type 0 where
+  -- the map of the handle has one hold less, and is absent if it had no other
   pub less : held_at new handle ≡ one_less (held_at old handle)
+  -- the handle has no live map if this was the last hold
   pub gone : holds_at old handle ≤ 1 → live_at new handle ≡ None
+  -- another map has the same keys and the same holds
   pub others : (other : ℕ) → other ≢ handle → held_at new other ≡ held_at old other
+  -- the flag of refused memory is not changed
   pub refused : new.refused ≡ old.refused
+  -- another live map is still live, with the same keys and values
   pub maps : KeepsOthers handle old part new later
+  -- the map of the handle has the same keys and values if it had more holds
   pub kept : 1 < holds_at old handle → KeepsMap handle old part new later
+  -- the bytes after the release are as many as a part has
   pub whole : length later ≡ PART
 
 less_one : (o : Option MapWithoutArea)
@@ -91,9 +98,11 @@ one_fewer old new key less more =
 abbrev pub one_at : ℕ → ℕ → ℕ
 one_at handle q = if handle == q then 1 else 0
 
+-- a handle counts as one for itself
 pub here_one : (handle q : ℕ) → q ≡ handle → one_at handle q ≡ 1
 here_one handle q same = let yes : (handle == q) ≡ true = eq-eqb handle q (sym same) in rw yes refl
 
+-- a handle counts as none for another one
 pub none_one : (handle q : ℕ) → q ≢ handle → one_at handle q ≡ 0
 none_one handle q other = let no : (handle == q) ≡ false = ne_eqb handle q (λ e. other (sym e)) in rw no refl
 
@@ -103,6 +112,7 @@ module _ {old new : LiveMaps} {part later : List ℕ} {handle : ℕ} (is : AreHe
   abbrev Either : Type 0
   Either = (1 < holds_at old handle) ⊎ (holds_at old handle ≤ 1)
 
+  -- the map of this handle has one hold less, and each other map as many as before
   pub holds_released : (q : ℕ) → holds_at new q + one_at handle q ≡ holds_at old q
   holds_released =
       at_each (λ q. holds_at new q + one_at handle q ≡ holds_at old q) handle (by (cases_lt 1 (holds_at old handle)))
@@ -153,6 +163,7 @@ module _ {old new : LiveMaps} {part later : List ℕ} {handle : ℕ} (is : AreHe
       (λ live. (r.kept (more_held live (cases_lt 1 (holds_at old handle))) there).1)
       (λ q other live. (r.maps q other (was_live old new q (r.others q other) live)).1)
 
+  -- after a release each map that is still live has the shape, keys and values of before
   pub left_released : LeavesHeldMaps (record { live = old; part = part }) (record { live = new; part = later })
   left_released = record {
     held = record { within = λ q live. is.within q (was_there q live); some = some_hold; ended = no_run };

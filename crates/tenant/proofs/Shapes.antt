@@ -70,6 +70,7 @@ asked_ok false flags fits shape s e same = absurd (let wrong : Some fault.Invali
 abbrev in_limits : MapKind → ℕ → ℕ → ℕ → Bool
 in_limits kind key value max = (has_key kind key && is_from_to 1 4096 value) && is_from_to 1 4096 max
 
+-- if the fields of a command have no fault, the shape with these fields is the one that it asks for
 pub shape_ok : (kind : MapKind) (key value max flags : ℕ) (s : MapShape)
     → shape_fault kind key value max flags ≡ None
     → (s.kind ≡ kind) × (s.key_size ≡ key) × (s.value_size ≡ value) × (s.max_entries ≡ max)

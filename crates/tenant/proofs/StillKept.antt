@@ -21,12 +21,18 @@ with_both k objects t = record { objects = objects; live = t; refused = k.refuse
 
 -- the same maps are live, with the same shapes and the same number of holds, and no run is in progress
 pub record IsStill (old new : LiveMaps) : Type 0 where
+  -- a map that is live after the change was live before
   pub was : (handle : ℕ) → IsSome (live_at new handle) → IsSome (live_at old handle)
+  -- a map that was live before is live after the change
   pub stays : (handle : ℕ) → IsSome (live_at old handle) → IsSome (live_at new handle)
+  -- each map has the same number of holds
   pub holds : (handle : ℕ) → holds_at new handle ≡ holds_at old handle
+  -- each map that was live has the same shape
   pub shape : (handle : ℕ) → IsSome (live_at old handle) → shape_at new handle ≡ shape_at old handle
+  -- no element of a map is kept apart
   pub ended : (handle : ℕ) → (keys_at new handle).kept ≡ []
 
+-- a program is still bound if each live map is still live, with the same shape
 pub bound_along : {old new : LiveMaps} {l : LoadedProgram}
     → IsBound old l
     → ((handle : ℕ) → IsSome (live_at old handle) → IsSome (live_at new handle))
@@ -40,6 +46,7 @@ bound_along was stays shape = record {
       (stays handle live, shaped ∙ ap (λ (s : MapShape). Some s) (sym (shape handle live)));
 }
 
+-- the tenant is well formed if the same maps are live, with the same shapes and holds
 pub still_kept : {k : KeptTenant} {t : LiveMaps}
     → IsWellFormedTenant k → IsStill k.live t → IsWellFormedTenant (with_live k t)
 still_kept {k} {t} is s = record {
@@ -54,7 +61,7 @@ still_kept {k} {t} is s = record {
   bound = λ n l there. bound_along (is.bound n l there) s.stays s.shape;
 }
 
--- if only the keys of one map change, and no element of it is kept apart
+-- if only the keys of one map change, and no element of it is kept apart, the tenant is still well formed
 pub keys_kept : {k : KeptTenant} {t : LiveMaps} {m : ℕ}
     → IsWellFormedTenant k → IsSome (live_at k.live m)
     → OnlyKeysChange m k.live t → (keys_at t m).kept ≡ []

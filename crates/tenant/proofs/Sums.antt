@@ -4,6 +4,7 @@ use Rattle.std.specs.Option.{option_map_or}
 use Rattle.std.proofs.lemmas.Option.{none-some}
 use Rattle.bpf_maps.specs.Sum.{weight, total}
 
+-- the sum over absent elements is 0
 pub total-none : {A : Type 0} (f : A → ℕ) (n : ℕ) → total f (replicate n None) ≡ 0
 unfolding total
 total-none f zero = refl
@@ -19,7 +20,7 @@ total-each f g [] (y ∷ ys) h = let rest = total-each f g [] ys (λ j. h (suc j
 total-each f g (x ∷ xs) [] h = let rest = total-each f g xs [] (λ j. h (suc j)) in let here = h 0 in omega arith
 total-each f g (x ∷ xs) (y ∷ ys) h = ap₂ (λ (m n : ℕ). m + n) (h 0) (total-each f g xs ys (λ j. h (suc j)))
 
--- the sum after a free handle gets a map
+-- after a free entry gets an element the sum is greater by its number
 pub total-set : {A : Type 0} (f : A → ℕ) (xs : List (Option A)) (n : ℕ) (x : A)
     → n < length xs → get_or xs n None ≡ None
     → total f (set xs n (Some x)) ≡ total f xs + f x
@@ -29,7 +30,7 @@ total-set f (o ∷ os) zero x within free =
     let nothing : option_map_or f o 0 ≡ 0 = ap (λ (p : Option _). option_map_or f p 0) free in omega arith
 total-set f (o ∷ os) (suc n) x within free = let rest = total-set f os n x (omega arith) free in omega arith
 
--- the sum after the map of a handle is gone
+-- after an element is removed the sum is less by its number
 pub total-unset : {A : Type 0} (f : A → ℕ) (xs : List (Option A)) (n : ℕ) (x : A)
     → get_or xs n None ≡ Some x → total f xs ≡ total f (set xs n None) + f x
 unfolding total
@@ -47,6 +48,7 @@ most_first : {A : Type 0} (f : A → ℕ) (o : Option A) → ((x : A) → o ≡ 
 most_first f None h = omega arith
 most_first f (Some x) h = h x refl
 
+-- if each number is at most 1, the sum is at most the length of the list
 pub total-most : {A : Type 0} (f : A → ℕ) (xs : List (Option A))
     → ((i : ℕ) (x : A) → get_or xs i None ≡ Some x → f x ≤ 1) → total f xs ≤ length xs
 unfolding total
@@ -62,6 +64,7 @@ less_first : {A : Type 0} (f g : A → ℕ) (o : Option A)
 less_first f g None h = omega arith
 less_first f g (Some x) h = h x
 
+-- the sum of numbers that are at most others is at most the sum of the others
 pub total-less : {A : Type 0} (f g : A → ℕ) (xs : List (Option A)) → ((x : A) → f x ≤ g x) → total f xs ≤ total g xs
 unfolding total
 total-less f g [] h = omega arith

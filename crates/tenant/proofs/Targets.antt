@@ -46,6 +46,7 @@ targets-next s fd (x ∷ xs) (suc n) within =
     ++ entry_of k (and_then (get_or xs n None) (object_target s)))
     e
 
+-- one more descriptor adds the target of its object at the end
 pub targets-more : (s : TenantState) (xs : List (Option OpenObject)) (fd : ℕ) (o : Option OpenObject)
     → first_descriptor ≤ fd → fd - first_descriptor < length xs
     → named xs fd ≡ o
@@ -60,6 +61,7 @@ targets-more s xs fd o low within is =
     targets_from s first_descriptor (take (fd - first_descriptor) xs) ++ entry_of k (and_then p (object_target s)))
     f (sym (named_at xs fd low) ∙ is)
 
+-- a table without entries has no targets
 pub targets-none : (s : TenantState) (fd : ℕ) → targets_from s fd [] ≡ []
 unfolding targets_from
 targets-none s fd = refl

@@ -30,11 +30,16 @@ fits_is s l words packet fits =
 -- the premises on a run, and the state that it leaves
 pub record HasRun (k : KeptTenant) (l : LoadedProgram) (words packet : List ℕ) (part : List ℕ)
     (first : ℕ) (outcome : Outcome) (after : Standing) : Type 0 where
+  -- the tenant is well formed before the run
   pub kept : IsWellFormedTenant k
+  -- the program is bound to the tenant's live maps
   pub bound : IsBound k.live l
+  -- the run of the code simulates the tagged run of the program
   pub runs : SimulatesRun (run_on l.insns (map_handles l) (stood k.live part first) (length packet ∷ words) packet)
       (stood k.live part first) outcome after
+  -- the run keeps the live maps, each with its shape, its area and its holds
   pub maps : RunKeepsMaps (map_handles l) k.live after.maps
+  -- the live maps that are not bound have the same values after the run
   pub values : KeepsValues (map_handles l) (stood k.live part first) after
 
 ran_as : MapsAreListed
@@ -67,7 +72,7 @@ abbrev pub IsTold : (before : KeptTenant) (part : List ℕ) (fd : ℕ) (words pa
 IsTold before part fd words packet outcome later after =
     outcome_answer outcome (state_in later after) ≡ run_of (state_in part before) words packet (named before.objects fd)
 
--- from the run of the code to the reply, for an open program
+-- the outcome of the code's run of an open program is that of the machine, and so is the state after it
 pub told_of : MapsAreListed
     → {part later words packet bind context : List ℕ} {k : KeptTenant} {l : LoadedProgram}
     {new : LiveMaps} {code : List Insn} {before steps : ℕ}

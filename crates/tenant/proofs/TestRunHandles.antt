@@ -10,11 +10,13 @@ use Rattle.tenant.proofs.Releases.{here_one}
 abbrev pub listed_handle : List (ℕ × ℕ) → ℕ → ℕ
 listed_handle maps i = (get_or maps i (0, 0)).1
 
+-- the handle at an index is that of the entry there
 pub handle_at : (maps : List (ℕ × ℕ)) (i : ℕ) → get_or (seconds maps) i 0 ≡ listed_handle maps i
 handle_at [] i = refl
 handle_at (m ∷ ms) zero = refl
 handle_at (m ∷ ms) (suc i) = handle_at ms i
 
+-- a handle that is in a list is listed at least once
 pub times_here : (ps : List ℕ) (i : ℕ) → i < length ps → 1 ≤ times_listed (get_or ps i 0) ps
 unfolding times_listed
 times_here [] i lt = absurd (omega arith)

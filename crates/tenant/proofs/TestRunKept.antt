@@ -46,6 +46,7 @@ same_shape old new key areas live =
 
 -- ---- the invariant
 
+-- after a run that keeps the live maps the tenant is well formed
 pub kept_after : {k : KeptTenant} {new : LiveMaps} {bind : List ℕ}
     → IsWellFormedTenant k → RunKeepsMaps bind k.live new
     → IsWellFormedTenant (with_live k new)

@@ -27,6 +27,7 @@ descriptor_at maps i = slice_index (keys_of maps) i
 apart_later : (x : ℕ) (xs : List ℕ) → AreApart (x ∷ xs) → AreApart xs
 apart_later x xs apart i j fd a b = let e = apart (suc i) (suc j) fd a b in omega arith
 
+-- if no descriptor is twice among the entries, that of an entry leads to the handle of this entry
 pub lookup_at : (maps : List (ℕ × ℕ))
     → AreApart (keys_of maps) → (i : ℕ) → i < length maps
     → lookup (λ m. m == descriptor_at maps i) maps ≡ Some (listed_handle maps i)
@@ -55,13 +56,14 @@ module _ {k : KeptTenant} {l : LoadedProgram} (is : IsWellFormedTenant k) (bound
   once : AreApart (keys_of l.maps)
   once = subst (λ (fds : List ℕ). AreApart fds) (sym bound.each) (λ i j fd a b. listed.once l.insns i j fd a b)
 
-  -- a live map with the shape with which the program was verified
+  -- the handle of an entry has a live map, of the shape with which the program was verified at its descriptor
   pub entry : (i : ℕ)
       → i < length l.maps
       → IsSome (live_at k.live (listed_handle l.maps i))
       × (shapes_named l.named (descriptor_at l.maps i) ≡ Some (shape_at k.live (listed_handle l.maps i)))
   entry i lt = bound.shaped (descriptor_at l.maps i) (listed_handle l.maps i) (lookup_at l.maps once i lt)
 
+  -- each handle of a bound program is less than the number of handles
   pub handle_within : (i : ℕ) → i < length l.maps → listed_handle l.maps i < most_maps
   handle_within i lt = is.maps.within (listed_handle l.maps i) (entry i lt).0
 

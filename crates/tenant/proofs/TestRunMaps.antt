@@ -182,6 +182,7 @@ module _ {part later : List ℕ} {k : KeptTenant} {new : LiveMaps} {l : LoadedPr
   other_handle handle none (inr past) =
       at-past (map_at part k.live) handle past ∙ sym (at-past (map_at later new) handle past)
 
+  -- if the machine's run leaves the bound maps of the code's run, the lists of all maps after them are equal
   pub left_is : (left : MapsByDescriptor)
       → ((i : ℕ) → i < length (map_handles l)
       → left (slice_index (maps_of l.insns) i) ≡ Some (map_in later new (slice_index (map_handles l) i)))

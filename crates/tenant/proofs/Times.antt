@@ -16,6 +16,7 @@ times-next (x ∷ ps) zero p d q within at =
     let same : one_at x q ≡ one_at p q = ap (λ (y : ℕ). one_at y q) (sym at) in omega arith
 times-next (x ∷ ps) (suc i) p d q within at = let rest = times-next ps i p d q (omega arith) at in omega arith
 
+-- one more handle of a list adds 1 to the count of this handle, and 0 to that of another one
 pub times-more : (ps : List ℕ) (i p d q : ℕ)
     → i < length ps → p ≡ get_or ps i d
     → times_listed q (take (i + 1) ps) ≡ times_listed q (take i ps) + one_at p q
@@ -31,7 +32,7 @@ times-first [] (suc i) q = omega arith
 times-first (p ∷ ps) zero q = omega arith
 times-first (p ∷ ps) (suc i) q = let rest = times-first ps i q in omega arith
 
--- the handle after the first i is one more
+-- the handle at an index is listed at least once more in the whole list than before the index
 pub times-left : (ps : List ℕ) (i p d : ℕ)
     → i < length ps → p ≡ get_or ps i d
     → times_listed p (take i ps) + 1 ≤ times_listed p ps
@@ -45,9 +46,11 @@ times-left ps i p d within at =
 pub times-all : (ps : List ℕ) (i q : ℕ) → i ≡ length ps → times_listed q (take i ps) ≡ times_listed q ps
 times-all ps i q all = ap (λ (n : ℕ). times_listed q (take n ps)) all ∙ ap (times_listed q) (take-length ps)
 
+-- without a release each live map has the shape, keys and values of before
 pub leaves_all : {m : HeldMaps} → AreHeld m.live → length m.part ≡ PART → LeavesHeldMaps m m
 leaves_all held whole = record { held = held; stays = λ q live. (live, refl); refused = refl; whole = whole }
 
+-- if some releases leave the held maps, and then others do, all of them together do
 pub leaves_then : {a b c : HeldMaps} → LeavesHeldMaps a b → LeavesHeldMaps b c → LeavesHeldMaps a c
 leaves_then h k = record {
   held = k.held;
@@ -56,6 +59,7 @@ leaves_then h k = record {
   whole = k.whole;
 }
 
+-- in the empty list no handle is listed
 pub times-none : (q : ℕ) → times_listed q [] ≡ 0
 unfolding times_listed
 times-none q = refl

@@ -107,15 +107,20 @@ failed_put v w key old f new claimed g same s handle T value =
 
 -- the claim is of the key at the start of the bytes, in the map that the descriptor names
 pub record IsClaimed (k : KeptTenant) (t : LiveMaps) (fd m flags : ℕ) (bytes : List ℕ) (r : Claim) : Type 0 where
+  -- the descriptor names the live map of the handle
   pub found : IsMapOf k fd m
+  -- the bytes are as many as a key and a value of the map
   pub size : length bytes ≡ (shape_at k.live m).key_size + (shape_at k.live m).value_size
+  -- an element is claimed for the key at the start of the bytes, or this is rejected
   pub claimed : let key =
       key_of (shape_at k.live m) bytes in Claims (verdict (table_of (keys_at k.live m)) key flags)
       key (keys_at k.live m) r (keys_at t m)
+  -- only the keys of this map and their elements change
   pub rest : OnlyKeysChange m k.live t
+  -- the flag of refused memory is not changed
   pub refused : t.refused ≡ k.live.refused
 
--- from the shape and the key in the code
+-- a claim of the key at the start of bytes of the map's sizes is a claim for the update with these bytes
 pub claimed_by : {k : KeptTenant} {t : LiveMaps} {fd m flags : ℕ} {bytes key : List ℕ} {r : Claim}
     {shape : MapShape}
     → IsMapOf k fd m → shape ≡ shape_at k.live m
@@ -136,6 +141,7 @@ claimed_by {k} {t} {fd} {m} {flags} {bytes} {key} {r} {shape} found same size ke
   refused = refused;
 }
 
+-- after a claim, also a rejected one, the tenant is well formed
 pub still_claimed : {k : KeptTenant} {t : LiveMaps} {fd m flags : ℕ} {bytes : List ℕ} {r : Claim}
     → IsWellFormedTenant k → IsClaimed k t fd m flags bytes r
     → IsWellFormedTenant (with_live k t)
@@ -162,6 +168,7 @@ update_is : (part : List ℕ) {k : KeptTenant} {t : LiveMaps} {fd m flags : ℕ}
 update_is part {k} {t} {fd} {m} {flags} {bytes} {r} c =
     on_map_is part (has_sizes bytes) (put_of (state_in part k) flags bytes) c.found (same_size (length bytes) c.size)
 
+-- after the value of a claimed element is written the reply and the state are those of the machine's update
 pub updated_at : LiveMapsRefineValues
     → ValuesAreWritten
     → CallsRefineValues ℕ (List ℕ)
@@ -193,6 +200,7 @@ updated_at along written calls part {k} {t} {fd} {m} {flags} {p} {bytes} c at =
     s m T value)
     ∙ sym (update_is part c)
 
+-- the reply to an update that is rejected, and the state after it, are those of the machine
 pub update_refused : LiveMapsRefineValues
     → CallsRefineValues ℕ (List ℕ)
     → (part : List ℕ) {k : KeptTenant} {t : LiveMaps} {fd m flags : ℕ} {f : MapFault} {bytes : List ℕ}

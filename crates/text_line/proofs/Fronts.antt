@@ -23,18 +23,22 @@ differ a b test passed failed = ne_eqb a b (λ e. false≢true (sym failed ∙ s
 differ_back : (a b : ℕ) (test : ℕ → Bool) → test a ≡ false → test b ≡ true → eqb a b ≡ false
 differ_back a b test failed passed = ne_eqb a b (λ e. false≢true (sym failed ∙ ap test e ∙ passed))
 
+-- a byte that may start a name may be in a name
 pub start_in_name : (b : ℕ) → is_name_start b ≡ true → is_name_byte b ≡ true
 start_in_name b h = grind (arith, nat_tests)
 
 digit_in_name : (b : ℕ) → is_ascii_digit b ≡ true → is_name_byte b ≡ true
 digit_in_name b h = grind (arith, nat_tests)
 
+-- no digit starts a name
 pub digit_no_start : (b : ℕ) → is_ascii_digit b ≡ true → is_name_start b ≡ false
 digit_no_start b h = grind (arith, nat_tests)
 
+-- each byte that may be in a name is a graphic one
 pub name_graphic : (b : ℕ) → is_name_byte b ≡ true → is_ascii_graphic b ≡ true
 name_graphic b h = grind (arith, nat_tests)
 
+-- each digit is a graphic byte
 pub digit_graphic : (b : ℕ) → is_ascii_digit b ≡ true → is_ascii_graphic b ≡ true
 digit_graphic b h = grind (arith, nat_tests)
 
@@ -45,12 +49,14 @@ abbrev pub passes : (ℕ → Bool) → List ℕ → Bool
 passes test [] = true
 passes test (b ∷ bs) = test b && passes test bs
 
+-- if all bytes of two lists pass a test, so do those of the lists one after the other
 pub passes-append : (test : ℕ → Bool) (xs ys : List ℕ)
     → passes test xs ≡ true → passes test ys ≡ true → passes test (xs ++ ys) ≡ true
 passes-append test [] ys p q = q
 passes-append test (x ∷ xs) ys p q =
     let both = and_parts (test x) (passes test xs) p in rw both.0 (passes-append test xs ys both.1 q)
 
+-- bytes that pass a test pass each weaker test
 pub passes_more : (test other : ℕ → Bool) (xs : List ℕ)
     → ((b : ℕ) → test b ≡ true → other b ≡ true) → passes test xs ≡ true
     → passes other xs ≡ true
@@ -107,6 +113,7 @@ no_name_begins a b t (x ∷ y ∷ z) p q h =
           (and_right (eqb x a) false refl)
     ]
 
+-- the first or the second byte of each symbol is one that no name has
 pub symbols_no_name : AllByRecursion (λ (z : List ℕ). begins_no_name z ≡ true) symbols
 symbols_no_name = search rules
 
@@ -126,6 +133,7 @@ no_digit_begins : (a : ℕ) (t z : List ℕ)
 no_digit_begins a t [] p h = absurd (false≢true h)
 no_digit_begins a t (x ∷ z) p h = rw (differ_back x a is_ascii_digit (not-true (is_ascii_digit x) h) p) refl
 
+-- no symbol begins with a digit
 pub symbols_no_digit : AllByRecursion (λ (z : List ℕ). begins_no_digit z ≡ true) symbols
 symbols_no_digit = search rules
 
@@ -139,9 +147,11 @@ digit_no_symbol a t p =
 abbrev pub prolongs : ℕ → Bool
 prolongs b = is_in_range 60 62 b
 
+-- no byte that may start a name may continue a symbol
 pub start_prolongs_none : (b : ℕ) → is_name_start b ≡ true → prolongs b ≡ false
 start_prolongs_none b h = grind (arith, nat_tests)
 
+-- no digit may continue a symbol
 pub digit_prolongs_none : (b : ℕ) → is_ascii_digit b ≡ true → prolongs b ≡ false
 digit_prolongs_none b h = grind (arith, nat_tests)
 
@@ -165,6 +175,7 @@ begins_no_other (a ∷ y) (b ∷ z) s h stop =
       | inr later ↦ and_right (eqb b a) (starts_with nat_eq (y ++ s) z) (begins_no_other y z s later stop)
     ]
 
+-- a list of bytes, followed by others, begins with this list
 pub begins_itself : (y s : List ℕ) → starts_with nat_eq (y ++ s) y ≡ true
 begins_itself y s = (bytes_eq-Decides y (take (length y) (y ++ s))).1 (sym (take-append_seam y s))
 
@@ -201,6 +212,7 @@ token_of_symbol : (text y rest : List ℕ)
 unfolding token_at
 token_of_symbol text y rest found after = rw (found, after) refl
 
+-- a symbol for which `is_picked` holds, with no byte after it that may continue it, is the token at the front
 pub symbol_front : (y s : List ℕ)
     → is_picked y symbols ≡ true → prolongs (get_or s 0 0) ≡ false
     → token_at (y ++ s) ≡ Some (symbol y, s)
@@ -222,6 +234,7 @@ token_of_name : (text n rest : List ℕ)
 unfolding token_at name_at
 token_of_name text n rest none start taken after = rw (none, start, taken, after) refl
 
+-- a name of two bytes or more, with no byte of a name after it, is the token at the front
 pub name_front : (n s : List ℕ)
     → is_long_name n ≡ true → is_name_byte (get_or s 0 0) ≡ false
     → token_at (n ++ s) ≡ Some (name n, s)
@@ -245,6 +258,7 @@ passes-digits : (ds : List ℕ) → all_ascii_digits ds ≡ passes is_ascii_digi
 passes-digits [] = refl
 passes-digits (d ∷ ds) = ap (λ (t : Bool). is_ascii_digit d && t) (passes-digits ds)
 
+-- the decimal text of a number below 2 ^ 64 has only digits
 pub decimal_digits : (n : ℕ) → n < 2 ^ 64 → passes is_ascii_digit (decimal n) ≡ true
 decimal_digits n fits = sym (passes-digits (decimal n)) ∙ digits_decimal own n fits
 
@@ -292,6 +306,7 @@ digits_front (d ∷ ds) s some p stop =
 value_of_is : (n : ℕ) → n < 2 ^ 64 → value_of n ≡ Some n
 value_of_is n fits = let h : ltb n (2 ^ 64) ≡ true = lt-ltb _ _ fits in rw h refl
 
+-- the decimal text of a number below 2 ^ 64, with no byte of a name after it, is the token at the front
 pub number_front : (n : ℕ) (s : List ℕ)
     → n < 2 ^ 64 → is_name_byte (get_or s 0 0) ≡ false
     → token_at (decimal n ++ s) ≡ Some (number (Some n), s)

@@ -155,6 +155,7 @@ space_before : (text : List ℕ) (ts : List Token) → HasTokens text ts → Has
 space_before text [] h = h
 space_before text (t ∷ ts) h = h
 
+-- the text of a layout whose tokens are apart has these tokens
 pub laid_tokens : (l : TokenLayout) → IsApart l → HasTokens (laid_out l) (tokens_of l)
 laid_tokens [] h = refl
 laid_tokens (None ∷ rest) h = space_before (laid_out rest) (tokens_of rest) (laid_tokens rest h)
@@ -200,8 +201,10 @@ line_of_plain [] p = tt
 line_of_plain (b ∷ bs) p =
     let both = and_parts (is_plain b) (passes is_plain bs) p in (plain_no_feed b both.0, line_of_plain bs both.1)
 
+-- the text of a layout whose tokens are apart is ASCII
 pub laid_ascii : (l : TokenLayout) → IsApart l → IsAscii (laid_out l)
 laid_ascii l h = ascii_of_plain (laid_out l) (laid_plain l h)
 
+-- the text of a layout whose tokens are apart has no line feed
 pub laid_one_line : (l : TokenLayout) → IsApart l → AllByRecursion (λ b. b ≢ 10) (laid_out l)
 laid_one_line l h = line_of_plain (laid_out l) (laid_plain l h)

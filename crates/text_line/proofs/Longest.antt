@@ -83,6 +83,7 @@ found_is Q p (x ∷ xs) s each e = found_step Q p x (find p xs) s (p x) refl eac
 symbols_some : AllByRecursion (λ (s : List ℕ). 0 < length s) symbols
 symbols_some = search rules
 
+-- the symbol that is found is not empty, and the text begins with it
 pub symbol_is : (text s : List ℕ) → symbol_at text ≡ Some s → (0 < length s) × (take (length s) text ≡ s)
 unfolding symbol_at
 symbol_is text s e =
@@ -96,6 +97,7 @@ at_index Q [] k x each lt e = absurd (omega arith)
 at_index Q (y ∷ ys) zero x each lt e = subst Q e each.0
 at_index Q (y ∷ ys) (suc k) x each lt e = at_index Q ys k x each.1 (omega arith) e
 
+-- what holds for all symbols of the list holds for each symbol that it contains
 pub each_symbol : (Q : List ℕ → Type 0) (s : List ℕ) → AllByRecursion Q symbols → Contains symbols s → Q s
 each_symbol Q s each h = at_index Q symbols h.0 s each h.1 h.2
 
@@ -172,6 +174,7 @@ same_byte a b x y e = ap (λ (t : List ℕ). get_or t 0 0) e
 same_second : (a b c d : ℕ) (x y : List ℕ) → a ∷ b ∷ x ≡ c ∷ d ∷ y → b ≡ d
 same_second a b c d x y e = ap (λ (t : List ℕ). get_or t 1 0) e
 
+-- the first byte of a name may start a name, and each of its bytes may be in a name
 pub name_bytes : (bytes : List ℕ)
     → is_name bytes ≡ true
     → (is_name_start (slice_index bytes 0) ≡ true) × (list_all is_name_byte bytes ≡ true)
@@ -208,6 +211,7 @@ decimal_first (b ∷ bs) h =
     (and_parts (is_ascii_digit b) (list_all is_ascii_digit bs)
     (and_parts (ltb 0 (length (b ∷ bs))) (list_all is_ascii_digit (b ∷ bs)) h).1).0
 
+-- a number begins with a digit
 pub number_first : (bytes : List ℕ) (value : Option ℕ)
     → IsToken bytes (number value) → is_ascii_digit (slice_index bytes 0) ≡ true
 number_first bytes value (inl d) = decimal_first bytes d.0
@@ -219,6 +223,7 @@ front_first : (text front back : List ℕ)
 front_first text [] back e some = absurd (omega arith)
 front_first text (a ∷ front) back e some = ap (λ (t : List ℕ). get_or t 0 0) e
 
+-- bytes that pass the test `begins_no_digit` do not begin with a digit
 pub no_digit_symbol : (z : List ℕ) → begins_no_digit z ≡ true → is_ascii_digit (slice_index z 0) ≡ true → ⊥
 no_digit_symbol [] h digit = false≢true h
 no_digit_symbol (x ∷ z) h digit = both_ways (is_ascii_digit x) (not-true (is_ascii_digit x) h) digit
@@ -263,11 +268,13 @@ symbol_taken text s found = record {
   longest = symbol_longest text s found;
 }
 
+-- if no symbol is found at the front, the text begins with no symbol
 pub no_symbol_there : (text z back : List ℕ) → symbol_at text ≡ None → text ≡ z ++ back → Contains symbols z → ⊥
 no_symbol_there text z back none e h =
     let as_long = symbol_as_long text z back e h in
     none-some as_long.0 (sym none ∙ as_long.1)
 
+-- a text whose front is this symbol is the symbol, followed by the same rest
 pub symbol_back : (text z front back : List ℕ) → text ≡ front ++ back → front ≡ z → text ≡ z ++ back
 symbol_back text z front back e same = e ∙ ap (λ (t : List ℕ). t ++ back) same
 
@@ -275,18 +282,21 @@ name_some : (bytes : List ℕ) → is_name bytes ≡ true → 0 < length bytes
 name_some [] h = absurd (false≢true h)
 name_some (b ∷ bs) h = omega arith
 
+-- a text that begins with a name begins with a byte that may start a name
 pub name_first : (text front back : List ℕ)
     → text ≡ front ++ back → is_name front ≡ true
     → is_name_start (slice_index text 0) ≡ true
 name_first text front back e h =
     ap is_name_start (front_first text front back e (name_some front h)) ∙ (name_bytes front h).0
 
+-- a text that begins with a number begins with a digit
 pub digit_first : (text front back : List ℕ) (value : Option ℕ)
     → text ≡ front ++ back → IsToken front (number value)
     → is_ascii_digit (slice_index text 0) ≡ true
 digit_first text front back value e h =
     ap is_ascii_digit (front_first text front back e (number_some front value h)) ∙ number_first front value h
 
+-- no digit is a byte that may start a name
 pub start_no_digit : {A : Type 0} (b : ℕ) → is_name_start b ≡ true → is_ascii_digit b ≡ true → A
 start_no_digit b start digit = absurd (both_ways (is_name_start b) (digit_no_start b digit) start)
 
@@ -332,6 +342,7 @@ run_digits : (test : ℕ → Bool) (text : List ℕ)
 run_digits test text first fails =
     digits_of test (run test text) (run_begins test text first fails).0 (run_passes test text)
 
+-- if bytes are digits of a class, at least one, each of them is in this class
 pub all_digits_of : (test : ℕ → Bool) (bytes : List ℕ) → are_digits test bytes ≡ true → list_all test bytes ≡ true
 all_digits_of test bytes h = (and_parts (ltb 0 (length bytes)) (list_all test bytes) h).1
 
@@ -506,6 +517,7 @@ by_symbol text t rest (Some s) found e =
     same_taken text (symbol s) t (drop (length s) text) rest (symbol_taken text s found) e
 by_symbol text t rest None none e = by_name text t rest none (is_name_start (slice_index text 0)) refl e
 
+-- the token that is found at the front is the longest with which the text begins
 pub taken : (text : List ℕ) (t : Token) (rest : List ℕ) → token_at text ≡ cut t rest → BeginsWith text t rest
 unfolding token_at
 taken text t rest e = by_symbol text t rest (symbol_at text) refl e

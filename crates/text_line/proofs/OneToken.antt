@@ -81,6 +81,7 @@ same_front_bytes text x y r s e f n = (
       ∙ drop-append_seam y s,
 )
 
+-- a text begins with at most one token, the longest, and has one rest after it
 pub same_begin : (text : List ℕ) (t u : Token) (r s : List ℕ)
     → BeginsWith text t r → BeginsWith text u s → (t ≡ u) × (r ≡ s)
 same_begin text t u r s h k =
@@ -128,5 +129,6 @@ found_as text t rest (Some p) h e =
     let same = same_begin text p.0 t p.1 rest (taken text p.0 p.1 e) h in
     ap (λ (x : Token). Some (x, p.1)) same.0 ∙ ap (λ (r : List ℕ). Some (t, r)) same.1
 
+-- the longest token with which a text begins is found at its front
 pub found : (text : List ℕ) (t : Token) (rest : List ℕ) → BeginsWith text t rest → token_at text ≡ Some (t, rest)
 found text t rest h = found_as text t rest (token_at text) h refl

@@ -294,6 +294,7 @@ is_short_form : (i : Insn) → IsInsn i → IsShortForm (written i)
 is_short_form (Const dst n) h = h.1
 is_short_form _ h = tt
 
+-- an instruction that is written in range is printed as one line, which is read as this instruction
 pub printed : (i : Insn) → IsInsn i → IsWrittenInRange i → IsPrinted i
 unfolding printed_insn
 printed i h range =

@@ -56,6 +56,7 @@ same_tokens text (t ∷ ts) (u ∷ us) h k =
     let more = same_tokens h.0 ts us h.2 (subst (λ (r : List ℕ). HasTokens r us) (sym f.1) k.2) in
     ap (λ (x : Token). x ∷ ts) f.0 ∙ ap (λ (l : List Token). u ∷ l) more
 
+-- bytes with these tokens are read as the line of the tokens, or have no reading if no line has them
 pub read_as : (bytes : List ℕ) (ts : List Token) (o : Option Line) → IsTokens bytes ts → o ≡ line_of ts → ReadAs bytes o
 read_as bytes ts (Some line) h e =
     let is = line_is ts line (sym e) in
@@ -65,6 +66,7 @@ read_as bytes ts None h e = λ line read.
     let some : None ≡ Some line = e ∙ ap line_of (sym same) ∙ line_read line read.0 in
     cc some
 
+-- bytes that have no list of tokens have no reading
 pub read_none : (bytes : List ℕ) → ((ts : List Token) → ¬ IsTokens bytes ts) → ReadAs bytes None
 read_none bytes none = λ line read. none (spelled line) read.1
 

@@ -39,6 +39,7 @@ none_of_zero : (o : Option (List ℕ))
 none_of_zero None some e = refl
 none_of_zero (Some s) some e = absurd (let h = some s refl in omega arith)
 
+-- if the length of the symbol at the front is 0, no symbol is at the front
 pub no_symbol : (text : List ℕ) (n : ℕ) → n ≡ option_map_or length (symbol_at text) 0 → n ≡ 0 → symbol_at text ≡ None
 no_symbol text n is zero = none_of_zero (symbol_at text) (λ s e. (symbol_is text s e).0) (sym is ∙ zero)
 
@@ -59,6 +60,7 @@ symbol_of text n (Some s) is e some =
     ap (λ (k : ℕ). Some (leading_symbol (take k text) (drop k text))) e
     ∙ ap (λ (t : List ℕ). Some (leading_symbol t (drop (length s) text))) whole
 
+-- if the length of the symbol at the front is above 0, it cuts the text into this symbol and the rest
 pub symbol_found : (text : List ℕ) (n : ℕ) (front rest : List ℕ)
     → n ≡ option_map_or length (symbol_at text) 0
     → 0 < n → front ≡ take n text
@@ -121,7 +123,7 @@ no_digit Name radix d h = d
 no_digit Digit radix d h = false≢true h
 no_digit HexDigit radix d h = false≢true h
 
--- the value of the digits of a class when they are parsed
+-- the parsed value of the longest front of digits is the value of these digits, none from 2 ^ 64 on
 pub value_is : {E : Type 0} (class : ByteClass) (radix : ℕ) (text digits : List ℕ) (r : Result ℕ E)
     → IsDigits class radix → in_class class (get_or text 0 0) ≡ true
     → digits ≡ take (prefix_len (in_class class) text) text
@@ -148,6 +150,7 @@ value_is class radix (b ∷ bs) digits r d first e h =
 
 -- ---- the tokens of a line
 
+-- what is found at the front is one token and one rest
 pub same_front : (t u : Token) (r s : List ℕ) (o : Option (Token × List ℕ))
     → o ≡ Some (t, r) → o ≡ Some (u, s) → (t ≡ u) × (r ≡ s)
 same_front t u r s o e f = (
@@ -156,6 +159,7 @@ same_front t u r s o e f = (
   ap (λ (x : Option (Token × List ℕ)). option_map_or (λ (p : Token × List ℕ). p.1) x r) (sym e ∙ f),
 )
 
+-- it is not possible that a token is found at the front and that none is
 pub none_front : (t : Token) (r : List ℕ) (o : Option (Token × List ℕ)) → o ≡ Some (t, r) → o ≡ None → ⊥
 none_front t r o e f = cc
 
@@ -187,6 +191,7 @@ abbrev pub Only : List ℕ → List ℕ → List Token → Type 0
 Only line rest before =
     (ts : List Token) → HasTokens line ts → (us : List Token) × (ts ≡ before ++ us) × HasTokens rest us
 
+-- also after one more token, the tokens so far and those of any reading of the rest are tokens of the line
 pub whole_more : (line rest text after : List ℕ) (t : Token) (before new : List Token)
     → text ≡ skip_blanks rest → Some (t, after) ≡ token_at text
     → new ≡ before ++ t ∷ [] → Whole line rest before
@@ -198,6 +203,7 @@ whole_more line rest text after t before new skipped at_front more whole = λ ts
     (sym (append_assoc before (t ∷ []) ts) ∙ ap (λ (us : List Token). us ++ ts) (sym more))
     here
 
+-- also after one more token, all tokens of the line are the ones so far and then tokens of the rest
 pub only_more : (line rest text after : List ℕ) (t : Token) (before new : List Token)
     → text ≡ skip_blanks rest → is_over text ≡ false
     → Some (t, after) ≡ token_at text → new ≡ before ++ t ∷ []
@@ -215,6 +221,7 @@ only_more line rest text after t before new skipped some at_front more only = λ
       f.2,
     )
 
+-- with one more token of the code, the tokens that are represented have one more, the one that it represents
 pub shown_more : (ts new : List CodeToken) (t : CodeToken)
     → new ≡ ts ++ t ∷ [] → shown_tokens new ≡ shown_tokens ts ++ shown t ∷ []
 shown_more ts new t e = ap shown_tokens e ∙ map-append shown ts (t ∷ [])

@@ -107,5 +107,6 @@ insn_again (MapFd dst fd) = rw (integer_again fd) refl
 insn_again (MapValue dst fd off) = rw (integer_again fd) refl
 insn_again _ = refl
 
+-- instructions with the same written form are the same
 pub one_insn : OneInsn
 one_insn = λ a b e. same_Some a b (sym (insn_again a) ∙ ap insn_of e ∙ insn_again b)

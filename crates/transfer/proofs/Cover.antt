@@ -51,11 +51,17 @@ use Rattle.transfer.proofs.Jumps.{Comparisons, jump_covered, branch_covered}
 
 -- the premises of the steps
 pub record Laws : Type 0 where
+  -- results of operators on members of ranges are members of the range that the facts have
   pub results : Results
+  -- comparisons keep operands in the ranges on the edge that is taken, and null tests settle their look-up soundly
   pub comparisons : Comparisons
+  -- loads and stores that the facts allow are sound
   pub accesses : Accesses
+  -- calls that the facts allow are sound
   pub calls : CallsAreSound
+  -- the calls of a map keep its shape and its objects, and a look-up gives one of its objects
   pub map_calls : MapCallsKeep
+  -- for a site that no fact mentions, the witness may record what the look-up there gave
   pub site : SiteAdmits
 
 module _ (laws : Laws) (here : Here) (f : Facts) (s : RunState) (is_known : IsKnown here f s)
@@ -296,6 +302,7 @@ slot_below : (n : ℕ) (t : Slot) → IsSlotAt n t → IsSlotBelow n t
 slot_below n (Bytes mask) h = tt
 slot_below n (Spill k) h = kind_below n k h
 
+-- by these laws the transfer function is sound
 pub effects_covered : Laws → TransferIsSound
 effects_covered laws witness shapes i f s edges is there words still e =
     let here : Here = record { shapes = shapes; witness = witness; slot = s.at } in

@@ -75,13 +75,21 @@ from_agree P (Ok y) (Some z) x h q = let same : y ≡ x = cc in (z, refl, subst 
 
 -- the premises of the calls
 pub record Laws : Type 0 where
+  -- bytes of the stack that the facts let a helper read are present
   pub stack_input : StackInputAdmits
+  -- the facts after a helper's write into the stack, which the facts allow, admit the state after it
   pub stack_output : StackOutputAdmits
+  -- the bytes at offsets within an object are present
   pub object_read : ObjectReadAdmits
+  -- a write of bytes within an object changes no fact
   pub object_write : ObjectWriteAdmits
+  -- the calls of a map keep its shape and its objects, and a look-up gives one of its objects
   pub map_calls : MapCallsKeep
+  -- if a map changes to one that keeps its shape and its objects, the facts still describe the state
   pub map_change : MapChangeAdmits
+  -- if a call returns a value of a kind, the facts after it describe the state after it
   pub call : CallAdmits
+  -- for a site that no fact mentions, the witness may record what the look-up there gave
   pub site : SiteAdmits
 
 any_is : (witness : Witness) (n : ℕ) → n < 2 ^ 64 → IsOfKind witness any_number (Scalar n)

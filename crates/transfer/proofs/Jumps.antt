@@ -40,8 +40,11 @@ use Rattle.transfer.proofs.Words.{settled_words}
 
 -- the laws of comparisons of words and of null tests of look-ups
 pub record Comparisons : Type 0 where
+  -- two members that take an edge of a comparison are members of the ranges on it
   pub members : AtBothWidths EdgesKeepMembers
+  -- the ranges on both edges of a comparison of ranges of words are ranges of words
   pub words : AtBothWidths EdgesAreWords
+  -- once a test has decided whether a look-up gave null, the settled facts admit the state
   pub null_tests : NullTestAdmits
 
 -- ---- one edge
@@ -56,6 +59,7 @@ on_edge : (here : Here) (o : Option Facts) (s : RunState) (n : ℕ)
 on_edge here None s n h = h
 on_edge here (Some f) s n h = goes_to here n h
 
+-- if the facts on the jumping edge hold of a state and the target exists, the jump is covered
 pub jump_covered : (here : Here) (target : Option ℕ) (e : Edges) (s : RunState)
     → IsSome target → IsKnownOn here e.jumping s
     → IsCovered (OnJumping here target) e (or_fault target (λ n. goes (at_slot n s)))
@@ -228,6 +232,7 @@ module _ {here : Here} (laws : Comparisons) {f : Facts} {s : RunState} (known : 
         g.kind.is
         (λ y n too. numbers_covered wide cond dst src x y from too a b h.kind.words g.kind.words m n) g.from) h.from
 
+    -- a conditional jump on values of readable kinds is covered, if the facts permit it
     pub branch_covered : (k l : Kind) (v w : Tagged)
         → IsFound here (s.registers dst) k v
         → IsFound here (operand_value s wide src) l w

@@ -49,9 +49,13 @@ from_zero z = omega (arith, ints)
 
 -- the premises of loads and stores
 pub record Accesses : Type 0 where
+  -- a load from the stack that the facts allow gives a value of the kind that they predict
   pub reads : StackReadAdmits
+  -- the facts after a store into the stack that the facts allow admit the state after it
   pub writes : StackWriteAdmits
+  -- a load within an object gives a value of the predicted kind
   pub loads : ValueLoadAdmits
+  -- a store of a number within an object changes no fact
   pub stores : ValueStoreAdmits
 
 given_ok : {B : Type 0} (r : Result (Unit {0}) Reason) (x y : B)
@@ -116,7 +120,9 @@ unaligned_access y size not_multiple =
 
 -- the facts after a store admit the state, which is still at the same slot
 pub record IsStored (here : Here) (s : RunState) (g : Facts) (t : RunState) : Type 0 where
+  -- the facts after the store hold of the state after it
   pub known : IsKnown here g t
+  -- the state after the store is at the same slot
   pub at : t.at ≡ s.at
 
 module _ {here : Here} {f : Facts} {s : RunState} (known : IsKnown here f s) where
@@ -187,6 +193,7 @@ module _ {here : Here} {f : Facts} {s : RunState} (known : IsKnown here f s) whe
       room.high in
       (h.0, h.1, subst (λ k. IsKindOf here k h.0) c.1 (record { is = h.2; words = loaded_words here.slot size signed })))
 
+  -- if the facts give a load a kind, the machine loads a value of this kind
   pub load_agrees : Accesses
       → (size : AccessSize) (signed : Bool) (off : ℤ) (k : Kind) (v : Tagged) → IsKindOf here k v
       → Gives here (load_kind here.shapes f size signed off k) (load s size signed v off)
@@ -297,6 +304,7 @@ module _ {here : Here} {f : Facts} {s : RunState} (known : IsKnown here f s) whe
       never (Ok u) = tt
       never (Err e) = tt
 
+  -- if the facts allow a store of a readable value, the machine does it, and the facts after it hold of its state
   pub store_agrees : Accesses
       → (size : AccessSize) (off : ℤ) (k l : Kind) (p v : Tagged) → IsKindOf here k p
       → IsKindOf here l v → IsReadable l
@@ -414,6 +422,7 @@ module _ {here : Here} {f : Facts} {s : RunState} (known : IsKnown here f s) whe
             (sym (aligned h)) (in_room r found loads))
             (λ _. tt)
 
+  -- if the facts allow an atomic operation, the machine does it, and the facts after it hold of its state
   pub changed_agrees : Accesses
       → Results
       → (size : AtomicSize) (op : AtomicOp) (off : ℤ) (k l : Kind) (p v : Tagged)

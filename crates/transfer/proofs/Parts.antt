@@ -18,18 +18,23 @@ use Rattle.transfer.specs.Sound.{IsKindAt, AreWellFormedAt, EdgeAdmits}
 
 -- ---- laws of operators and comparisons, on 64 and on 32 bits
 pub record AtBothWidths (Law : ℕ → Type 0) : Type 0 where
+  -- the law for words of 64 bits
   pub wide : Law 64
+  -- the law for words of 32 bits
   pub narrow : Law 32
 
+-- a law of both widths holds at the width of the instruction
 pub at_width : {Law : ℕ → Type 0} → AtBothWidths Law → (wide : Bool) → Law (width wide)
 at_width laws true = laws.wide
 at_width laws false = laws.narrow
 
 -- ---- results
 
+-- a result is not both a reason and a value
 pub refused : {A : Type 0} (r : Reason) (y : A) → Err r ≡ Ok y → ⊥
 refused r y e = cc
 
+-- equal results have equal values
 pub same_ok : {A : Type 0} (x y : A) → ◌≡◌ {A = Result A Reason} (Ok x) (Ok y) → x ≡ y
 same_ok x y e = cc
 
@@ -38,12 +43,14 @@ abbrev pub OkIs : {A : Type 0} → (A → Type 0) → Result A Reason → Type 0
 OkIs P (Err r) = Unit {0}
 OkIs P (Ok x) = P x
 
+-- if P holds of the first value of a sequence, and the second step leads from P to Q, Q holds of the last value
 pub then_ok : {A B : Type 0} (P : A → Type 0) (Q : B → Type 0) (r : Result A Reason)
     (go : A → Result B Reason)
     → OkIs P r → ((x : A) → P x → OkIs Q (go x)) → OkIs Q (and_then_ok r go)
 then_ok P Q (Err e) go h next = tt
 then_ok P Q (Ok x) go h next = next x h
 
+-- what holds of the value of a result, if it has one, holds of the value that it has
 pub ok_is : {A : Type 0} (P : A → Type 0) (r : Result A Reason) (x : A) → OkIs P r → r ≡ Ok x → P x
 ok_is P (Err e) x h q = absurd (refused e x q)
 ok_is P (Ok y) x h q = subst P (same_ok y x q) h
@@ -68,15 +75,20 @@ by_law P (Ok x) o h = let found = h x refl in subst (Agree P (Ok x)) (sym found.
 
 -- ---- the context of an instruction: the shapes of the maps, the witness, and the slot
 pub record Here : Type 0 where
+  -- the shapes of the maps
   pub shapes : Shapes
+  -- the witness by which the facts describe the state
   pub witness : Witness
+  -- the slot of the instruction
   pub slot : ℕ
 
 -- ---- kinds of values
 
 -- the value is of the kind, and the kind is well formed at the slot
 pub record IsKindOf (here : Here) (k : Kind) (v : Tagged) : Type 0 where
+  -- the value is of this kind, by the witness
   pub is : IsOfKind here.witness k v
+  -- the kind is well formed at the slot of the instruction
   pub words : IsKindAt here.slot k
 
 -- if the facts have a kind, the machine has a value of this kind
@@ -89,19 +101,27 @@ IsReadable k = Unit {0}
 
 -- the machine has the value v of a readable kind
 pub record IsFound (here : Here) (o : Option Tagged) (k : Kind) (v : Tagged) : Type 0 where
+  -- the value is of the kind
   pub kind : IsKindOf here k v
+  -- the machine has this value
   pub from : o ≡ Some v
+  -- a value of the kind may be read
   pub readable : IsReadable k
 
 -- ---- states
 
 -- the facts are well formed and admit the state, which is in range and has the maps
 pub record IsKnown (here : Here) (f : Facts) (s : RunState) : Type 0 where
+  -- the facts admit the state
   pub admits : AdmitsBy here.witness f s
+  -- the facts are well formed at the slot of the instruction
   pub words : AreWellFormedAt here.slot f
+  -- the numbers of the state are in range
   pub proper : IsInRange s
+  -- the state has a map of each shape
   pub maps : HasMaps here.shapes s
 
+-- known facts describe the state
 pub still_of : {here : Here} {f : Facts} {s : RunState} → IsKnown here f s → Describes here.witness f here.shapes s
 still_of known = record { admits = known.admits; proper = known.proper; maps = known.maps }
 
@@ -145,6 +165,7 @@ IsCovered On e faults = ⊥
 abbrev pub IsCoveredIf : (Edges → RunState → Type 0) → Result Edges Reason → Step → Type 0
 IsCoveredIf On r step = OkIs (λ e. IsCovered On e step) r
 
+-- if facts and machine agree on the first result, and the step is covered from there, the whole step is covered
 pub then_covered : {A B : Type 0} (On : Edges → RunState → Type 0) (P : A → B → Type 0)
     (r : Result A Reason) (o : Option B) (go : A → Result Edges Reason) (on : B → Step)
     → Agree P r o

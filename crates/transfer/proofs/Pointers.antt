@@ -109,6 +109,7 @@ module _ (here : Here) where
   same_number : (lo hi n : ℕ) → lo ≤ n → n ≤ hi → lo ≡ hi → lo ≡ n
   same_number lo hi n a b e = omega arith
 
+  -- if the facts give a moved stack pointer a kind, the machine has a pointer of this kind
   pub stack_agrees : (way : Direction) (x : ℤ) (r : Range) (n : ℕ)
       → IsMember n r
       → Gives here (pointer_moved way (kind.Stack x) r) (moved object.Stack (shifted way x (signed 64 n)))
@@ -158,6 +159,7 @@ module _ (here : Here) where
       (difference_from p.lo x (signed 64 n) d.1 a h.to)
       (difference_from x p.hi d.0 (signed 64 n) b h.from)
 
+  -- if the facts give a moved pointer into a value a kind, the machine has a pointer of this kind
   pub value_agrees : (way : Direction) (p : ValuePointer) (r : Range) (n number : ℕ) (x : ℤ)
       → IsMember n r → number < here.witness.objects p.map
       → p.lo ≤ℤ x → x ≤ℤ p.hi

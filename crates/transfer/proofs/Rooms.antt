@@ -28,7 +28,9 @@ owned {witness = witness} still m number shape e lt =
 
 -- n bytes from an offset on lie in a value
 pub record HasRoom (n : ℕ) (y : ℤ) (shape : MapShape) : Type 0 where
+  -- the n bytes begin at or above the start of the value
   pub low : pos 0 ≤ℤ y
+  -- the n bytes end at or below the end of the value
   pub high : (y +ℤ pos n) ≤ℤ pos shape.value_size
 
 -- if n bytes from each offset of the pointer lie in a value, so do n bytes from this one
@@ -49,6 +51,7 @@ room_at p off n x shape from to e =
     passed true e = refl
     passed false e = absurd (refused OutsideValue tt e)
 
+-- if n bytes from each offset of a pointer lie in its value, so do n bytes from an offset between its ends
 pub room_here : (p : ValuePointer) (n : ℕ) (x : ℤ) (shape : MapShape)
     → p.lo ≤ℤ x → x ≤ℤ p.hi
     → room_of p (pos 0) n (Some shape) ≡ Ok tt

@@ -31,17 +31,20 @@ use Rattle.transfer.proofs.Words.{kind_words}
 -- ---- numbers
 
 module _ (here : Here) where
+  -- a member of a range of words is a value of the kind of this range
   pub scalar_of : (r : Range) (n : ℕ) → IsMember n r → r.hi < 2 ^ 64 → IsKindOf here (kind.Scalar r) (Scalar n)
   scalar_of r n m h = record { is = (n, refl, m, below n r.hi m.to h); words = h }
     where
       below : (x y : ℕ) → x ≤ y → y < 2 ^ 64 → x < 2 ^ 64
       below x y l h = omega arith
 
+  -- a word is a value of the kind of the range that has only this word
   pub constant_of : (n : ℕ) → n < 2 ^ 64 → IsKindOf here (kind.Scalar (constant n)) (Scalar n)
   constant_of n h = scalar_of (constant n) n (record { from = omega arith; to = omega arith }) h
 
 -- ---- operands
 
+-- the immediate of an instruction, at its width, is a word
 pub word_of : (wide : Bool) (z : ℤ) → unsigned (width wide) z < 2 ^ 64
 word_of true (pos n) = omega arith
 word_of true (negsuc n) = omega arith
@@ -62,6 +65,7 @@ module _ (here : Here) where
       subst (Agree (IsFound here o) (Ok k)) (sym e)
       (record { kind = record { is = h; words = w }; from = e; readable = r })
 
+  -- if a kind may be read, and the machine's value is of this kind, the machine has such a value
   pub found : (o : Option Tagged) (k : Kind)
       → HasKind here.witness k o → IsKindAt here.slot k
       → Agree (IsFound here o) (check_readable k) o
@@ -69,9 +73,11 @@ module _ (here : Here) where
   found o k h w = there o k h.0 h.1 tt h.2 w
 
   module _ {f : Facts} {s : RunState} (known : IsKnown here f s) where
+    -- if the kind of a register may be read, the machine has a value of this kind there
     pub register_found : (r : ℕ) → Agree (IsFound here (s.registers r)) (check_readable (kind_at f r)) (s.registers r)
     register_found r = found (s.registers r) (kind_at f r) (known.admits.registers r) (known.words.registers r)
 
+    -- if the kind of a source operand may be read, the machine has a value of this kind for it
     pub source_found : (wide : Bool) (src : Operand)
         → Agree (IsFound here (operand_value s wide src)) (check_readable (source_kind f wide src))
         (operand_value s wide src)
@@ -89,6 +95,7 @@ module _ (here : Here) where
 
     -- ---- a register gets a value
 
+    -- after a register gets a value of a kind, the facts with this kind for it hold of the state
     pub given_value : (r : ℕ) (k : Kind) (v : Tagged)
         → IsKindOf here k v → IsKnown here (with_kind f r k) (with_register s r v)
     given_value r k v h =
@@ -137,6 +144,7 @@ module _ (here : Here) where
 
     -- ---- the next slot
 
+    -- facts that hold of a state still hold of it at another slot
     pub moved_to : (n : ℕ) → IsKnown here f (at_slot n s)
     moved_to n =
         record {
@@ -156,10 +164,12 @@ module _ (here : Here) where
           maps = known.maps;
         }
 
+  -- an edge to a slot, with facts that hold of a state, admits this state at that slot
   pub goes_to : {f : Facts} {s : RunState} (n : ℕ)
       → IsKnown here f s → EdgeAdmits here.shapes (Some f) (Some n) (at_slot n s)
   goes_to n known = (refl, here.witness, still_of (moved_to known n))
 
+  -- a step that gives a register a value of a kind is covered by the edge with this kind for it
   pub assigned_covered : {f : Facts} {s : RunState} {k : Kind} {v : Tagged} (n r : ℕ)
       → IsKnown here f s → IsKindOf here k v
       → IsCoveredIf (OnFalling here (s.at + n)) (falls (with_kind f r k)) (assigned n s r v)

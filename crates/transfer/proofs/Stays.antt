@@ -54,7 +54,9 @@ use Rattle.transfer.proofs.States.{word_of}
 
 -- the laws of results of operators, and of edges of comparisons
 pub record WordLaws : Type 0 where
+  -- the range of the results of an operator on ranges of words is a range of words
   pub results : AtBothWidths ResultsAreWords
+  -- the ranges on both edges of a comparison of ranges of words are ranges of words
   pub edges : AtBothWidths EdgesAreWords
 
 -- `bound` is above the slot of the instruction

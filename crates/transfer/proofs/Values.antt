@@ -32,11 +32,14 @@ use Rattle.transfer.proofs.Pointers.{shifted, stack_agrees, value_agrees}
 
 -- the laws of results of operators on words
 pub record Results : Type 0 where
+  -- the result of an operator on members of two ranges is a member of the range of its results
   pub members : AtBothWidths ResultsAreMembers
+  -- the range of the results of an operator on ranges of words is a range of words
   pub words : AtBothWidths ResultsAreWords
 
 -- ---- one number, or two
 
+-- what holds of each number in a range holds of a value of this range's kind
 pub by_number : (here : Here) (r : Range) (v : Tagged) (P : Tagged → Type 0)
     → IsOfKind here.witness (kind.Scalar r) v → ((n : ℕ) → IsMember n r → P (Scalar n))
     → P v
@@ -146,6 +149,7 @@ module _ (here : Here) (laws : Results) where
   unless_agrees k l r o h =
       cond_both (is_maybe k || is_maybe l) (Err MaybeNull) r (λ r. Gives here r o) (λ _. tt) (λ _. h)
 
+  -- if the facts give the result of an operator a kind, the machine has a result of this kind
   pub arithmetic_agrees : (wide : Bool) (op : AluOp) (k l : Kind) (v w : Tagged)
       → IsKindOf here k v → IsKindOf here l w
       → Gives here (arithmetic_kind wide op k l) (arithmetic wide op v w)

@@ -29,6 +29,7 @@ module _ (bound : ℕ) where
   no_bytes : IsSlotAt bound (Bytes 0)
   no_bytes = omega arith
 
+  -- after a register gets a kind that is well formed, the facts are still well formed
   pub kind_words : (f : Facts) (r : ℕ) (k : Kind)
       → AreWellFormedAt bound f → IsKindAt bound k
       → AreWellFormedAt bound (with_kind f r k)
@@ -67,6 +68,7 @@ module _ (bound : ℕ) where
 
   -- ---- loads
 
+  -- the kind of a number that is loaded from memory is well formed
   pub loaded_words : (size : AccessSize) (signed : Bool) → IsKindAt bound (loaded size signed)
   loaded_words size true = omega arith
   loaded_words Byte false = omega arith
@@ -83,6 +85,7 @@ module _ (bound : ℕ) where
       (OkIs (IsKindAt bound)) (λ _. loaded_words size signed)
       (λ _. tt)
 
+  -- the kind that well-formed facts predict for a load from the stack is well formed
   pub read_words : (f : Facts) (offset : ℤ) (size : AccessSize) (signed : Bool)
       → AreWellFormedAt bound f → OkIs (IsKindAt bound) (stack_read f offset size signed)
   read_words f offset size signed h =
@@ -122,6 +125,7 @@ module _ (bound : ℕ) where
         then_ok AreSmall (AreWellFormedAt bound) (touched offset size) (facts_written f size k)
         (touched_small offset size) (facts_words size k is)
 
+  -- after a store of a kind that is well formed into the stack, the facts are still well formed
   pub written_words : (f : Facts) (offset : ℤ) (size : AccessSize) (k : Kind)
       → AreWellFormedAt bound f → IsKindAt bound k
       → OkIs (AreWellFormedAt bound) (stack_write f offset size k)
@@ -151,6 +155,7 @@ module _ (bound : ℕ) where
       (λ _. spill_words null m) (λ _. h)
   slot_settled_words site null t h = h
 
+  -- after a null test settles a look-up, the facts are still well formed
   pub settled_words : (f : Facts) (site : ℕ) (null : Bool)
       → AreWellFormedAt bound f → AreWellFormedAt bound (facts_settled site null f)
   settled_words f site null h =
@@ -168,6 +173,7 @@ module _ (bound : ℕ) where
 
   -- ---- calls
 
+  -- after a helper writes bytes into the stack, the facts are still well formed
   pub filled_words : (f : Facts) (x : ℤ) (lo hi : ℕ)
       → AreWellFormedAt bound f → OkIs (AreWellFormedAt bound) (stack_filled f x lo hi)
   filled_words f x lo hi h =
@@ -187,6 +193,7 @@ module _ (bound : ℕ) where
       })
       (λ _. tt)
 
+  -- after a call that returns a kind that is well formed, the facts are still well formed
   pub called_words : (f : Facts) (k : Kind)
       → AreWellFormedAt bound f → IsKindAt bound k
       → AreWellFormedAt bound (called_facts f k)

@@ -33,6 +33,7 @@ on_there leads o = cond_both leads o None (λ z. AreThere z → leads ≡ true) 
 
 module _ (shapes : Shapes) (code : List Insn) (named : List Named) (program : IsProgram code)
     (fine : HasNoFault (structure_fault code named)) where
+  -- each instruction of the program is shaped
   pub shape_at : (n : ℕ) (i : Insn) → begins_at code n ≡ Some i → IsShaped code i n
   shape_at = shaped code named fine
 
@@ -72,6 +73,7 @@ module _ (shapes : Shapes) (code : List Insn) (named : List Named) (program : Is
       (λ b. sent_begin n m (facts_from_below shapes code n n) b)
       (either_there (facts_from_below shapes code m n) (facts_sent shapes code n m (facts_from_below shapes code n n)) h)
 
+  -- at a slot that has facts an instruction begins
   pub begins_before : (n : ℕ) (f : Facts) → facts_before shapes code n ≡ Some f → IsSome (begins_at code n)
   begins_before n f e = inflow_begin n n (subst AreThere (sym e) tt)
 
@@ -81,6 +83,7 @@ abbrev pub AdmitOn : Witness → Option Facts → RunState → Type 0
 AdmitOn witness None s = ⊥
 AdmitOn witness (Some f) s = AdmitsBy witness f s
 
+-- facts that admit a state exist
 pub are_there : (witness : Witness) (o : Option Facts) (s : RunState) → AdmitOn witness o s → AreThere o
 are_there witness None s h = h
 are_there witness (Some f) s h = tt
@@ -102,6 +105,7 @@ module _ (law : JoinAdmits) (witness : Witness) (s : RunState) where
 
   -- ---- from an edge to the facts before a slot
 
+  -- if the facts on the falling edge admit a state, so do those that the instruction passes on along it
   pub fallen : (i : Insn) (n m : ℕ) (edges : Edges)
       → falls_into i n m ≡ true → AdmitOn witness edges.falling s
       → AdmitOn witness (edges_into i n m (Ok edges)) s
@@ -110,6 +114,7 @@ module _ (law : JoinAdmits) (witness : Witness) (s : RunState) where
       (only_if (jumps_into i n m) edges.jumping)
       (on_edge witness (falls_into i n m) edges.falling s t h)
 
+  -- if the facts on the jumping edge admit a state, so do those that the instruction passes on along it
   pub jumped : (i : Insn) (n m : ℕ) (edges : Edges)
       → jumps_into i n m ≡ true → AdmitOn witness edges.jumping s
       → AdmitOn witness (edges_into i n m (Ok edges)) s

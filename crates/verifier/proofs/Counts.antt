@@ -43,6 +43,7 @@ merged false true false true k old is = omega arith
 merged false false true true k old is = omega arith
 merged false false false true k old is = omega arith
 
+-- the counts on the falling edge and on jumps to slot i are the earlier ones with what the instruction passes on
 pub along : (weight : Insn → ℕ) (insn : Insn) (row : Profile) (slot i before k fall old new : ℕ)
     → row ≡ profile insn → slot < i
     → k ≡ before + weight insn
@@ -60,6 +61,7 @@ along weight insn row slot i before k fall old new is_row after is_k is_fall is_
     ∙ merged (falls insn) (falls_to insn slot == i) jump (nat_lt slot i) k old (lt-ltb slot i after)
     ∙ ap (λ (n : ℕ). max old (if leads_into (Some insn) slot i then n else 0)) is_k
 
+-- the most on an ended path is the greater of the earlier one and, at an exit, the count of the way through it
 pub at_end : (weight : Insn → ℕ) (insn : Insn) (row : Profile) (before k old new : ℕ)
     → row ≡ profile insn → k ≡ before + weight insn
     → new ≡ max old (if not (falls_by row.successors || jumps_by row.successors) then k else 0)
@@ -94,6 +96,7 @@ simple_end weight insn row before old new is_row next is =
     ∙ sym (ap (λ (s : Successors). max old (if not (falls_by s || jumps_by s) then before + weight insn else 0)) next
     ∙ max_none old))
 
+-- an instruction that only falls through and names nothing adds one instruction and no call to the paths
 pub simple_added : (insn : Insn) (row : Profile) (slot : ℕ) (old new : Paths) (jumping : List Counts)
     → row ≡ profile insn → row.successors ≡ Next
     → row.reference ≡ names.Nothing
@@ -114,6 +117,7 @@ simple_added insn row slot old new jumping is_row next nothing instructions call
 
 -- ---- the counts that arrive
 
+-- at the slot of the pass, the greater of the counts on the falling edge and on jumps is the most on the way to it
 pub arrives_here : (slot fall jump most here : ℕ)
     → max (if slot == slot then fall else 0) jump ≡ most
     → here ≡ max fall jump
@@ -121,10 +125,12 @@ pub arrives_here : (slot fall jump most here : ℕ)
 arrives_here slot fall jump most here is sum =
     sum ∙ sym (ap (λ (b : Bool). max (if b then fall else 0) jump) (eq-eqb slot slot refl)) ∙ is
 
+-- if neither the falling edge nor a jump has a count, the count that arrives is 0
 pub arrives_none : (b : Bool) (fall jump : ℕ) → fall ≡ 0 → jump ≡ 0 → max (if b then fall else 0) jump ≡ 0
 arrives_none true fall jump is_fall is_jump = omega arith
 arrives_none false fall jump is_fall is_jump = omega arith
 
+-- at a slot above the one to which the falling edge leads, what arrives is the count on jumps
 pub arrives_later : (slot i fall jump most : ℕ)
     → slot < i → max (if slot == i then fall else 0) jump ≡ most → jump ≡ most
 arrives_later slot i fall jump most after is =
@@ -141,10 +147,12 @@ module _ (weight : Insn → ℕ) (code : List Insn) where
   unfolding most_from
   most_first i = refl
 
+  -- the most on a path that ends below slot 0 is 0
   pub ended_first : most_ended weight code 0 ≡ 0
   unfolding most_ended
   ended_first = refl
 
+  -- after the instruction at slot n, the most on the way to slot i counts the edges from slot n too
   pub most_next : (i n old new before : ℕ) (insn : Insn)
       → begins_at code n ≡ Some insn → before ≡ most_from weight code n n
       → old ≡ most_from weight code i n
@@ -160,6 +168,7 @@ module _ (weight : Insn → ℕ) (code : List Insn) where
       begins)
       ∙ ap (most_from weight code i) (sym (add-one n))
 
+  -- after the instruction at slot n, the most on an ended path counts an exit at slot n too
   pub ended_next : (n old new before : ℕ) (insn : Insn)
       → begins_at code n ≡ Some insn → before ≡ most_from weight code n n
       → old ≡ most_ended weight code n
@@ -189,6 +198,7 @@ module _ (weight : Insn → ℕ) (code : List Insn) where
       ap (λ (o : Option Insn). at_exit weight o (most_from weight code n n)) begins in
       ap (most_ended weight code) (add-one n) ∙ omega arith
 
+  -- slots at which no instruction begins do not change the most on the way to slot i
   pub most_through : (i n m : ℕ)
       → ((k : ℕ) → n < k → k < n + 1 + m → begins_at code k ≡ None)
       → most_from weight code i (n + 1) ≡ most_from weight code i (n + 1 + m)
@@ -199,6 +209,7 @@ module _ (weight : Insn → ℕ) (code : List Insn) where
       ∙ sym (most_past i (n + 1 + m) (none (n + 1 + m) (omega arith) (omega arith)))
       ∙ ap (most_from weight code i) next
 
+  -- slots at which no instruction begins do not change the most on an ended path
   pub ended_through : (n m : ℕ)
       → ((k : ℕ) → n < k → k < n + 1 + m → begins_at code k ≡ None)
       → most_ended weight code (n + 1) ≡ most_ended weight code (n + 1 + m)
@@ -222,6 +233,7 @@ carried weight code slot size i here old new insn begins some inside is_here is_
     ∙ most_through weight code i slot (size - 1) (λ k after before. inside k after (omega arith))
     ∙ ap (most_from weight code i) end
 
+-- after all slots of an instruction, the most on an ended path counts this instruction as an exit too
 pub ended_carried : (weight : Insn → ℕ) (code : List Insn) (slot size here old new : ℕ) (insn : Insn)
     → begins_at code slot ≡ Some insn → 1 ≤ size
     → ((k : ℕ) → slot < k → k < slot + size → begins_at code k ≡ None)
@@ -261,6 +273,7 @@ passes_little weight small None n i before = omega arith
 passes_little weight small (Some insn) n i before =
     if_small (leads_into (Some insn) n i) _ _ (omega (arith, small insn))
 
+-- if each instruction counts at most one, the most on the way to a slot from slots below n is at most n
 pub most_small : (weight : Insn → ℕ) → IsSmall weight → (code : List Insn) (i n : ℕ) → most_from weight code i n ≤ n
 unfolding most_from
 most_small weight small code i zero = omega arith
@@ -340,6 +353,7 @@ total_calls : (is : List Insn) → total one_if_call is ≡ calls_in is
 unfolding total
 total_calls is = is_count_by (total one_if_call) is_call refl (λ i is. counted (is_call i) (total one_if_call is)) is
 
+-- if these are the most instructions and the most calls on a path from slot 0, they are the cost of the program
 pub cost_is : (cost : Cost) (code : List Insn)
     → IsMostOf (total one) code cost.instructions
     → IsMostOf (total one_if_call) code cost.calls
@@ -351,6 +365,7 @@ cost_is cost code instructions calls = (
 
 -- ---- a simple instruction has no fault
 
+-- a simple instruction has no fault of its shape, if the counts show whether its slot can be reached
 pub simple_fine : (code : List Insn) (named : List Named) (insn : Insn) (row : Profile)
     (slot next : ℕ) (paths : Paths)
     → row ≡ profile insn → next ≡ falls_to insn slot

@@ -27,7 +27,9 @@ AreThere (Some f) = Unit {0}
 
 -- an edge has facts only if the instruction has this edge
 pub record LeadOnly (v : View) (e : Edges) : Type 0 where
+  -- facts are on the falling edge only if the instruction can pass control to the next one
   pub falling : AreThere e.falling → falls_by (profile_of v).successors ≡ true
+  -- facts are on the jumping edge only if the instruction can jump
   pub jumping : AreThere e.jumping → jumps_by (profile_of v).successors ≡ true
 
 abbrev IfOk : (Edges → Type 0) → Result Edges Reason → Type 0
@@ -96,6 +98,7 @@ module _ (shapes : Shapes) (at : ℕ) (f : Facts) where
       (λ h. after_given (LeadOnly (call id)) (call_facts shapes at h f) falls_on (λ g. falls_alone (call id) g refl))
   view_leads exit = after_given (LeadOnly exit) (check_readable (kind_at f 0)) exits_with ends_nowhere
 
+-- an instruction that may be run has facts only on the edges that it has
 pub leads_only : (shapes : Shapes) (at : ℕ) (i : Insn) (f : Facts) (e : Edges)
     → effect shapes at i f ≡ Ok e → LeadOnly (view i) e
 leads_only shapes at i f e q = if_ok (LeadOnly (view i)) (effect shapes at i f) e (view_leads shapes at f (view i)) q

@@ -54,6 +54,7 @@ none_at es kept i e is within here empty =
     here)
     ∙ absent e empty
 
+-- the entry of a slot past the end of the list has no facts
 pub none_past : (es : List (Option (Box NumberedFacts Global))) (kept : List (Option NumberedFacts)) (i : ℕ)
     → seen es ≡ kept → length es ≤ i → entry_of i kept ≡ None
 none_past es kept i is past =

@@ -59,6 +59,7 @@ first_of : (P : Table (List ℕ) → Type 0) (o : Option (Table (List ℕ))) (u 
 first_of P None u h e = absurd (none-some u e)
 first_of P (Some t) u h e = (t, cc, h t refl)
 
+-- if the values of all maps are bytes, so are those of the maps at the start of a run
 pub first_values : (maps : MapsByDescriptor)
     → ((m : ℕ) (t : Table (List ℕ)) → maps m ≡ Some t → All AreBytes (values_of t.entries))
     → (m : ℕ) (u : RunMap) → option_map first_map (maps m) ≡ Some u
@@ -67,6 +68,7 @@ first_values maps values m u e number =
     let f = first_of (λ t. All AreBytes (values_of t.entries)) (maps m) u (values m) e in
     subst (λ (u : RunMap). AreBytes (u.values number)) f.1 (all_bytes (values_of f.0.entries) f.2 number)
 
+-- if a run is given a map of each shape, it begins with a map of each shape
 pub first_maps : (shapes : Shapes) (maps : MapsByDescriptor)
     → ((m : ℕ) (shape : MapShape) → shapes m ≡ Some shape
     → (t : Table (List ℕ)) × (maps m ≡ Some t) × IsTableOf shape t)

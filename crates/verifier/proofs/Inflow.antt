@@ -104,11 +104,17 @@ module _ (shapes : Shapes) where
 
   -- The current facts belong to the next instruction. With the entry of a later slot they are all that the slots below send to it.
   pub record IsBefore (code : List Insn) (slot : ℕ) (pass : Pass) : Type 0 where
+    -- the slot to which the facts on the falling edge belong
     pub due : ℕ
+    -- it is this slot or a later one
     pub ahead : slot ≤ due
+    -- an instruction begins at it, or it is the end of the program
     pub adjoins : Adjoins code due
+    -- no instruction begins at a slot from this one on that is below it
     pub between : (k : ℕ) → slot ≤ k → k < due → begins_at code k ≡ None
+    -- the numbers of all facts of the pass mean the stacks that they have, and are below a bound of this slot
     pub numbered : AreNumbered slot (8 * slot + 2) pass.falling pass.entries
+    -- at each slot from this one on, the facts of the pass are those that the slots below this one pass on to it
     pub each : (i : ℕ)
         → slot ≤ i → i < slot_count code
         → joined (only_if (due == i) (facts_on pass.falling)) (brought_to i pass.entries)
@@ -127,6 +133,7 @@ module _ (shapes : Shapes) where
   nothing_at : (i : ℕ) (entries : List (Option NumberedFacts)) → entries ≡ [] → entry_of i entries ≡ None
   nothing_at i entries empty = ap (entry_of i) empty ∙ get_or_past [] i None (omega arith)
 
+  -- a pass with the facts at program entry on the falling edge, and no entries, has the facts before slot 0
   pub at_start : (code : List Insn) (pass : Pass)
       → 1 ≤ slot_count code → pass.falling ≡ Some at_entry
       → pass.entries ≡ []
@@ -274,6 +281,7 @@ module _ (shapes : Shapes) where
 
   -- ---- the fault at a slot
 
+  -- the reason why the instruction at a slot may not be run, with the facts before it, is the slot's fault of safety
   pub safety_is : (code : List Insn) (slot : ℕ) {insn : Insn} {here : Option Facts} {r : Option Reason}
       → here ≡ facts_before shapes code slot → begins_at code slot ≡ Some insn
       → reason_from shapes slot insn here ≡ r
@@ -291,10 +299,12 @@ module _ (shapes : Shapes) where
   no_reason slot None o none = refl
   no_reason slot (Some f) o none = ap (λ (x : Option Insn). and_then x (λ i. reason_of (effect shapes slot i f))) none
 
+  -- a slot at which no instruction begins has no fault of safety
   pub safe_none : (code : List Insn) (slot : ℕ) → begins_at code slot ≡ None → safety_fault shapes code slot ≡ None
   unfolding safety_fault
   safe_none code slot none = no_reason slot (facts_before shapes code slot) (begins_at code slot) none
 
+  -- a fault at a slot below which no slot has one is the first fault
   pub first_at : (fault_at : ℕ → Option Reason) (n slot : ℕ) (reason : Reason)
       → n ≡ slot → fault_at slot ≡ Some reason
       → ((k : ℕ) → k < slot → fault_at k ≡ None)

@@ -56,6 +56,7 @@ refused_within code named slot why is =
     ] in
     omega (arith, length-program_bytes code)
 
+-- the slot of a rejection is one of those that were given, or their end
 pub slot_within : (slots : List ℕ) (named : List Named) (code : List Insn) (fault : VerifyFault)
     → slots ≡ program_bytes code
     → (fault ≡ memory_fault) ⊎ IsRefused code named fault.slot fault.reason

@@ -18,10 +18,14 @@ use Rattle.verifier.specs.Verified.{GoesAhead}
 
 -- the target of its jump is a later slot at which an instruction begins, and it does not fall off the end
 pub record IsShaped (code : List Insn) (i : Insn) (n : ℕ) : Type 0 where
+  -- its jump, if it has one, leads to a slot at which an instruction begins
   pub inside : (jumps i && leads_outside code (jumps_to i n)) ≡ false
+  -- its jump, if it has one, leads to a later slot
   pub forward : (jumps i && leads_backward (jumps_to i n) n) ≡ false
+  -- its falling edge, if it has one, leads to a slot of the program
   pub on : (falls i && nat_le (slot_count code) (falls_to i n)) ≡ false
 
+-- in a program without a fault of its shape each instruction is shaped
 pub shaped : (code : List Insn) (named : List Named)
     → HasNoFault (structure_fault code named)
     → (n : ℕ) (i : Insn) → begins_at code n ≡ Some i
@@ -32,6 +36,7 @@ shaped code named none n i begins =
 
 -- ---- the targets of its edges
 
+-- if a conjunction is false and its first part true, the second part is false
 pub second_false : (a b : Bool) → (a && b) ≡ false → a ≡ true → b ≡ false
 second_false a b h e = ⊎_elim (λ z. absurd (both_ways a z e)) (λ z. z) (and_cases a b h)
 
@@ -61,6 +66,7 @@ module _ (code : List Insn) (n : ℕ) (i : Insn) (shape : IsShaped code i n) whe
       by_form (Jump wide cond dst src off) h = target_there code (jumps_to (Jump wide cond dst src off) n) h
       by_form j h = refl
 
+  -- at the slot to which the falling edge of an instruction leads, an instruction begins
   pub falls_begins : (m : ℕ) → begins_at code n ≡ Some i → falls_into i n m ≡ true → IsSome (begins_at code m)
   falls_begins m begins t =
       let h = and_parts (falls i) (falls_to i n == m) t in
@@ -69,12 +75,14 @@ module _ (code : List Insn) (n : ℕ) (i : Insn) (shape : IsShaped code i n) whe
       (second_false (falls i) (nat_le (slot_count code) (falls_to i n)) shape.on h.0) in
       subst (λ k. IsSome (begins_at code k)) (eqb-true (falls_to i n) m h.1) (next_begins code n i begins within)
 
+  -- the target of an instruction that jumps is a later slot, at which an instruction begins
   pub jump_at : (m : ℕ) → jumps i ≡ true → jumps_to i n ≡ Some m → (n < m) × IsSome (begins_at code m)
   jump_at m h e = (
     lies_farther (jumps_to i n) n m e (second_false (jumps i) (leads_backward (jumps_to i n) n) shape.forward h),
     begins_there code (jumps_to i n) m e (second_false (jumps i) (leads_outside code (jumps_to i n)) shape.inside h),
   )
 
+  -- at the slot to which the jumping edge of an instruction leads, an instruction begins
   pub jumps_begins : (m : ℕ) → jumps_into i n m ≡ true → IsSome (begins_at code m)
   jumps_begins m t =
       let h = and_parts (jumps i && is_slot (jumps_to i n) m) (nat_lt n m) t in
@@ -85,6 +93,7 @@ module _ (code : List Insn) (n : ℕ) (i : Insn) (shape : IsShaped code i n) whe
   pub falls_lead : (m : ℕ) → falls i ≡ true → falls_to i n ≡ m → falls_into i n m ≡ true
   falls_lead m h e = and_from (falls i) (falls_to i n == m) h (eq-eqb (falls_to i n) m e)
 
+  -- the jumping edge of an instruction that jumps leads to its target
   pub jumps_lead : (m : ℕ) → jumps i ≡ true → jumps_to i n ≡ Some m → jumps_into i n m ≡ true
   jumps_lead m h e =
       let at = subst (λ o. is_slot o m ≡ true) (sym e) (eq-eqb m m refl) in
@@ -94,10 +103,12 @@ module _ (code : List Insn) (n : ℕ) (i : Insn) (shape : IsShaped code i n) whe
 
 -- ---- a program without a fault of its shape
 
+-- (a value with its proof) the slot that an edge leads to, if it is known to have one
 pub some_slot : (o : Option ℕ) → IsSome o → (to : ℕ) × (o ≡ Some to)
 some_slot None h = absurd (false≢true h)
 some_slot (Some to) h = (to, refl)
 
+-- in a program without a fault of its shape each edge leads to an instruction at a later slot
 pub goes_ahead : (code : List Insn) (named : List Named) → HasNoFault (structure_fault code named) → GoesAhead code
 goes_ahead code named none =
     record {

@@ -16,6 +16,7 @@ among_at [] i m e = absurd (none-some m e)
 among_at (x ∷ xs) zero m e = or_left (x == m) (is_among xs m) (eq-eqb x m (same_Some x m e))
 among_at (x ∷ xs) (suc i) m e = or_right (x == m) (is_among xs m) (among_at xs i m e)
 
+-- a descriptor that is among those of a list has an index in it
 pub index_of : (xs : List ℕ) (m : ℕ) → is_among xs m ≡ true → (i : ℕ) × (slice_get xs i ≡ Some m)
 index_of [] m h = absurd (true≢false (sym h))
 index_of (x ∷ xs) m h = by (x == m) refl (index_of xs m)
@@ -92,6 +93,7 @@ one_index (x ∷ xs) (suc i) (suc j) m h e f = ap suc (one_index xs i j m h.1 e 
 -- ---- a shape belongs to a map that is loaded
 
 module _ (fds : List ℕ) (fd : ℕ) where
+  -- a descriptor that has a shape among the entries that are kept is in the list by which they were kept
   pub shape_kept : (named : List Named) (shape : MapShape)
       → shape_in (target_of (entries_of fds named) fd) ≡ Some shape → is_among fds fd ≡ true
   unfolding target_of

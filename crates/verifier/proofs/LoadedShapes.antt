@@ -48,6 +48,7 @@ module _ (fds : List ℕ) (fd : ℕ) (among : is_among fds fd ≡ true) where
   kept_at n ns false e rest =
       rest ∙ sym (cond-false (n.fd == fd) (Some n.target) (target_of ns fd) (ne_eqb n.fd fd (other_name n.fd e)))
 
+  -- among the entries that are kept, a descriptor of the list names what it names among all
   pub target_kept : (named : List Named) → target_of (entries_of fds named) fd ≡ target_of named fd
   target_kept [] = refl
   target_kept (n ∷ ns) = kept_at n ns (is_among fds n.fd) refl (target_kept ns)
@@ -80,6 +81,7 @@ among_distinct fd (m ∷ fds) h = by (m == fd) refl (among_distinct fd fds)
     by true e rest = refl
     by false e rest = still_there fd m e (distinct fds) ∙ rest (sym (ap (λ b. b || is_among fds fd) e) ∙ h)
 
+-- the descriptor of each instruction is among the maps of its program
 pub among_maps : (code : List Insn) (n : ℕ) (i : Insn)
     → begins_at code n ≡ Some i → (fd : ℕ) → descriptor i ≡ Some fd
     → is_among (maps_of code) fd ≡ true
@@ -95,6 +97,7 @@ shaped_target (Some (target.Map shape)) h g = refl
 shaped_target (Some target.Program) h g = absurd (true≢false g)
 
 module _ (code : List Insn) (named : List Named) (none : HasNoFault (structure_fault code named)) where
+  -- in a program without a fault of its shape, each descriptor of an instruction names a map with a shape
   pub shaped : (n : ℕ) (i : Insn)
       → begins_at code n ≡ Some i → (fd : ℕ) → descriptor i ≡ Some fd
       → IsSome (shapes_named named fd)
@@ -217,6 +220,7 @@ kept_shape : (code : List Insn) (named : List Named) (n : ℕ) (i : Insn)
 kept_shape code named n i begins fd e =
     ap shape_in (target_kept (maps_of code) fd (among_maps code n i begins fd e) named)
 
+-- in a program without a fault of its shape, no instruction is rejected for safety since what it names is missing
 pub safety_follows : TransferReasons → SafetyFollowsShape
 safety_follows law = record {
   helpers = λ code named slot none h.

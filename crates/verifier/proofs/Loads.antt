@@ -28,6 +28,7 @@ any_kept : (p : ℕ → Bool) (keep : Bool) (x : ℕ) (xs : List ℕ)
 any_kept p true x xs h = refl
 any_kept p false x xs h = sym (ap (λ t. t || list_any p xs) (h refl))
 
+-- whether a descriptor is in a list does not change if another one is left out
 pub still_there : (a b : ℕ)
     → (b == a) ≡ false
     → (fds : List ℕ) → list_any (λ o. o == a) (without b fds) ≡ list_any (λ o. o == a) fds
@@ -105,6 +106,7 @@ pub none_loaded : maps_of [] ≡ []
 unfolding distinct
 none_loaded = refl
 
+-- after an instruction, the maps of a program have its descriptor too, if it loads a map
 pub loaded_here : (before after : List Insn) (o : Option Insn) (i : Insn)
     → after ≡ before ++ option_to_list o → o ≡ Some i
     → with_descriptor (maps_of before) (descriptor i) ≡ maps_of after
@@ -113,6 +115,7 @@ loaded_here before after o i step here =
     ∙ ap (λ (p : Option Insn). maps_of (before ++ option_to_list p)) (sym here)
     ∙ ap maps_of (sym step)
 
+-- after a slot at which no instruction begins, the maps of a program are the same
 pub loaded_nowhere : (before after : List Insn) (o : Option Insn)
     → after ≡ before ++ option_to_list o → o ≡ None → maps_of before ≡ maps_of after
 loaded_nowhere before after o step none =
@@ -172,6 +175,7 @@ module _ (code : List Insn) (fine : HasNoFault (structure_fault code [])) where
         ∙ ap (with_descriptor (maps_of (begun_below code slot))) (loads_none slot (begins_at code slot) refl)
         ∙ none_below slot
 
+    -- a program without a fault of its shape for which no descriptor is open loads no map
     pub none_named : begun_below code (slot_count code) ≡ code → maps_of code ≡ []
     none_named all = ap maps_of (sym all) ∙ none_below (slot_count code)
 

@@ -41,6 +41,7 @@ pub passes_none : (weight : Insn → ℕ) (o : Option Insn) (n to before : ℕ)
 passes_none weight None n to before none = refl
 passes_none weight (Some i) n to before none = cond-false (leads_into (Some i) n to) (before + weight i) 0 none
 
+-- if an edge leads from a slot, an instruction begins there
 pub leads_from : (o : Option Insn) (n to : ℕ) → leads_into o n to ≡ true → (i : Insn) × (o ≡ Some i)
 leads_from None n to leads = absurd (false≢true leads)
 leads_from (Some i) n to leads = (i, refl)
@@ -286,6 +287,7 @@ module _ (weight : Insn → ℕ) (code : List Insn) (named : List Named)
   unfolding most_from
   at_start = refl
 
+  -- in a program without a fault of its shape, the most that the pass finds is the most on a path from slot 0
   pub is_most : 0 < slot_count code → IsMostOf (total weight) code (most_ended weight code (slot_count code))
   is_most some =
       let first = begun_of code 0 (begins_at code 0) refl (first_begins code some) in

@@ -109,6 +109,7 @@ noted_facts Either fresh x = refl
 noted_facts (Compares dst src falls jumps) fresh x = refl
 noted_facts (Settles site null) fresh x = refl
 
+-- if facts change as the flow says, a slot that the flow names is one of the stack
 pub in_stack : (flow : Flow) (f g : Facts) → KeepsStack flow f g → IsInStack flow
 in_stack (WritesSlot i) f g keeps = keeps.0
 in_stack Ends f g keeps = tt
@@ -235,7 +236,9 @@ module _ (absorb : SlotsAbsorb) (stacks : Stacks) (n m slot : ℕ) (lt : n < m) 
     (old new : List (Option NumberedFacts))
     (ahead : (i : ℕ) → slot ≤ i → IsNumberedIf stacks n (entry_of i old)) where
   pub record IsRightEntry (target : Option ℕ) (facts : Option Facts) (i : ℕ) : Type 0 where
+    -- at the target the facts are joined into the entry, at another slot its facts are not changed
     pub brings : Brings target facts old new i
+    -- the new entry is numbered, if the new number means the stack of the target's new entry
     pub numbered : IsNumberedIf (with_stack stacks n (stack_on (entry_at target new))) m (entry_of i new)
 
   same_entry : (target : Option ℕ) (facts : Option Facts) (i : ℕ)
@@ -272,6 +275,7 @@ module _ (absorb : SlotsAbsorb) (stacks : Stacks) (n m slot : ℕ) (lt : n < m) 
             same right.numbered;
       }
 
+  -- facts that are sent to a jump's target are joined into its entry, and each entry is numbered again
   pub sent_right : (target : Option ℕ) (sent : Option NumberedFacts)
       → IsNumberedIf stacks n sent → IsSentIf target n sent old new
       → (i : ℕ) → slot ≤ i
@@ -292,16 +296,22 @@ module _ (absorb : SlotsAbsorb) (stacks : Stacks) (n m slot : ℕ) (lt : n < m) 
 module _ (absorb : SlotsAbsorb) (shapes : Shapes) (slot : ℕ) (insn : Insn) where
   pub record IsRightStep (here : Option Facts) (old : List (Option NumberedFacts))
       (falling : Option NumberedFacts) (new : List (Option NumberedFacts)) : Type 0 where
+    -- the facts on the falling edge are those that the instruction's effect gives it
     pub falls : facts_on falling ≡ falling_from shapes slot insn here
+    -- the facts on the jumping edge are joined into the entry of its target, and into no other later entry
     pub sent : (i : ℕ) → slot < i → Brings (jump_target insn slot) (jumping_from shapes slot insn here) old new i
+    -- the facts on the falling edge and in the later entries are numbered, for the next slot
     pub numbered : AreNumbered (slot + 1) (8 * slot + 10) falling new
 
   -- the current facts after the facts on both edges into the slot are joined
   pub record IsArrived (stacks : Stacks)
       (entries after : List (Option NumberedFacts))
       (falling here : Option NumberedFacts) : Type 0 where
+    -- they are the join of the facts on the falling edge and on jumps to the slot
     pub facts : facts_on here ≡ joined (facts_on falling) (brought_to slot entries)
+    -- they are numbered, if the new number means their stack
     pub in_hand : IsNumberedIf (with_stack stacks (8 * slot + 2) (stack_on here)) (8 * slot + 3) here
+    -- the entries of later slots are still numbered
     pub ahead : (i : ℕ)
         → slot + 1 ≤ i
         → IsNumberedIf (with_stack stacks (8 * slot + 2) (stack_on here)) (8 * slot + 3) (entry_of i after)

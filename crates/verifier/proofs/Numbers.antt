@@ -15,10 +15,12 @@ use Rattle.verifier.specs.Before.{joined, only_if}
 use Rattle.verifier.specs.declared.numbered_facts.NumberedFacts.{NumberedFacts}
 use Rattle.verifier.specs.inside.Numbers.{facts_on, entry_of, number_of, included_in, numbered_by, at_entry, IsJoinedSlot, IsJoin, IsJoinedBy, IsNumberedSlot, IsNumbered, IsNumberedIf, AreNumbered}
 
+-- facts joined with those of an edge that has none are not changed
 pub joined_none : (a : Option Facts) → joined a None ≡ a
 joined_none None = refl
 joined_none (Some f) = refl
 
+-- an edge without facts has none, whether or not it leads to the slot
 pub on_none : (b : Bool) → only_if b None ≡ None
 on_none true = refl
 on_none false = refl
@@ -29,9 +31,11 @@ on_none false = refl
 abbrev pub with_held : (ℕ → Slot) → ℕ → Slot → ℕ → Slot
 with_held held n s k = if k == n then s else held k
 
+-- the new number means the new slot
 pub held_there : (held : ℕ → Slot) (n : ℕ) (s : Slot) → with_held held n s n ≡ s
 held_there held n s = cond-true (n == n) s (held n) (eq-eqb n n refl)
 
+-- a number below the new one keeps its meaning
 pub held_below : (held : ℕ → Slot) (n k : ℕ) (s : Slot) → k < n → with_held held n s k ≡ held k
 held_below held n k s lt = cond-false (k == n) s (held k) (ne_eqb k n (λ e. omega (arith, e, lt)))
 
@@ -52,6 +56,7 @@ slot_more held n m new s a b h lt =
           );
     }
 
+-- a numbered slot is numbered below a greater bound too
 pub slot_raised : (held : ℕ → Slot) (n m : ℕ) (s : Slot) (a b : ℕ)
     → n ≤ m → IsNumberedSlot held n s a b → IsNumberedSlot held m s a b
 slot_raised held n m s a b le h =
@@ -84,7 +89,9 @@ slot_fresh held n m s a b some lt number includes =
     }
 
 pub record IsRightSlot (held : ℕ → Slot) (n m : ℕ) (s t s' : Slot) (n' m' : ℕ) : Type 0 where
+  -- the new slot is the join of both
   pub slot : s' ≡ slot_join s t
+  -- the new slot is numbered, if the new number means it
   pub numbered : IsNumberedSlot (with_held held n s') m s' n' m'
 
 module _ (absorb : SlotsAbsorb) (held : ℕ → Slot) (n m : ℕ) (lt : n < m) (first : 0 < n)
@@ -136,6 +143,7 @@ module _ (absorb : SlotsAbsorb) (held : ℕ → Slot) (n m : ℕ) (lt : n < m) (
             number;
       }
 
+  -- a join of numbered slots as `IsJoinedSlot` has it gives their join, which is numbered again
   pub slot_right : IsJoinedSlot n s a b t k s' n' m' → IsRightSlot held n m s t s' n' m'
   slot_right (inl kept) = slot_kept kept.0 kept.1 kept.2 kept.3
   slot_right (inr done) = slot_met done.0 done.1 done.2
@@ -149,6 +157,7 @@ Stacks = ℕ → ℕ → Slot
 abbrev pub with_stack : Stacks → ℕ → (ℕ → Slot) → Stacks
 with_stack stacks n slots i = with_held (stacks i) n (slots i)
 
+-- numbered facts are still numbered, below a greater bound, if the next number means some stack
 pub numbered_more : (stacks : Stacks) (n m : ℕ) (s : ℕ → Slot) (x : NumberedFacts)
     → IsNumbered stacks n x → n < m → IsNumbered (with_stack stacks n s) m x
 numbered_more stacks n m s x h lt =
@@ -158,11 +167,13 @@ numbered_more stacks n m s x h lt =
           slot_more (stacks i) n m (s i) (slot_at x.facts i) (number_of x i) (included_in x i) (h.slots i within) lt;
     }
 
+-- numbered facts, if any, are still numbered, below a greater bound, if the next number means some stack
 pub numbered_more_if : (stacks : Stacks) (n m : ℕ) (s : ℕ → Slot) (o : Option NumberedFacts)
     → IsNumberedIf stacks n o → n < m → IsNumberedIf (with_stack stacks n s) m o
 numbered_more_if stacks n m s None h lt = tt
 numbered_more_if stacks n m s (Some x) h lt = numbered_more stacks n m s x h lt
 
+-- facts (if any) that are numbered below a bound are numbered below a greater one too
 pub raised_if : (stacks : Stacks) (n m : ℕ) (o : Option NumberedFacts)
     → n ≤ m → IsNumberedIf stacks n o → IsNumberedIf stacks m o
 raised_if stacks n m None le h = tt
@@ -243,7 +254,9 @@ stack_on (Some x) i = slot_at x.facts i
 
 pub record IsRightJoin (stacks : Stacks) (n m : ℕ) (old : Option NumberedFacts) (y : NumberedFacts)
     (new : Option NumberedFacts) : Type 0 where
+  -- the new facts are the join of the old ones with these
   pub facts : facts_on new ≡ joined (facts_on old) (Some y.facts)
+  -- the new facts are numbered, if the new number means their stack
   pub numbered : IsNumberedIf (with_stack stacks n (stack_on new)) m new
 
 same_table : (f : ℕ → Slot) (xs : List Slot)
@@ -284,6 +297,7 @@ module _ (absorb : SlotsAbsorb) (stacks : Stacks) (n m : ℕ) (lt : n < m) (firs
         numbered = record { parts = is.parts; slots = λ i within. (right_at x y z hx hy is i within).numbered };
       }
 
+  -- a join of numbered facts into an edge or an entry gives their join, which is numbered again
   pub right_join : (old : Option NumberedFacts) (y : NumberedFacts) (new : Option NumberedFacts)
       → IsNumberedIf stacks n old → IsNumbered stacks n y
       → IsJoinedBy n old y new

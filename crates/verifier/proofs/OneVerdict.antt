@@ -26,6 +26,7 @@ one_first fault_at m n a b p q =
       | inr (inr higher) ↦ absurd (not_both (fault_at n) b q.here (p.below n higher))
     ]
 
+-- a program is rejected at one slot and for one reason only
 pub one_verdict : (code : List Insn) (named : List Named) (m n : ℕ) (a b : Reason)
     → IsRefused code named m a → IsRefused code named n b → (m ≡ n) × (a ≡ b)
 one_verdict code named m n a b (inl p) (inl q) = one_first (structure_fault code named) m n a b p q
@@ -33,6 +34,7 @@ one_verdict code named m n a b (inl p) (inr q) = absurd (no_first (structure_fau
 one_verdict code named m n a b (inr p) (inl q) = absurd (no_first (structure_fault code named) n b p.0 q)
 one_verdict code named m n a b (inr p) (inr q) = one_first (safety_fault (shapes_of code named) code) m n a b p.1 q.1
 
+-- an accepted program is not rejected
 pub not_refused : (code : List Insn) (named : List Named) (slot : ℕ) (reason : Reason)
     → IsAccepted code named → IsRefused code named slot reason → ⊥
 not_refused code named slot reason accepted (inl p) = no_first (structure_fault code named) slot reason accepted.0 p

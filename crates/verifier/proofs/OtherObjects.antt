@@ -130,6 +130,7 @@ module _ (code : List Insn) (named other : List Named)
           ∙ sym (ap shape_in (target_kept (maps_of code) fd e named))
       by false e = none_kept (maps_of code) other fd e ∙ sym (none_kept (maps_of code) named fd e)
 
+  -- a program that was accepted is also accepted with other objects in which its maps have the same shapes
   pub accepted_too : IsAccepted code other
   accepted_too = (
     well_shaped,

@@ -182,6 +182,7 @@ one_joined fresh part x y z w h step =
           (after.0 ∙ before.0, after.1 ∙ before.1, after.2 ∙ before.2);
     }
 
+-- if the registers and all parts of the stack of two facts are joined in a third, this is their join
 pub all_joined : (fresh : ℕ) (x y z : NumberedFacts)
     → IsJoinedBelow fresh stack_parts x y z → length z.facts.slots ≡ stack_slots
     → IsJoin fresh x y z

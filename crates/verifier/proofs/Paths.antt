@@ -149,6 +149,7 @@ runs_are_paths laws code named program accepted maps words packet given =
 
 -- ---- what a run costs
 
+-- if the runs of a program are paths from slot 0, none has more steps or calls than the cost
 pub runs_cost_at_most : (cost : Cost) (shapes : Shapes) (code : List Insn)
     → IsCostOf cost code → RunsArePaths shapes code
     → RunsCostAtMost cost shapes code

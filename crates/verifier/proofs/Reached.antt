@@ -105,6 +105,7 @@ marked_next code i n insn old new begins reached was is =
     ∙ sym (ap (λ (b : Bool). reached_from code i n || (b && leads_into (begins_at code n) n i)) reached)
     ∙ sym (reached_next code i n)
 
+-- a disjunction with a conjunction that has a false part is its first part
 pub or_neither : (a b : Bool) → (a || (b && false)) ≡ a
 or_neither true true = refl
 or_neither true false = refl
@@ -140,6 +141,7 @@ marked_through code i n (suc m) old none was =
 pub begins_first : (code : List Insn) → 0 < slot_count code → Adjoins code 0
 begins_first code some = inr (some, first_begins code some)
 
+-- (a value with its proof) the instruction that begins at a slot, if one is known to begin there
 pub begun_of : (code : List Insn) (n : ℕ) (o : Option Insn)
     → begins_at code n ≡ o → IsSome o → (i : Insn) × (begins_at code n ≡ Some i)
 begun_of code n None is some = absurd (false≢true some)
@@ -159,6 +161,7 @@ begun_there code by_slot n insn (inr begins) lt listed is =
 
 -- ---- the fault at a slot
 
+-- the first fault of the instruction that begins at a slot, if any, is the slot's fault of its shape
 pub shape_is : (code : List Insn) (named : List Named) (at : ℕ) (o : Option Insn) (r : Option Reason)
     → o ≡ begins_at code at → r ≡ shape_of code named at o
     → structure_fault code named at ≡ r

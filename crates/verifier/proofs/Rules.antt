@@ -89,6 +89,7 @@ module _ (effects : EffectsNeedNone) where
     unfolding safety_fault
     safety_rule code slot = facts_rule slot (facts_before shapes code slot) (begins_at code slot)
 
+  -- no program is rejected because memory runs out
   pub not_for_memory : (code : List Insn) (named : List Named) (slot : ℕ) (reason : Reason)
       → IsRefused code named slot reason → reason ≢ Memory
   not_for_memory code named slot reason (inl first) = shape_rule code named slot reason first.here

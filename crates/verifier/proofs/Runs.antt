@@ -62,6 +62,7 @@ at_entry : (shapes : Shapes) (code : List Insn) → facts_before shapes code 0 �
 unfolding facts_from_below
 at_entry shapes code = refl
 
+-- the state at the start of a run with inputs that fit the shapes is admitted
 pub beginning : (shapes : Shapes) (code : List Insn) (maps : MapsByDescriptor) (words packet : List ℕ)
     → AreRunInputs shapes maps words packet
     → IsAdmitted shapes code (start_of_run maps words packet)
@@ -120,6 +121,7 @@ module _ (law : StepsGoOn) (code : List Insn) (named : List Named) (program : Is
       after_step (shapes_of code named) code s (step code s) (run code n) (law code named s program accepted here)
       (λ t farther there. no_fault n t (omega arith) there)
 
+-- no run of an accepted program faults, if each step leads from an admitted state to an admitted one
 pub never_faults : StepsGoOn → NeverFaults
 never_faults law code named maps words packet program accepted given =
     no_fault law code named program accepted (slot_count code) (start_of_run maps words packet)

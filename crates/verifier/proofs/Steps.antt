@@ -40,6 +40,7 @@ well_formed_before : TransferKeepsWellFormed
 well_formed_before stay shapes code program n f e =
     subst (AreWellFormedOn n) e (inflow_words stay shapes code program.each n n)
 
+-- a step of an instruction that may be run is sound in a program, as transfer is sound and keeps facts well formed
 pub slots_covered : TransferIsSound → TransferKeepsWellFormed → StepIsSound
 slots_covered cover stay code named witness s i f edges program fine begins known still e =
     let shapes = shapes_of code named in
@@ -51,8 +52,11 @@ slots_covered cover stay code named witness s i f edges program fine begins know
 
 -- the premises of a step
 pub record Laws : Type 0 where
+  -- transfer is sound
   pub cover : TransferIsSound
+  -- transfer keeps facts well formed
   pub stay : TransferKeepsWellFormed
+  -- a join of facts admits each state that either of them admits
   pub join : JoinAdmits
 
 -- ---- a state that facts admit
@@ -214,10 +218,12 @@ module _ (laws : Laws) (code : List Insn) (named : List Named) (s : RunState)
       (begins_before Given code named program accepted.0 s.at here.facts here.known)))
   step_on (Some i) e = runs_on i e (effect Given s.at i here.facts) refl
 
+-- no step of an accepted program from an admitted state faults, and the state after it is admitted
 pub each_step : Laws → StepsGoOn
 each_step laws code named s program accepted here =
     step_on laws code named s program accepted here (begins_at code s.at) refl
 
+-- a step of an accepted program from an admitted state takes an edge of its instruction, unless the run ends
 pub each_step_along : Laws
     → (code : List Insn) (named : List Named) (s : RunState) (i : Insn) → IsProgram code
     → IsAccepted code named → IsAdmitted (shapes_of code named) code s

@@ -81,6 +81,7 @@ pub none_told_at_memory : (code : List Insn) (named : List Named) (told : Option
     → fault ≡ memory_fault → IsToldRefused code named told told fault
 none_told_at_memory code named told fault memory = inl (memory, 0, told_first (shapes_of code named) code told)
 
+-- if memory runs out or a slot has a fault of its shape, it is right that the watcher receives nothing more
 pub none_told_of_shape : (code : List Insn) (named : List Named) (told : Option (List (ℕ × Facts)))
     (fault : VerifyFault)
     → (fault ≡ memory_fault) ⊎ IsFirstFault (structure_fault code named) fault.slot fault.reason

@@ -125,6 +125,7 @@ module _ (law : TransferKeepsWellFormed) (shapes : Shapes) (code : List Insn) (e
   sent_words n m None h = tt
   sent_words n m (Some f) h = begun_words n m f h (begins_at code n) refl
 
+  -- the facts that the slots below slot n pass on to a slot are well formed at slot n
   pub inflow_words : (n m : ℕ) → AreWellFormedOn n (facts_from_below shapes code m n)
   unfolding facts_from_below
   inflow_words zero m = cond_both (m == 0) (Some entry) None (AreWellFormedOn 0) (λ _. entry_words 0) (λ _. tt)

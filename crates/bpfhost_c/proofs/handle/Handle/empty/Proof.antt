@@ -28,6 +28,7 @@ use Rattle.bpfhost_c.specs.contracts.handle.Handle.empty.Key.{name as #self}
 use Rattle.bpfhost_c.proofs.handle.Handle.empty.Statement.{statement}
 use Rattle.bpfhost_c.proofs.handle.Handle.empty.Code as code
 
+-- the code of `empty` meets its contract: the handle that it makes has no session
 pub empty_spec : {M : Type 1} → statement M
 empty_spec 𝓤 𝓛 𝓜 𝓡 wired =
     let H = 𝓛.H in

@@ -29,6 +29,7 @@ use Rattle.bpfhost_c.specs.contracts.handle.Handle.from_raw_box.Key.{name as #se
 use Rattle.bpfhost_c.proofs.handle.Handle.from_raw_box.Statement.{statement}
 use Rattle.bpfhost_c.proofs.handle.Handle.from_raw_box.Code as code
 
+-- the code of `from_raw_box` meets its contract: the handle has the session of the raw box
 pub from_raw_box_spec : {M : Type 1} → statement M
 from_raw_box_spec 𝓤 𝓛 𝓜 𝓡 wired =
     let H = 𝓛.H in

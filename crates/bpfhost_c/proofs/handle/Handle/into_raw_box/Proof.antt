@@ -36,6 +36,7 @@ use Rattle.bpfhost_c.specs.contracts.handle.Handle.into_raw_box.Key.{name as #se
 use Rattle.bpfhost_c.proofs.handle.Handle.into_raw_box.Statement.{statement}
 use Rattle.bpfhost_c.proofs.handle.Handle.into_raw_box.Code as code
 
+-- the code of `into_raw_box` meets its contract: the raw box has the session, or neither has one
 pub into_raw_box_spec : {M : Type 1} → statement M
 into_raw_box_spec 𝓤 𝓛 𝓜 𝓡 wired =
     let H = 𝓛.H in

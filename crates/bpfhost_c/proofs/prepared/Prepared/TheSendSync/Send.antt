@@ -25,6 +25,7 @@ owned a (block_ptr b o) (Some x) = (
   crossing.frees.frees a (raw (lone program.the_row.mir)) (block_ptr b o),
 )
 
+-- the handle of a program may be sent to another thread
 pub send : IsSend the_row
 send =
     let all : AllSend (fields the_type) = (search sendable, (heap.the_field_send, tt)) in

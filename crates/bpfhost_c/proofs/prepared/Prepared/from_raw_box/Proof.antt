@@ -30,6 +30,7 @@ use Rattle.bpfhost_c.specs.contracts.prepared.Prepared.from_raw_box.Key.{name as
 use Rattle.bpfhost_c.proofs.prepared.Prepared.from_raw_box.Statement.{statement}
 use Rattle.bpfhost_c.proofs.prepared.Prepared.from_raw_box.Code as code
 
+-- the code of `from_raw_box` meets its contract: the handle has the program of the raw box
 pub from_raw_box_spec : {M : Type 1} → statement M
 from_raw_box_spec 𝓤 𝓛 𝓜 𝓡 wired =
     let H = 𝓛.H in

@@ -40,6 +40,7 @@ use Rattle.bpfhost_c.specs.contracts.raw_box.RawBox.from_box.Key.{name as #self}
 use Rattle.bpfhost_c.proofs.raw_box.RawBox.from_box.Statement.{statement}
 use Rattle.bpfhost_c.proofs.raw_box.RawBox.from_box.Code as code
 
+-- the code of `from_box` meets its contract: the raw box has the value of the box
 pub from_box_spec : {M : Type 1} → statement M
 from_box_spec 𝓤 𝓛 𝓜 𝓡 wired T A L LA g d dx dd allocator glue glued =
     let H = 𝓛.H in

@@ -39,6 +39,7 @@ use Rattle.bpfhost_c.specs.contracts.raw_box.RawBox.into_box.Key.{name as #self}
 use Rattle.bpfhost_c.proofs.raw_box.RawBox.into_box.Statement.{statement}
 use Rattle.bpfhost_c.proofs.raw_box.RawBox.into_box.Code as code
 
+-- the code of `into_box` meets its contract: the box has the value of the raw box
 pub into_box_spec : {M : Type 1} → statement M
 into_box_spec 𝓤 𝓛 𝓜 𝓡 wired T A L LA g d dx dd allocator glue glued =
     let H = 𝓛.H in

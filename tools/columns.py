@@ -1,4 +1,4 @@
-"""Lines of definitions above 100 columns, and of proofs above 160; of the latter 5 in 100 may be above 120. A `use` may be longer."""
+"""Lines of definitions above 100 columns, and of proofs above 160; of the latter 5 in 100 may be above 120. A `use` has at most 160."""
 
 from __future__ import annotations
 
@@ -8,13 +8,21 @@ from collections.abc import Mapping
 MOST = 100
 # Of proofs: the most columns of a line, those of most lines, and how many of a hundred may have more.
 MOST_OF_PROOFS, OF_MOST, ABOVE = 160, 120, 5
-USE = re.compile(r"\s*(?:pub )?use ")
+USE = re.compile(r"\s*(?:pub |ghost )?use ")
+MOST_OF_USE = 160
 
 
 def too_wide(name: str, text: str, most: int = MOST) -> list[str]:
     """The faults of a file of definitions or proofs: its lines that are too long."""
-    return [f"{name}:{number}: {len(line)} columns, and {most} are the most: a line for each premise, or a name for what repeats"
-            for number, line in enumerate(text.splitlines(), 1) if len(line) > most and not USE.match(line)]
+    return wide_uses(name, text) + [
+        f"{name}:{number}: {len(line)} columns, and {most} are the most: a line for each premise, or a name for what repeats"
+        for number, line in enumerate(text.splitlines(), 1) if len(line) > most and not USE.match(line)]
+
+
+def wide_uses(name: str, text: str) -> list[str]:
+    """The lines of a file that import too many names at once."""
+    return [f"{name}:{number}: {len(line)} columns, and a `use` has {MOST_OF_USE} at most: several of the same path"
+            for number, line in enumerate(text.splitlines(), 1) if len(line) > MOST_OF_USE and USE.match(line)]
 
 
 def too_wide_proofs(texts: Mapping[str, str]) -> list[str]:

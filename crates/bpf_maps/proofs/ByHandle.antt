@@ -1,5 +1,6 @@
 -- The stored map of each handle, after one map or one key is changed.
-use Rattle.std.proofs.Common.{◌≡◌, ◌≢◌, ℕ, zero, suc, ◌+◌, ◌<◌, ◌≤◌, ◌⊎◌, inl, inr, List, [], ◌∷◌, length, Option, Some, None, IsSome, is_some, option_map, refl, sym, ap, ◌∙◌, get_or, set, arith, cond, count_by, get_or-set_same, get_or-set_other, true≢false, length-set}
+use Rattle.std.proofs.Common.{◌≡◌, ◌≢◌, ℕ, zero, suc, ◌+◌, ◌<◌, ◌≤◌, ◌⊎◌, inl, inr, List, [], ◌∷◌, length, Option, Some, None, IsSome, is_some}
+use Rattle.std.proofs.Common.{option_map, refl, sym, ap, ◌∙◌, get_or, set, arith, cond, count_by, get_or-set_same, get_or-set_other, true≢false, length-set}
 use Rattle.std.specs.Prelude.{is_none, position}
 use Rattle.std.specs.Option.{option_and_then}
 use Rattle.std.proofs.lemmas.Option.{none-some}

@@ -1,11 +1,13 @@
 -- A call that changes one map, which keeps its shape and its area.
-use Rattle.std.proofs.Common.{◌≡◌, ◌≢◌, ℕ, ◌-◌, ◌<◌, ◌≤◌, Bool, if◌then◌else◌, nat_le, List, Option, Some, None, IsSome, is_some, option_map, refl, sym, ap, subst, ◌∙◌, get_or, arith}
+use Rattle.std.proofs.Common.{◌≡◌, ◌≢◌, ℕ, ◌-◌, ◌<◌, ◌≤◌, Bool, if◌then◌else◌, nat_le, List, Option, Some}
+use Rattle.std.proofs.Common.{None, IsSome, is_some, option_map, refl, sym, ap, subst, ◌∙◌, get_or, arith}
 use Rattle.std.proofs.lemmas.Bool.{lt-leb, le-leb}
 use Rattle.bpf_maps.specs.declared.stored_map.StoredMap.{StoredMap}
 use Rattle.bpf_maps.specs.declared.maps.Maps.TheInside.{Inside}
 use Rattle.bpf_maps.specs.KeyTable.{IsSound}
 use Rattle.bpf_maps.specs.BpfMap.{keys_in}
-use Rattle.bpf_maps.specs.Live.{LiveMap, LiveMaps, live_at, live_or, keys_at, holds_at, AreSound, IsLaid, SameAreas, SameValues, KeepsMap, KeepsOthers, areas, MapWithoutArea, without_area, held_at, one_less}
+use Rattle.bpf_maps.specs.Live.{LiveMap, LiveMaps, live_at, live_or, keys_at, holds_at, AreSound, IsLaid, SameAreas}
+use Rattle.bpf_maps.specs.Live.{SameValues, KeepsMap, KeepsOthers, areas, MapWithoutArea, without_area, held_at, one_less}
 use Rattle.slab.specs.Slab.{get, with_value}
 use Rattle.bpf_maps.specs.InMaps.{live_of, live_maps_of, stored_in, as_live_maps, IsInItsArea, IsWellFormedMaps}
 use Rattle.bpf_maps.proofs.Slots.{some_stored, live_by, others_by, one_changed, value_stays}

@@ -1,5 +1,7 @@
 -- A map that is new.
-use Rattle.std.proofs.Common.{◌≡◌, ◌≢◌, ℕ, ◌+◌, ◌*◌, ◌/◌, ◌<◌, ◌≤◌, ◌⊎◌, ◌||◌, Bool, true, false, if◌then◌else◌, nat_lt, List, ◌++◌, length, take, drop, replicate, Option, Some, None, Result, Ok, Err, IfOk, IsSome, is_some, refl, sym, ap, ap₂, subst, ◌∙◌, arith, get_or, set, ⊎_elim, inl, inr, true≢false}
+use Rattle.std.proofs.Common.{◌≡◌, ◌≢◌, ℕ, ◌+◌, ◌*◌, ◌/◌, ◌<◌, ◌≤◌, ◌⊎◌, ◌||◌, Bool, true, false, if◌then◌else◌, nat_lt}
+use Rattle.std.proofs.Common.{List, ◌++◌, length, take, drop, replicate, Option, Some, None, Result, Ok, Err, IfOk, IsSome}
+use Rattle.std.proofs.Common.{is_some, refl, sym, ap, ap₂, subst, ◌∙◌, arith, get_or, set, ⊎_elim, inl, inr, true≢false}
 use Rattle.std.specs.Prelude.{is_none, position}
 use Rattle.std.proofs.lemmas.Bool.{lt-ltb, le-ltb}
 use Rattle.std.proofs.lemmas.List.{length-replicate}
@@ -16,7 +18,8 @@ use Rattle.bpf_maps.specs.declared.maps.Maps.TheInside.{Inside}
 use Rattle.bpf_maps.specs.KeyTable.{KeyTable, IsSound, new_keys}
 use Rattle.bpf_maps.specs.BpfMap.{keys_in}
 use Rattle.bpf_maps.specs.Elements.{elements_of, word_of}
-use Rattle.bpf_maps.specs.Live.{LiveMap, LiveMaps, live_at, live_or, free_handle, keys_at, offset, value_in, map_in, start_at, area_by, areas, create_fault, Creates, IsCreated, IsLaid, AreSound, SameValues, KeepsMaps}
+use Rattle.bpf_maps.specs.Live.{LiveMap, LiveMaps, live_at, live_or, free_handle, keys_at, offset, value_in, map_in, start_at}
+use Rattle.bpf_maps.specs.Live.{area_by, areas, create_fault, Creates, IsCreated, IsLaid, AreSound, SameValues, KeepsMaps}
 use Rattle.bpf_maps.specs.InMaps.{live_of, by_handle, stored_in, as_live_maps, AreKeys, IsWellFormedMaps}
 use Rattle.bpf_maps.specs.LiveLaws.{lowest_most}
 use Rattle.bpf_maps.proofs.Slots.{live_by, none_by, others_by, same_or_other}

@@ -1,5 +1,6 @@
 -- The addresses of the elements of an array.
-use Rattle.std.proofs.Common.{◌≡◌, ◌≢◌, ℕ, ◌+◌, ◌*◌, ◌/◌, ◌%◌, ◌^◌, ◌<◌, ◌≤◌, Bool, true, false, List, length, Option, Some, None, nat_lt, if◌then◌else◌, refl, sym, ap, ◌∙◌, arith}
+use Rattle.std.proofs.Common.{◌≡◌, ◌≢◌, ℕ, ◌+◌, ◌*◌, ◌/◌, ◌%◌, ◌^◌, ◌<◌, ◌≤◌, Bool, true, false, List}
+use Rattle.std.proofs.Common.{length, Option, Some, None, nat_lt, if◌then◌else◌, refl, sym, ap, ◌∙◌, arith}
 use Rattle.std.specs.Option.{IsSome}
 use Rattle.std.proofs.lemmas.Bool.{false≢true, lt-ltb, le-ltb}
 use Rattle.tagged_model.specs.declared.shape.MapKind.{MapKind}
@@ -9,7 +10,8 @@ use Rattle.tagged_model.specs.Table.{look_up, index_key}
 use Rattle.bpf_maps.specs.declared.elements.Elements.{Elements}
 use Rattle.bpf_maps.specs.declared.part.TheConstants.{PART}
 use Rattle.bpf_maps.specs.KeyTable.{table_of}
-use Rattle.bpf_maps.specs.Live.{LiveMap, LiveMaps, live_at, live_or, keys_at, shape_at, offset, offset_at, value_address, LiesInPart, IsLaid, IsPacked, AreSound}
+use Rattle.bpf_maps.specs.Live.{LiveMap, LiveMaps, live_at, live_or, keys_at, shape_at, offset}
+use Rattle.bpf_maps.specs.Live.{offset_at, value_address, LiesInPart, IsLaid, IsPacked, AreSound}
 use Rattle.bpf_maps.specs.LiveLaws.{laid_inside}
 use Rattle.bpf_maps.specs.Elements.{element_count, elements_of, elements_at, word_of}
 use Rattle.bpf_maps.proofs.Shapes.{array_key, few_entries}

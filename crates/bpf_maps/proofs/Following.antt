@@ -1,5 +1,6 @@
 -- The key that follows has the size of all keys.
-use Rattle.std.proofs.Common.{◌≡◌, ◌≤◌, ℕ, Bool, true, false, List, [], ◌∷◌, length, Option, Some, None, is_some, option_map, IfSome, cond, refl, subst, sym, ap, ◌∙◌, if◌then◌else◌, arith}
+use Rattle.std.proofs.Common.{◌≡◌, ◌≤◌, ℕ, Bool, true, false, List, [], ◌∷◌, length, Option, Some, None}
+use Rattle.std.proofs.Common.{is_some, option_map, IfSome, cond, refl, subst, sym, ap, ◌∙◌, if◌then◌else◌, arith}
 use Rattle.std.specs.Cmp.Lexicographic.{bytes_decides}
 use Rattle.tagged_model.specs.Table.{found, is_key, first_key, key_behind, key_after}
 use Rattle.bpf_maps.specs.declared.key_ref.KeyRef.{KeyRef}

@@ -1,5 +1,6 @@
 -- The invariant of a hash map after a change: each element is in use or spare, and the first spare ones are kept apart.
-use Rattle.std.proofs.Common.{◌≡◌, ◌≢◌, ℕ, zero, suc, ◌+◌, ◌-◌, ◌<◌, ◌≤◌, ◌==◌, Bool, true, false, List, [], ◌∷◌, ◌++◌, length, take, drop, Some, get_or, refl, sym, ap, subst, ◌∙◌, nat_lt, if◌then◌else◌, arith, vec_len, vec_capacity, length-append}
+use Rattle.std.proofs.Common.{◌≡◌, ◌≢◌, ℕ, zero, suc, ◌+◌, ◌-◌, ◌<◌, ◌≤◌, ◌==◌, Bool, true, false, List, [], ◌∷◌, ◌++◌, length, take, drop}
+use Rattle.std.proofs.Common.{Some, get_or, refl, sym, ap, subst, ◌∙◌, nat_lt, if◌then◌else◌, arith, vec_len, vec_capacity, length-append}
 use Rattle.std.proofs.lemmas.Bool.{ltb-true}
 use Rattle.std.proofs.lemmas.List.{length-map, length-take-le, take_all, take-take}
 use Rattle.std.specs.List.{swap}

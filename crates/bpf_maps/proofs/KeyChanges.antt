@@ -7,7 +7,8 @@ use Rattle.bpf_maps.specs.KeyTable.{IsSound}
 use Rattle.bpf_maps.specs.BpfMap.{keys_in}
 use Rattle.bpf_maps.specs.Live.{LiveMaps, keys_at, OnlyKeysChange}
 use Rattle.bpf_maps.specs.InMaps.{as_live_maps, IsWellFormedMaps}
-use Rattle.bpf_maps.proofs.Changes.{with_stored, told_of, IsUnder, IsChange, placed_under, live_old, live_new, others_stay, areas_stay, whole_stays, laid_stays, room_stays, part_stays}
+use Rattle.bpf_maps.proofs.Changes.{with_stored, told_of, IsUnder, IsChange, placed_under, live_old, live_new}
+use Rattle.bpf_maps.proofs.Changes.{others_stay, areas_stay, whole_stays, laid_stays, room_stays, part_stays}
 
 -- the map with another table of keys
 abbrev pub with_map : StoredMap → BpfMap → StoredMap

@@ -1,5 +1,6 @@
 -- A map that is removed.
-use Rattle.std.proofs.Common.{◌≡◌, ◌≢◌, ℕ, ◌+◌, ◌-◌, ◌*◌, ◌<◌, ◌≤◌, List, ◌++◌, length, take, drop, Option, Some, None, is_some, option_map, refl, sym, ap, subst, ◌∙◌, arith, get_or, set, ⊎_elim, true≢false}
+use Rattle.std.proofs.Common.{◌≡◌, ◌≢◌, ℕ, ◌+◌, ◌-◌, ◌*◌, ◌<◌, ◌≤◌, List, ◌++◌, length, take, drop, Option, Some, None}
+use Rattle.std.proofs.Common.{is_some, option_map, refl, sym, ap, subst, ◌∙◌, arith, get_or, set, ⊎_elim, true≢false}
 use Rattle.std.proofs.lemmas.List.{drop-take, drop-drop, length-drop}
 use Rattle.std.proofs.Math.Seq.{length-take-le, take-take}
 use Rattle.slab.specs.Slab.{Slab, get, slab_len, with_value}
@@ -8,7 +9,8 @@ use Rattle.bpf_maps.specs.declared.stored_map.StoredMap.{StoredMap}
 use Rattle.bpf_maps.specs.declared.spare_maps.SpareMaps.{SpareMaps}
 use Rattle.bpf_maps.specs.declared.maps.Maps.TheInside.{Inside}
 use Rattle.bpf_maps.specs.BpfMap.{keys_in}
-use Rattle.bpf_maps.specs.Live.{LiveMap, LiveMaps, live_at, live_or, shape_at, offset, area_by, areas, without_area, held_at, one_less, area_of, IsLaid, AreSound, SameValues, KeepsOthers, map_without, ClosesUp}
+use Rattle.bpf_maps.specs.Live.{LiveMap, LiveMaps, live_at, live_or, shape_at, offset, area_by, areas, without_area}
+use Rattle.bpf_maps.specs.Live.{held_at, one_less, area_of, IsLaid, AreSound, SameValues, KeepsOthers, map_without, ClosesUp}
 use Rattle.bpf_maps.specs.Sum.{weight}
 use Rattle.bpf_maps.specs.InMaps.{live_of, live_maps_of, by_handle, stored_in, as_live_maps, AreKeys, closed_up, IsWellFormedMaps}
 use Rattle.bpf_maps.proofs.Slots.{at_lives, live_by, none_by, same_some}

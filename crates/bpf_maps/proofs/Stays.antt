@@ -2,7 +2,8 @@
 use Rattle.std.proofs.Common.{◌≡◌, ℕ, ◌<◌, List, Option, Some, None, IsSome, is_some, option_map, refl, sym, ap, subst, ◌∙◌}
 use Rattle.tagged_model.specs.Table.{with_values}
 use Rattle.bpf_maps.specs.KeyTable.{KeyTable, table_of, IsSound}
-use Rattle.bpf_maps.specs.Live.{LiveMap, LiveMaps, live_at, live_or, no_live, keys_at, value_in, map_in, SameValues, KeepsMap, MapWithoutArea, without_area, held_at}
+use Rattle.bpf_maps.specs.Live.{LiveMap, LiveMaps, live_at, live_or, no_live, keys_at, value_in}
+use Rattle.bpf_maps.specs.Live.{map_in, SameValues, KeepsMap, MapWithoutArea, without_area, held_at}
 use Rattle.bpf_maps.proofs.Values.{agreeing_tables, used_in_entries}
 
 -- ---- a map without its area

@@ -1,5 +1,6 @@
 -- Sums over the live maps.
-use Rattle.std.proofs.Common.{◌≡◌, ◌≢◌, ℕ, zero, suc, ◌+◌, ◌<◌, ◌≤◌, false, List, [], ◌∷◌, length, take, Option, Some, None, IsSome, is_some, refl, sym, ap, ◌∙◌, get_or, arith, true≢false}
+use Rattle.std.proofs.Common.{◌≡◌, ◌≢◌, ℕ, zero, suc, ◌+◌, ◌<◌, ◌≤◌, false, List, [], ◌∷◌, length, take}
+use Rattle.std.proofs.Common.{Option, Some, None, IsSome, is_some, refl, sym, ap, ◌∙◌, get_or, arith, true≢false}
 use Rattle.bpf_maps.specs.Live.{LiveMap, LiveMaps, live_at, live_or, keys_at}
 use Rattle.bpf_maps.specs.Sum.{weight, total}
 use Rattle.bpf_maps.specs.LiveLaws.{total_same, total_next}

@@ -1,5 +1,6 @@
 -- The invariant of the live maps, which each change preserves.
-use Rattle.std.proofs.Common.{◌≡◌, ◌≢◌, ℕ, ◌+◌, ◌*◌, ◌/◌, ◌%◌, ◌<◌, ◌≤◌, ◌⊎◌, Bool, Option, Some, None, IsSome, option_map, refl, sym, ap, subst, ◌∙◌, arith, get_or, ⊎_elim, inl, inr}
+use Rattle.std.proofs.Common.{◌≡◌, ◌≢◌, ℕ, ◌+◌, ◌*◌, ◌/◌, ◌%◌, ◌<◌, ◌≤◌, ◌⊎◌, Bool, Option, Some, None}
+use Rattle.std.proofs.Common.{IsSome, option_map, refl, sym, ap, subst, ◌∙◌, arith, get_or, ⊎_elim, inl, inr}
 use Rattle.std.proofs.lemmas.Option.{none-some, same_Some}
 use Rattle.tagged_model.specs.declared.shape.MapShape.{MapShape}
 use Rattle.tagged_model.specs.Shape.{area}
@@ -10,7 +11,8 @@ use Rattle.bpf_maps.specs.declared.maps.Maps.TheInside.{Inside}
 use Rattle.bpf_maps.specs.BpfMap.{keys_in}
 use Rattle.bpf_maps.specs.KeyTable.{IsSound}
 use Rattle.bpf_maps.specs.Elements.{elements_of, word_of}
-use Rattle.bpf_maps.specs.Live.{LiveMap, live_at, live_or, keys_at, offset, LiesInPart, IsLaid, IsPacked, area_of, areas, StandsBefore, start_without, map_without}
+use Rattle.bpf_maps.specs.Live.{LiveMap, live_at, live_or, keys_at, offset, LiesInPart, IsLaid}
+use Rattle.bpf_maps.specs.Live.{IsPacked, area_of, areas, StandsBefore, start_without, map_without}
 use Rattle.bpf_maps.specs.Sum.{weight}
 use Rattle.bpf_maps.specs.InMaps.{live_of, live_maps_of, stored_in, as_live_maps, AreKeys, closed_up, IsInItsArea, IsWellFormedMaps}
 use Rattle.bpf_maps.proofs.Slots.{at_lives, stored_of, some_stored, live_by, none_by, others_by, same_or_other, same_at}

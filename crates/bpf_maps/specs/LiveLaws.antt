@@ -1,7 +1,8 @@
 -- Laws of live maps and of the changes by calls, proved here for the proofs of this crate and of
 -- the crates above. This project's own. No contract cites them, so they are not part of what has to
 -- be trusted.
-use Rattle.std.proofs.Common.{◌≡◌, ◌≢◌, ℕ, zero, suc, ◌+◌, ◌<◌, ◌≤◌, ◌⊎◌, inl, inr, false, cond, List, [], ◌∷◌, length, take, Option, Some, None, IsSome, is_some, refl, sym, subst, ap, ap₂, ◌∙◌, get_or, arith, true≢false}
+use Rattle.std.proofs.Common.{◌≡◌, ◌≢◌, ℕ, zero, suc, ◌+◌, ◌<◌, ◌≤◌, ◌⊎◌, inl, inr, false, cond, List, [], ◌∷◌, length, take}
+use Rattle.std.proofs.Common.{Option, Some, None, IsSome, is_some, refl, sym, subst, ap, ap₂, ◌∙◌, get_or, arith, true≢false}
 use Rattle.std.specs.Prelude.{is_none, position, nat_lt}
 use Rattle.std.specs.List.{position_or_len}
 use Rattle.std.proofs.lemmas.Bool.{false≢true, lt-ltb, cases_lt}

@@ -1,6 +1,7 @@
 //! A hash map.
 
-ghost use Rattle.std.specs.Prelude.{◌≡◌, ℕ, ◌<◌, ◌≤◌, None, Some, IsTrue, IfOk, IfSome, nat_lt, if◌then◌else◌, vec_len, vec_capacity, length, option_map};
+ghost use Rattle.std.specs.Prelude.{◌≡◌, ℕ, ◌<◌, ◌≤◌, None, Some, IsTrue, IfOk, IfSome, nat_lt};
+ghost use Rattle.std.specs.Prelude.{if◌then◌else◌, vec_len, vec_capacity, length, option_map};
 ghost use Rattle.ordered_keys.specs.Orders.{next_entry};
 ghost use Rattle.tagged_model.specs.declared.shape.MapKind.TheVariants.{Hash};
 ghost use Rattle.tagged_model.specs.Table.{look_up, of_absent, is_full, verdict, removal, next_of};

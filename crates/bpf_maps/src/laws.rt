@@ -1,7 +1,8 @@
 //! Laws of tables of keys and of live maps. Each law is the contract of a function that does nothing.
 
 ghost use Rattle.std.specs.Prelude.{ℕ, List};
-ghost use Rattle.bpf_maps.specs.Laws.{SizesFitInParts, CallsAreThoseOfAMap, WritesRefineValues, ValuesAgree, ElementsAreWithin, AreasKeepElements, DeletesKeepElements};
+ghost use Rattle.bpf_maps.specs.Laws.{SizesFitInParts, CallsAreThoseOfAMap, WritesRefineValues};
+ghost use Rattle.bpf_maps.specs.Laws.{ValuesAgree, ElementsAreWithin, AreasKeepElements, DeletesKeepElements};
 ghost use Rattle.bpf_maps.specs.InPart.{ValuesAreWritten, LiveMapsRefineValues};
 
 /// A table of keys follows the definition of a map: when it is new, after a new key, after a deletion, and at the end of a run.

@@ -1,6 +1,7 @@
 //! A tenant's live maps, each with a handle.
 
-ghost use Rattle.std.specs.Prelude.{◌≡◌, ◌≢◌, ℕ, ◌+◌, ◌-◌, ◌<◌, ◌≤◌, ◌^◌, ◌⊎◌, true, false, [], length, take, replicate, option_map, Some, None, is_some, IfSome, IfOk, OnErr, IsSome};
+ghost use Rattle.std.specs.Prelude.{◌≡◌, ◌≢◌, ℕ, ◌+◌, ◌-◌, ◌<◌, ◌≤◌, ◌^◌, ◌⊎◌, true, false, [], length, take};
+ghost use Rattle.std.specs.Prelude.{replicate, option_map, Some, None, is_some, IfSome, IfOk, OnErr, IsSome};
 ghost use Rattle.ordered_keys.specs.Orders.{next_entry};
 ghost use Rattle.tagged_model.specs.declared.shape.MapKind.TheVariants.{Array};
 ghost use Rattle.tagged_model.specs.Table.{look_up, verdict, removal, next_of, new_table};
@@ -9,7 +10,9 @@ ghost use Rattle.bpf_maps.specs.Limits.{most_maps, most_bytes};
 ghost use Rattle.bpf_maps.specs.KeyTable.{table_of, IsSound, Claims, Removes, GivesKey, after_run};
 ghost use Rattle.bpf_maps.specs.Elements.{elements_at, word_of};
 ghost use Rattle.bpf_maps.specs.KeyRef.{key_bytes, shown_entry};
-ghost use Rattle.bpf_maps.specs.Live.{live_at, keys_at, shape_at, holds_at, held_at, offset_at, value_in, map_in, value_address, LiesInPart, IsLaid, IsPacked, ClosesUp, start_at, AreSound, SameAreas, SameValues, KeepsMap, KeepsMaps, KeepsOthers, area_by, areas, OnlyKeysChange, create_fault, Creates, one_more, one_less};
+ghost use Rattle.bpf_maps.specs.Live.{live_at, keys_at, shape_at, holds_at, held_at, offset_at, value_in, map_in, value_address};
+ghost use Rattle.bpf_maps.specs.Live.{LiesInPart, IsLaid, IsPacked, ClosesUp, start_at, AreSound, SameAreas, SameValues, KeepsMap};
+ghost use Rattle.bpf_maps.specs.Live.{KeepsMaps, KeepsOthers, area_by, areas, OnlyKeysChange, create_fault, Creates, one_more, one_less};
 ghost use Rattle.bpf_maps.specs.InMaps.{live_of};
 
 use crate::bpf_map::BpfMap;

@@ -1,5 +1,7 @@
 -- Assembling: from the lines to the program.
-use Rattle.std.proofs.Common.{◌≡◌, ◌≢◌, ℕ, zero, suc, ◌+◌, ◌<◌, ◌≤◌, min, Bool, true, false, cond, ltb, not, List, [], ◌∷◌, ◌++◌, length, take, map, get_or, Option, Some, None, subst, refl, sym, ap, ◌∙◌, arith, ℤ, pos, ◌-ℤ◌, unwrap_or, append-nil, append_assoc, below_more, sum_by, inl, inr}
+use Rattle.std.proofs.Common.{◌≡◌, ◌≢◌, ℕ, zero, suc, ◌+◌, ◌<◌, ◌≤◌, min, Bool, true, false, cond, ltb, not, List, []}
+use Rattle.std.proofs.Common.{◌∷◌, ◌++◌, length, take, map, get_or, Option, Some, None, subst, refl, sym, ap, ◌∙◌}
+use Rattle.std.proofs.Common.{arith, ℤ, pos, ◌-ℤ◌, unwrap_or, append-nil, append_assoc, below_more, sum_by, inl, inr}
 use Rattle.std.specs.Prelude.{option_map, is_some, ◌||◌, ◌⊎◌, MatchOption}
 use Rattle.std.specs.List.{AllByRecursion}
 use Rattle.std.proofs.lemmas.Option.{slice_get-get_or, slice_get_past}
@@ -32,8 +34,10 @@ use Rattle.bpf_text.specs.declared.fault.TextFaultKind.{TextFaultKind}
 use Rattle.bpf_text.specs.declared.fault.TextFaultKind.TheVariants.{Range, UnknownLabel, LabelTwice, TooLong, Memory}
 use Rattle.bpf_text.specs.Fault.{NoneBelow, IsFirstFaultyLine, memory_fault, empty_fault}
 use Rattle.bpf_text.specs.inside.Faults.{fault_on}
-use Rattle.bpf_text.specs.inside.Labels.{Labels, definition_of, definition_at, FindsLabels, kept_line, kept_slot, kept_distance, code_fault, label_fault, kept_fault, kept_form, kept_forms, IsFormed}
-use Rattle.bpf_text.specs.Assembly.{AreRead, line_slots, slots_on, label_line, label_slot, distance, passes, is_known, is_twice, line_fault, line_fault_of, fault_at, forms_from, IsAssembled, IsOwnFault}
+use Rattle.bpf_text.specs.inside.Labels.{Labels, definition_of, definition_at, FindsLabels, kept_line, kept_slot}
+use Rattle.bpf_text.specs.inside.Labels.{kept_distance, code_fault, label_fault, kept_fault, kept_form, kept_forms, IsFormed}
+use Rattle.bpf_text.specs.Assembly.{AreRead, line_slots, slots_on, label_line, label_slot, distance, passes, is_known}
+use Rattle.bpf_text.specs.Assembly.{is_twice, line_fault, line_fault_of, fault_at, forms_from, IsAssembled, IsOwnFault}
 use Rattle.bpf_text.specs.Lines.{text_lines}
 use Rattle.bpf_text.proofs.Faults.{fault_on_line}
 use Rattle.bpf_text.proofs.LabelLines.{slots_on-append}

@@ -1,5 +1,6 @@
 -- The printed hex lines are read again.
-use Rattle.std.proofs.Common.{◌≡◌, ℕ, zero, suc, ◌+◌, ◌*◌, ◌≤◌, Bool, true, false, eqb, cond, List, [], ◌∷◌, ◌++◌, length, take, get_or, reverse, Option, Some, None, Ok, refl, sym, ap, ◌∙◌, arith, subst, length-append}
+use Rattle.std.proofs.Common.{◌≡◌, ℕ, zero, suc, ◌+◌, ◌*◌, ◌≤◌, Bool, true, false, eqb, cond, List, [], ◌∷◌, ◌++◌, length}
+use Rattle.std.proofs.Common.{take, get_or, reverse, Option, Some, None, Ok, refl, sym, ap, ◌∙◌, arith, subst, length-append}
 use Rattle.std.specs.Prelude.{IsSome, unwrap_or, is_ok, IsOk}
 use Rattle.std.specs.List.{slice_get, All, AllPass, AllByRecursion}
 use Rattle.std.proofs.lemmas.Bool.Decides.{nat_tests}

@@ -1,6 +1,7 @@
 -- A text has at most one program, and no fault besides it; the printed text of a program is
 -- read as this program.
-use Rattle.std.proofs.Common.{◌≡◌, ◌≢◌, ℕ, zero, suc, ◌+◌, ◌≤◌, Bool, true, false, cond, eqb, ltb, not, List, [], ◌∷◌, ◌++◌, length, take, map, Option, Some, None, Result, Ok, Err, leb, lit<, refl, sym, ap, ◌∙◌, arith, subst, inl, inr, append_assoc}
+use Rattle.std.proofs.Common.{◌≡◌, ◌≢◌, ℕ, zero, suc, ◌+◌, ◌≤◌, Bool, true, false, cond, eqb, ltb, not, List, [], ◌∷◌, ◌++◌, length, take}
+use Rattle.std.proofs.Common.{map, Option, Some, None, Result, Ok, Err, leb, lit<, refl, sym, ap, ◌∙◌, arith, subst, inl, inr, append_assoc}
 use Rattle.std.specs.Prelude.{slice_get, is_some, ◌⊎◌, ◌||◌, ◌&&◌, IfOk, IfErr, IsErrAnd, MatchResult}
 use Rattle.std.specs.List.{All, AllByRecursion}
 use Rattle.std.proofs.lemmas.Bool.{false_from_ne_true, le-ltb}

@@ -1,6 +1,7 @@
 //! The assembler: text to programs.
 
-ghost use Rattle.std.specs.Prelude.{◌≡◌, ◌<◌, ◌≤◌, ◌⊎◌, ℕ, List, length, map, option_map, Some, None, if◌then◌else◌, IfOk, OnOk, IfErr, IsErrAnd, MatchResult};
+ghost use Rattle.std.specs.Prelude.{◌≡◌, ◌<◌, ◌≤◌, ◌⊎◌, ℕ, List, length, map, option_map, Some};
+ghost use Rattle.std.specs.Prelude.{None, if◌then◌else◌, IfOk, OnOk, IfErr, IsErrAnd, MatchResult};
 ghost use Rattle.std.specs.List.{AllByRecursion};
 ghost use Rattle.std.specs.Option.{option_to_list};
 ghost use Rattle.insn_set.specs.Program.{slot_count};
@@ -9,7 +10,8 @@ ghost use Rattle.text_line.specs.Shown.{seen_option, seen_lines};
 ghost use Rattle.bpf_text.specs.declared.fault.TextFault.{TextFault as AnyFault};
 ghost use Rattle.bpf_text.specs.Fault.{IsFirstFaultyLine, memory_fault, empty_fault};
 ghost use Rattle.bpf_text.specs.Assembly.{AreRead, IsAssembled, IsOwnFault, line_slots, slots_on, defines, fault_at, forms_from};
-ghost use Rattle.bpf_text.specs.inside.Labels.{label_defined, or_else, definition_of, FindsLabels, kept_distance, code_fault, kept_fault, kept_form, IsFormed};
+ghost use Rattle.bpf_text.specs.inside.Labels.{label_defined, or_else, definition_of, FindsLabels};
+ghost use Rattle.bpf_text.specs.inside.Labels.{kept_distance, code_fault, kept_fault, kept_form, IsFormed};
 ghost use Rattle.text_line.specs.Form.{IsForm};
 ghost use Rattle.text_line.specs.Ranges.{resolved};
 ghost use Rattle.text_line.specs.Written.{written};

@@ -1,6 +1,7 @@
 //! Slots as lines of hex digits.
 
-ghost use Rattle.std.specs.Prelude.{◌≡◌, ◌≢◌, ◌+◌, ◌*◌, ◌<◌, ◌≤◌, ◌++◌, [], ◌⊎◌, ℕ, List, length, map, vec_len, IfOk, OnOk, IfErr, IsErrAnd, MatchResult, Some, None, unwrap_or};
+ghost use Rattle.std.specs.Prelude.{◌≡◌, ◌≢◌, ◌+◌, ◌*◌, ◌<◌, ◌≤◌, ◌++◌, [], ◌⊎◌, ℕ, List, length, map};
+ghost use Rattle.std.specs.Prelude.{vec_len, IfOk, OnOk, IfErr, IsErrAnd, MatchResult, Some, None, unwrap_or};
 ghost use Rattle.bpf_text.specs.declared.fault.TextFaultKind.TheVariants.{Memory};
 ghost use Rattle.std.specs.String.{string_bytes};
 ghost use Rattle.insn_set.specs.Program.{program_bytes};

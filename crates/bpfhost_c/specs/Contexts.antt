@@ -1,5 +1,6 @@
 -- Contexts from C, which have any number of words. This project's own.
-use Rattle.std.specs.Prelude.{ℕ, ℤ, zero, suc, Bool, true, not, List, [], ◌∷◌, ◌++◌, ◌&&◌, ◌||◌, ◌/◌, ◌%◌, if◌then◌else◌, length, take, drop, replicate, min, nat_eq}
+use Rattle.std.specs.Prelude.{ℕ, ℤ, zero, suc, Bool, true, not, List, [], ◌∷◌, ◌++◌, ◌&&◌, ◌||◌}
+use Rattle.std.specs.Prelude.{◌/◌, ◌%◌, if◌then◌else◌, length, take, drop, replicate, min, nat_eq}
 use Rattle.std.specs.List.{list_all}
 use Rattle.words.specs.Context.{given_words}
 use Rattle.bpfhost_c.specs.declared.codes.TheConstants.{DONE, ERR_SIZE, ERR_TOO_BIG}

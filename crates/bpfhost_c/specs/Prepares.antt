@@ -1,5 +1,6 @@
 -- Programs that are verified without a host, and their installation. This project's own.
-use Rattle.std.specs.Prelude.{◌≡◌, ℕ, ℤ, pos, Bool, not, ◌==◌, ◌||◌, List, length, min, nat_lt, Option, Some, None, is_some, is_none, option_map, Result, Ok, Err, if◌then◌else◌}
+use Rattle.std.specs.Prelude.{◌≡◌, ℕ, ℤ, pos, Bool, not, ◌==◌, ◌||◌, List, length, min, nat_lt, Option}
+use Rattle.std.specs.Prelude.{Some, None, is_some, is_none, option_map, Result, Ok, Err, if◌then◌else◌}
 use Rattle.std.specs.List.{list_all, filter_map}
 use Rattle.tenant.specs.Table.{most}
 use Rattle.tagged_model.specs.declared.shape.MapShape.{MapShape}

@@ -7,7 +7,8 @@ ghost use Rattle.tenant.specs.Machine.{cause_errno};
 ghost use Rattle.verifier.specs.Judgement.{Judges, cause_number};
 ghost use Rattle.verifier.specs.Maps.{maps_of, entries_of};
 ghost use Rattle.bpfhost_c.specs.Calls.{states, host_of};
-ghost use Rattle.bpfhost_c.specs.Prepares.{object_of, are_objects, named_by, prepare_code, Prepares, install_code, FitsPrepared, InstallsPrepared};
+ghost use Rattle.bpfhost_c.specs.Prepares.{object_of, are_objects, named_by, prepare_code};
+ghost use Rattle.bpfhost_c.specs.Prepares.{Prepares, install_code, FitsPrepared, InstallsPrepared};
 ghost use Rattle.bpfhost_c.specs.declared.codes.TheConstants.{DONE, ERR_NO_MEMORY, ERR_STALE};
 
 use crate::codes::{

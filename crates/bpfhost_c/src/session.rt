@@ -1,6 +1,7 @@
 //! A host with its last reply, the last part of a save, and what the calls of C do with them.
 
-ghost use Rattle.std.specs.Prelude.{◌≡◌, ◌≢◌, ◌≤◌, length, slice_get, vec_capacity, IfErr, IfOk, OnErr, OnOk, Some, None, true, false, if◌then◌else◌};
+ghost use Rattle.std.specs.Prelude.{◌≡◌, ◌≢◌, ◌≤◌, length, slice_get, vec_capacity, IfErr};
+ghost use Rattle.std.specs.Prelude.{IfOk, OnErr, OnOk, Some, None, true, false, if◌then◌else◌};
 ghost use Rattle.host_core.specs.Batch.{IsAllowedFor};
 ghost use Rattle.host_core.specs.Frame.{longest_reply};
 ghost use Rattle.host_core.specs.Handled.{Handles};

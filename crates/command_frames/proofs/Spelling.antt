@@ -1,5 +1,6 @@
 -- Bytes determine the frames and the replies that they encode.
-use Rattle.std.proofs.Common.{◌≡◌, ℕ, zero, suc, ◌+◌, ◌<◌, ◌≤◌, ◌^◌, List, [], ◌∷◌, ◌++◌, length, take, drop, get_or, refl, sym, ap, ap₂, subst, ◌∙◌, arith, le_refl, append_assoc, length-append, length-take, length-take-le, length-drop, take-append-drop, inl, inr}
+use Rattle.std.proofs.Common.{◌≡◌, ℕ, zero, suc, ◌+◌, ◌<◌, ◌≤◌, ◌^◌, List, [], ◌∷◌, ◌++◌, length, take, drop, get_or, refl, sym, ap, ap₂, subst, ◌∙◌}
+use Rattle.std.proofs.Common.{arith, le_refl, append_assoc, length-append, length-take, length-take-le, length-drop, take-append-drop, inl, inr}
 use Rattle.std.specs.Prelude.{ℤ, FitsSigned, ◌⊎◌}
 use Rattle.std.specs.Int.{w32, cast_signed, cast_unsigned, from_le_bytes}
 use Rattle.std.specs.List.{flat_map, AllByRecursion}

@@ -1,6 +1,7 @@
 -- Descriptors: the numbers from 3 to 66, and what each open one names. A new one is the lowest free
 -- number, as that of open(2); the bounds are this project's own.
-use Rattle.std.specs.Prelude.{◌≡◌, ℕ, ◌+◌, ◌-◌, nat_lt, is_none, List, Option, Some, None, option_map, option_and_then, position, replicate, slice_get, slice_set, Result, Ok, Err, if◌then◌else◌}
+use Rattle.std.specs.Prelude.{◌≡◌, ℕ, ◌+◌, ◌-◌, nat_lt, is_none, List, Option, Some, None, option_map}
+use Rattle.std.specs.Prelude.{option_and_then, position, replicate, slice_get, slice_set, Result, Ok, Err, if◌then◌else◌}
 
 -- the lowest descriptor
 abbrev pub first_descriptor : ℕ

@@ -1,5 +1,6 @@
 -- An argument names at most one map.
-use Rattle.std.proofs.Common.{◌≡◌, ◌∙◌, ◌<◌, ◌==◌, ℕ, Bool, true, false, List, [], ◌∷◌, length, Option, Some, None, IfSome, IfNone, IsTrue, MatchOption, codes, ap, sym, subst, refl, arith, Bor, Result, Ok}
+use Rattle.std.proofs.Common.{◌≡◌, ◌∙◌, ◌<◌, ◌==◌, ℕ, Bool, true, false, List, [], ◌∷◌, length, Option, Some, None}
+use Rattle.std.proofs.Common.{IfSome, IfNone, IsTrue, MatchOption, codes, ap, sym, subst, refl, arith, Bor, Result, Ok}
 use Rattle.std.specs.Char.{is_ascii_digit}
 use Rattle.std.specs.List.{All, AllByRecursion, after_first, before_first, join_with_byte, list_all, position_or_len}
 use Rattle.std.specs.Result.{result_ok}

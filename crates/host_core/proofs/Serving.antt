@@ -1,5 +1,6 @@
 -- Serving one more frame.
-use Rattle.std.proofs.Common.{◌≡◌, ◌≢◌, ℕ, ◌+◌, ◌<◌, ◌≤◌, Ok, Err, Bool, true, false, List, [], ◌∷◌, ◌++◌, length, Option, refl, sym, ap, subst, ◌∙◌, arith, append-nil, append_assoc, length-append, take, lit≤, inl}
+use Rattle.std.proofs.Common.{◌≡◌, ◌≢◌, ℕ, ◌+◌, ◌<◌, ◌≤◌, Ok, Err, Bool, true, false, List, [], ◌∷◌, ◌++◌, length, Option}
+use Rattle.std.proofs.Common.{refl, sym, ap, subst, ◌∙◌, arith, append-nil, append_assoc, length-append, take, lit≤, inl}
 use Rattle.std.specs.Prelude.{slice_get, ◌==◌, if◌then◌else◌}
 use Rattle.std.proofs.lemmas.Bool.{eqb-true, eqb-false}
 use Rattle.std.proofs.lemmas.List.{map-append, length-map}
@@ -16,7 +17,8 @@ use Rattle.host_core.specs.declared.server.ServeFault.{ServeFault}
 use Rattle.host_core.specs.declared.server.ServeFaultKind.{ServeFaultKind}
 use Rattle.host_core.specs.declared.server.ServeFaultKind.TheVariants.{Read, Write, Truncated, TooManyFrames, Memory}
 use Rattle.host_core.specs.Laws.{EachIsToldByItsMachine, UnrefusedAreToldAlone, CallsAreToldAlone}
-use Rattle.host_core.specs.Served.{NoneFaults, StreamState, NoCallFailed, Serves, ServesAlone, AnswersFrames, CutsLastReply, joined_replies, ServesToEnd, StopsWithFault, StopsAlone, IsFlushedAgain, ServesStream}
+use Rattle.host_core.specs.Served.{NoneFaults, StreamState, NoCallFailed, Serves, ServesAlone, AnswersFrames, CutsLastReply}
+use Rattle.host_core.specs.Served.{joined_replies, ServesToEnd, StopsWithFault, StopsAlone, IsFlushedAgain, ServesStream}
 use Rattle.host_core.specs.Handled.{Handles, Turn, frames_in, replies_in, HandlesInOrder}
 use Rattle.host_core.specs.inside.Frame.{ServesOneFrame, ReadsOnly, ServesFrameOrEnds, StopsInFrame}
 

@@ -2,7 +2,8 @@
 
 ghost use Rattle.host_core.specs.Batch.{BatchIsItsCalls};
 ghost use Rattle.host_core.specs.Saving.{TenantsAreRestored};
-ghost use Rattle.host_core.specs.Laws.{UnrefusedAreToldAlone, CallsAreToldAlone, EachIsToldAloneUntilRefused, EachStretchIsToldAlone, SameFramesSameReplies, SameFramesSameOutput, NoContentEndsAStream};
+ghost use Rattle.host_core.specs.Laws.{UnrefusedAreToldAlone, CallsAreToldAlone, EachIsToldAloneUntilRefused};
+ghost use Rattle.host_core.specs.Laws.{EachStretchIsToldAlone, SameFramesSameReplies, SameFramesSameOutput, NoContentEndsAStream};
 
 /// Each tenant to which no memory was refused gets exactly the replies of its own machine, whatever was refused to others.
 pub fn unrefused_are_told_alone()

@@ -2,7 +2,8 @@
 //!
 //! Contracts require that fewer than 2^64 - 1 calls of the reader have failed before: they are counted in 64 bits.
 
-ghost use Rattle.std.specs.Prelude.{◌≡◌, ℕ, ◌+◌, ◌-◌, ◌<◌, ◌≤◌, ◌^◌, [], List, length, take, min, IfOk, IfErr, IfSome, IfNone, Ok, OnOk, OnErr};
+ghost use Rattle.std.specs.Prelude.{◌≡◌, ℕ, ◌+◌, ◌-◌, ◌<◌, ◌≤◌, ◌^◌, [], List, length};
+ghost use Rattle.std.specs.Prelude.{take, min, IfOk, IfErr, IfSome, IfNone, Ok, OnOk, OnErr};
 ghost use Rattle.std.specs.Io.KnownBytes.{IsAtEnd};
 ghost use Rattle.byteorder.specs.Endian.{little_bytes};
 ghost use Rattle.command_frames.specs.Frame.{framed, IsFrame};

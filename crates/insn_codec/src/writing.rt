@@ -3,7 +3,8 @@
 ghost use Rattle.std.specs.Prelude.{◌≡◌, ◌+◌, ◌≤◌, ◌<◌, ◌∷◌, ◌++◌, length, drop, map};
 ghost use Rattle.std.specs.Option.{option_to_list};
 ghost use Rattle.insn_set.specs.Slot.{fields, slot};
-ghost use Rattle.insn_set.specs.Spelling.{first as first_slot, second as second_slot, slots as slots_of, spelling, source_bit, src_field, imm_field};
+ghost use Rattle.insn_set.specs.Spelling.{first as first_slot, second as second_slot};
+ghost use Rattle.insn_set.specs.Spelling.{slots as slots_of, spelling, source_bit, src_field, imm_field};
 ghost use Rattle.insn_set.specs.Numbers.{opcode as opcode_from, memory_opcode, alu_class, jump_class, size_number, end_opcode};
 
 use insn_set::{Insn, Operand, RawSlot, alu_number, alu_offset, condition_number};

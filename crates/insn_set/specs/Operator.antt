@@ -2,7 +2,8 @@
 -- table of codes. The symbols are this project's own.
 use Rattle.std.specs.Prelude.{ℕ, List, codes}
 use Rattle.words.specs.declared.operator.AluOp.{AluOp}
-use Rattle.words.specs.declared.operator.AluOp.TheVariants.{Add, Sub, Mul, Div, SignedDiv, Or, And, ShiftLeft, ShiftRight, Mod, SignedMod, Xor, Mov, SignedShiftRight}
+use Rattle.words.specs.declared.operator.AluOp.TheVariants.{Add, Sub, Mul, Div, SignedDiv, Or, And, ShiftLeft}
+use Rattle.words.specs.declared.operator.AluOp.TheVariants.{ShiftRight, Mod, SignedMod, Xor, Mov, SignedShiftRight}
 
 -- the code of an operator, the upper four bits of its opcode; a signed one has the unsigned one's
 abbrev pub alu_number : AluOp → ℕ

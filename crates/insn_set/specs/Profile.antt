@@ -7,7 +7,8 @@ use Rattle.insn_set.specs.declared.insn.Operand.TheVariants.{Imm, Reg}
 use Rattle.words.specs.declared.operator.AluOp.{AluOp}
 use Rattle.words.specs.declared.operator.AluOp.TheVariants.{Mov}
 use Rattle.insn_set.specs.declared.insn.Insn.{Insn}
-use Rattle.insn_set.specs.View.{View, Access, WideValue, binary, unary, jump, branch, access, wide_load, call, exit, loads, stores, changes, immediate, map_ref, value_ref, view}
+use Rattle.insn_set.specs.View.{View, Access, WideValue, binary, unary, jump, branch, access, wide_load}
+use Rattle.insn_set.specs.View.{call, exit, loads, stores, changes, immediate, map_ref, value_ref, view}
 use Rattle.insn_set.specs.declared.profile.Successors.{Successors}
 use Rattle.insn_set.specs.declared.profile.Successors.TheVariants as to
 use Rattle.insn_set.specs.declared.profile.Reference.{Reference}

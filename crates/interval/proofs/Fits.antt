@@ -10,11 +10,13 @@ use Rattle.words.specs.declared.operator.KeptBits.TheVariants as bits
 use Rattle.words.specs.declared.operator.ByteOrder.{ByteOrder}
 use Rattle.words.specs.declared.operator.Operator.{Operator}
 use Rattle.words.specs.declared.operator.AluOp.{AluOp}
-use Rattle.words.specs.declared.operator.AluOp.TheVariants.{Add, Sub, Mul, Div, SignedDiv, Or, And, ShiftLeft, ShiftRight, Mod, SignedMod, Xor, Mov, SignedShiftRight}
+use Rattle.words.specs.declared.operator.AluOp.TheVariants.{Add, Sub, Mul, Div, SignedDiv, Or, And, ShiftLeft}
+use Rattle.words.specs.declared.operator.AluOp.TheVariants.{ShiftRight, Mod, SignedMod, Xor, Mov, SignedShiftRight}
 use Rattle.words.specs.declared.operator.Operator.TheVariants.{Binary, Neg, SignExtend, End}
 use Rattle.words.specs.Operate.{kept_bits, extended_bits, combined, byte_order}
 use Rattle.interval.specs.Ranges.{IsMember, span, full, constant, is_constant}
-use Rattle.interval.specs.Table.{sum_range, difference_range, product_range, quotient_range, remainder_range, digits_end, binary_digits, scaled_range, shift_right_range, alu_range, general_range, are_constants, result_range, operand_range, range_of}
+use Rattle.interval.specs.Table.{sum_range, difference_range, product_range, quotient_range, remainder_range, digits_end, binary_digits}
+use Rattle.interval.specs.Table.{scaled_range, shift_right_range, alu_range, general_range, are_constants, result_range, operand_range, range_of}
 use Rattle.interval.proofs.Sound.{general_range_sound, byte_order_below}
 
 span_below : (p lo hi : ℕ) → lo < p → hi < p → (span lo hi).hi < p

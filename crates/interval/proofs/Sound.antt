@@ -12,7 +12,8 @@ use Rattle.words.specs.declared.operator.ByteOrder.{ByteOrder}
 use Rattle.words.specs.declared.operator.ByteOrder.TheVariants.{Little, Big, Swap}
 use Rattle.words.specs.declared.operator.Operator.{Operator}
 use Rattle.words.specs.declared.operator.AluOp.{AluOp}
-use Rattle.words.specs.declared.operator.AluOp.TheVariants.{Add, Sub, Mul, Div, SignedDiv, Or, And, ShiftLeft, ShiftRight, Mod, SignedMod, Xor, Mov, SignedShiftRight}
+use Rattle.words.specs.declared.operator.AluOp.TheVariants.{Add, Sub, Mul, Div, SignedDiv, Or, And, ShiftLeft}
+use Rattle.words.specs.declared.operator.AluOp.TheVariants.{ShiftRight, Mod, SignedMod, Xor, Mov, SignedShiftRight}
 use Rattle.words.specs.declared.operator.Operator.TheVariants.{Binary, Neg, SignExtend, End}
 use Rattle.words.specs.Words.{signed, unsigned, negate, signed_divide, signed_remainder, sign_extend}
 use Rattle.words.specs.Operate.{operand_bits, alu_result, combined, operate, byte_order, reversed_bytes, kept_bits, extended_bits}
@@ -21,7 +22,8 @@ use Rattle.interval.specs.Table.{are_constants, alu_range, are_alu_constants, ge
 use Rattle.interval.proofs.Members.{in_full, in_constant, only_member, where_lt, where_constant}
 use Rattle.interval.proofs.Numbers.{below_pow}
 use Rattle.interval.proofs.SoundSums.{sum_sound, difference_sound, product_sound, quotient_sound, remainder_sound, by_divisor}
-use Rattle.interval.proofs.SoundBits.{and_sound, or_sound, xor_sound, shift_left_sound, shift_right_sound, signed_shift_right_sound, sign_extend_sound, unsigned_below}
+use Rattle.interval.proofs.SoundBits.{and_sound, or_sound, xor_sound, shift_left_sound}
+use Rattle.interval.proofs.SoundBits.{shift_right_sound, signed_shift_right_sound, sign_extend_sound, unsigned_below}
 
 -- ---- byte order
 

@@ -8,7 +8,8 @@ use Rattle.std.specs.Int.{int_shr}
 use Rattle.interval.specs.declared.range.Range.{Range}
 use Rattle.words.specs.Words.{signed, unsigned, shift_left, shift_right, signed_shift_right, sign_extend}
 use Rattle.interval.specs.Ranges.{IsMember}
-use Rattle.interval.specs.Table.{and_range, or_range, xor_range, binary_digits, scaled_range, shift_left_range, shift_right_range, signed_shift_right_range, sign_extend_range}
+use Rattle.interval.specs.Table.{and_range, or_range, xor_range, binary_digits, scaled_range}
+use Rattle.interval.specs.Table.{shift_left_range, shift_right_range, signed_shift_right_range, sign_extend_range}
 use Rattle.interval.proofs.Members.{in_full, in_span, where_lt, where_constant}
 use Rattle.interval.proofs.Numbers.{below_pow}
 use Rattle.interval.proofs.Digits.{below_digits}

@@ -4,7 +4,8 @@ use Rattle.std.specs.Option.{option_map}
 use Rattle.words.specs.declared.operator.KeptBits.TheVariants.{Bits64}
 use Rattle.words.specs.declared.operator.ExtendedBits.TheVariants.{Bits8}
 use Rattle.words.specs.declared.operator.ByteOrder.TheVariants.{Big}
-use Rattle.words.specs.declared.operator.AluOp.TheVariants.{Add, Sub, Mul, Div, SignedDiv, Or, And, ShiftLeft, ShiftRight, Mod, SignedMod, Xor, Mov, SignedShiftRight}
+use Rattle.words.specs.declared.operator.AluOp.TheVariants.{Add, Sub, Mul, Div, SignedDiv, Or, And, ShiftLeft}
+use Rattle.words.specs.declared.operator.AluOp.TheVariants.{ShiftRight, Mod, SignedMod, Xor, Mov, SignedShiftRight}
 use Rattle.words.specs.declared.operator.Operator.{Operator}
 use Rattle.words.specs.declared.operator.Operator.TheVariants.{Binary, Neg, SignExtend, End}
 use Rattle.words.specs.declared.operator.Condition.{Condition}

@@ -1,6 +1,7 @@
 //! Laws of the definitions, for proofs that use them. Each is the contract of a function that does nothing.
 
-ghost use Rattle.interval.specs.Laws.{ResultsAreMembers, ResultsAreWords, EdgesKeepMembers, EdgesAreWords, HullHoldsBoth, HullIsLeast, HullCommutes, HullAssociates};
+ghost use Rattle.interval.specs.Laws.{ResultsAreMembers, ResultsAreWords, EdgesKeepMembers};
+ghost use Rattle.interval.specs.Laws.{EdgesAreWords, HullHoldsBoth, HullIsLeast, HullCommutes, HullAssociates};
 
 /// A law: the result of two members is a member of the range that the table of ranges (`range_of`) gives.
 pub fn results_are_members()

@@ -1,5 +1,6 @@
 -- The entry that follows the one at an element.
-use Rattle.std.proofs.Common.{◌≡◌, ℕ, zero, suc, ◌+◌, ◌<◌, Bool, true, false, List, [], ◌∷◌, ◌++◌, Option, Some, None, slice_index_or, option_map, option_to_list, IfSome, refl, sym, ap, subst, ◌∙◌, nat_eq, if◌then◌else◌, true≢false, arith, eqb-true, eq-eqb}
+use Rattle.std.proofs.Common.{◌≡◌, ℕ, zero, suc, ◌+◌, ◌<◌, Bool, true, false, List, [], ◌∷◌, ◌++◌, Option, Some, None, slice_index_or}
+use Rattle.std.proofs.Common.{option_map, option_to_list, IfSome, refl, sym, ap, subst, ◌∙◌, nat_eq, if◌then◌else◌, true≢false, arith, eqb-true, eq-eqb}
 use Rattle.std.proofs.lemmas.Option.{none-some, same_Some}
 use Rattle.ordered_keys.specs.Orders.{Order, occurrences, first_element, following, first_entry, entry_behind, next_entry}
 use Rattle.ordered_keys.specs.inside.Ordered.{entry_of, is_entry_of, next_of_elements, in_order, HaveEntries, IsIndexed}

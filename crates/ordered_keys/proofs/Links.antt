@@ -1,5 +1,6 @@
 -- The ring after an element is put last, and after one is taken out.
-use Rattle.std.proofs.Common.{◌≡◌, ◌≢◌, ℕ, zero, suc, ◌+◌, ◌-◌, ◌^◌, ◌<◌, ◌≤◌, ◌⊎◌, inl, inr, Bool, true, false, List, [], ◌∷◌, ◌++◌, length, vec_len, refl, sym, ap, subst, ◌∙◌, nat_eq, if◌then◌else◌, arith, eqb-true, eq-eqb, length-append}
+use Rattle.std.proofs.Common.{◌≡◌, ◌≢◌, ℕ, zero, suc, ◌+◌, ◌-◌, ◌^◌, ◌<◌, ◌≤◌, ◌⊎◌, inl, inr, Bool, true, false, List, [], ◌∷◌, ◌++◌}
+use Rattle.std.proofs.Common.{length, vec_len, refl, sym, ap, subst, ◌∙◌, nat_eq, if◌then◌else◌, arith, eqb-true, eq-eqb, length-append}
 use Rattle.std.proofs.Math.ListN.{set, get_or, length-set}
 use Rattle.std.proofs.lemmas.List.{get_or-set_same, get_or-set_other, get_or_read_under}
 use Rattle.std.specs.Vec.{with_item}
@@ -7,7 +8,8 @@ use Rattle.ordered_keys.specs.Orders.{Order, occurrences, taken_out}
 use Rattle.ordered_keys.specs.declared.element_order.Link.{Link}
 use Rattle.ordered_keys.specs.declared.element_order.ElementOrder.TheInside.{Inside}
 use Rattle.ordered_keys.specs.inside.Links.{lone_link, link_at, after_in, before_in, chain, elements_in, order_of, IsPath, AreWithin, IsRing}
-use Rattle.ordered_keys.proofs.Rings.{IsPushed, IsUnlinked, within_at, bound_outside, times-append, taken_length, taken_times, taken_within, within-append, chain_of_path, path_pushed, path_unlinked, before_member, after_member, before_end, unequal}
+use Rattle.ordered_keys.proofs.Rings.{IsPushed, IsUnlinked, within_at, bound_outside, times-append, taken_length, taken_times, taken_within}
+use Rattle.ordered_keys.proofs.Rings.{within-append, chain_of_path, path_pushed, path_unlinked, before_member, after_member, before_end, unequal}
 
 -- two numbers are equal or different
 pub decided : (a b : ℕ) → (a ≡ b) ⊎ (a ≢ b)

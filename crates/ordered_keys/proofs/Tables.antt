@@ -1,5 +1,7 @@
 -- The table and the order after an insertion, and after a removal.
-use Rattle.std.proofs.Common.{◌≡◌, ◌≢◌, ℕ, zero, suc, ◌+◌, ◌-◌, ◌^◌, ◌<◌, ◌⊎◌, inl, inr, Bool, true, false, List, [], ◌∷◌, ◌++◌, length, Option, Some, None, is_some, true≢false, slice_get, slice_index_or, option_map, option_to_list, refl, sym, ap, subst, ◌∙◌, nat_eq, if◌then◌else◌, arith, length-append}
+use Rattle.std.proofs.Common.{◌≡◌, ◌≢◌, ℕ, zero, suc, ◌+◌, ◌-◌, ◌^◌, ◌<◌, ◌⊎◌, inl, inr, Bool, true, false, List, [], ◌∷◌}
+use Rattle.std.proofs.Common.{◌++◌, length, Option, Some, None, is_some, true≢false, slice_get, slice_index_or, option_map}
+use Rattle.std.proofs.Common.{option_to_list, refl, sym, ap, subst, ◌∙◌, nat_eq, if◌then◌else◌, arith, length-append}
 use Rattle.std.proofs.Math.ListN.{set, get_or, length-set}
 use Rattle.std.proofs.lemmas.List.{get_or-set_same, get_or-set_other, get_or-take, length-take-le}
 use Rattle.std.proofs.lemmas.Option.{none-some, same_Some, slice_get_within, slice_get-get_or, slice_get-map}

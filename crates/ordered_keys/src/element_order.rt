@@ -1,6 +1,7 @@
 //! An order of elements, in which an element is put last or taken out in a few steps.
 
-ghost use Rattle.std.specs.Prelude.{◌≡◌, ℕ, ◌+◌, ◌<◌, ◌++◌, [], ◌∷◌, None, Some, nat_eq, if◌then◌else◌, length, vec_len, slice_index_or, IfOk};
+ghost use Rattle.std.specs.Prelude.{◌≡◌, ℕ, ◌+◌, ◌<◌, ◌++◌, [], ◌∷◌, None, Some, nat_eq};
+ghost use Rattle.std.specs.Prelude.{if◌then◌else◌, length, vec_len, slice_index_or, IfOk};
 ghost use Rattle.ordered_keys.specs.Orders.{occurrences, following, first_element, taken_out};
 
 use std::alloc::{AllocError, Global};

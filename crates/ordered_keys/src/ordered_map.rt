@@ -3,7 +3,8 @@
 //! The functions after the methods are given its parts: the table of the keys with their elements, and `indices`, by element, with the
 //! index in the table of the element's key.
 
-ghost use Rattle.std.specs.Prelude.{◌≡◌, ℕ, ◌+◌, ◌*◌, ◌<◌, ◌≤◌, true, [], ◌∷◌, ◌++◌, length, drop, option_map, slice_get, None, Some, IfSome, IfOk, vec_len, vec_capacity, swap_remove};
+ghost use Rattle.std.specs.Prelude.{◌≡◌, ℕ, ◌+◌, ◌*◌, ◌<◌, ◌≤◌, true, [], ◌∷◌, ◌++◌, length, drop, option_map};
+ghost use Rattle.std.specs.Prelude.{slice_get, None, Some, IfSome, IfOk, vec_len, vec_capacity, swap_remove};
 ghost use Rattle.std.specs.Option.{option_map_or};
 ghost use Rattle.std.specs.Map.{lookup, remove_entry, values_of};
 ghost use Rattle.ordered_keys.specs.Orders.{occurrences, first_key_of, key_following, lent_entry, next_entry};

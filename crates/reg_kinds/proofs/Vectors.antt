@@ -7,7 +7,8 @@ use Rattle.reg_kinds.specs.declared.kind.Kind.TheVariants.{Unreadable, Scalar, S
 use Rattle.reg_kinds.specs.declared.kind.Slot.TheVariants.{Bytes, Spill}
 use Rattle.reg_kinds.specs.declared.facts.Facts.{Facts}
 use Rattle.reg_kinds.specs.declared.reason.Reason.{Reason}
-use Rattle.reg_kinds.specs.declared.reason.Reason.TheVariants.{JumpOutside, NoDirectValue, UnreadableRegister, OutsideStack, UnalignedStack, UnwrittenStack, PartOfSpill, MaybeNull, UnalignedAtomic, Memory}
+use Rattle.reg_kinds.specs.declared.reason.Reason.TheVariants.{JumpOutside, NoDirectValue, UnreadableRegister, OutsideStack}
+use Rattle.reg_kinds.specs.declared.reason.Reason.TheVariants.{UnalignedStack, UnwrittenStack, PartOfSpill, MaybeNull, UnalignedAtomic, Memory}
 use Rattle.reg_kinds.specs.Pointers.{value_span}
 use Rattle.reg_kinds.specs.Kinds.{is_pointer, kind_at, slot_at, with_kind, with_slot, tabulate, entry}
 use Rattle.reg_kinds.specs.Join.{kind_join, slot_join, facts_join}

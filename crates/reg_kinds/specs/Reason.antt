@@ -2,7 +2,12 @@
 -- project's own.
 use Rattle.std.specs.Prelude.{ℕ, Result, Ok, Err}
 use Rattle.reg_kinds.specs.declared.reason.Reason.{Reason}
-use Rattle.reg_kinds.specs.declared.reason.Reason.TheVariants.{JumpOutside, JumpBackward, FallsOff, Unreachable, UnknownHelper, FramePointerWritten, DescriptorNotOpen, DescriptorNotMap, NoDirectValue, UnreadableRegister, ResultNotScalar, NotPointer, PointerArithmetic, OffsetTooLarge, OutsideStack, UnalignedStack, UnwrittenStack, PartOfSpill, OutsideValue, MaybeNull, ContextAccess, PointerStored, PointerComparison, HelperArgument, LengthUnbounded, UnalignedAtomic, Memory}
+use Rattle.reg_kinds.specs.declared.reason.Reason.TheVariants.{JumpOutside, JumpBackward, FallsOff, Unreachable, UnknownHelper}
+use Rattle.reg_kinds.specs.declared.reason.Reason.TheVariants.{FramePointerWritten, DescriptorNotOpen, DescriptorNotMap, NoDirectValue}
+use Rattle.reg_kinds.specs.declared.reason.Reason.TheVariants.{UnreadableRegister, ResultNotScalar, NotPointer, PointerArithmetic, OffsetTooLarge}
+use Rattle.reg_kinds.specs.declared.reason.Reason.TheVariants.{OutsideStack, UnalignedStack, UnwrittenStack, PartOfSpill, OutsideValue, MaybeNull}
+use Rattle.reg_kinds.specs.declared.reason.Reason.TheVariants.{ContextAccess, PointerStored, PointerComparison, HelperArgument, LengthUnbounded}
+use Rattle.reg_kinds.specs.declared.reason.Reason.TheVariants.{UnalignedAtomic, Memory}
 
 -- 1 to 9 for the shape of a program, 20 to 36 for its safety, 40 for memory
 abbrev pub number : Reason → ℕ

@@ -1,6 +1,7 @@
 -- Loads from the stack, and stores to it. Offsets count from its upper end. The rules are this
 -- project's own.
-use Rattle.std.specs.Prelude.{◌≡◌, ◌≢◌, ◌<◌, ℕ, ◌-◌, ◌*◌, ◌/◌, ◌%◌, ◌^◌, ◌==◌, ℤ, bit_and, bit_or, Bool, true, false, not, if◌then◌else◌, Result, Ok, Err, Option, Some, None}
+use Rattle.std.specs.Prelude.{◌≡◌, ◌≢◌, ◌<◌, ℕ, ◌-◌, ◌*◌, ◌/◌, ◌%◌, ◌^◌, ◌==◌, ℤ, bit_and, bit_or, Bool}
+use Rattle.std.specs.Prelude.{true, false, not, if◌then◌else◌, Result, Ok, Err, Option, Some, None}
 use Rattle.words.specs.declared.stack.AccessSize.{AccessSize}
 use Rattle.words.specs.Stack.{stack_slots, bytes_of, is_double, is_in_stack, byte_index, is_aligned}
 use Rattle.interval.specs.Ranges.{full}

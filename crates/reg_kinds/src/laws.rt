@@ -2,7 +2,8 @@
 
 ghost use Rattle.std.specs.Prelude.{◌≡◌, length};
 ghost use Rattle.words.specs.Stack.{stack_slots};
-ghost use Rattle.reg_kinds.specs.Laws.{KindsCommute, KindsAssociate, SlotsCommute, SlotsAssociate, SlotsAbsorb, FactsCommute, FactsAssociate};
+ghost use Rattle.reg_kinds.specs.Laws.{KindsCommute, KindsAssociate, SlotsCommute};
+ghost use Rattle.reg_kinds.specs.Laws.{SlotsAssociate, SlotsAbsorb, FactsCommute, FactsAssociate};
 
 use crate::facts::Facts;
 

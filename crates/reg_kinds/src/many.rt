@@ -1,7 +1,8 @@
 //! Byte ranges of the stack that may span many slots, and the facts after a call. A start is an offset from the stack's lower
 //! end; a mask has bit k for byte k of a slot.
 
-ghost use Rattle.std.specs.Prelude.{◌≡◌, ◌+◌, ◌-◌, ◌*◌, ◌^◌, ◌<◌, ◌≤◌, ◌==◌, nat_le, if◌then◌else◌, IfSome, MatchResult, Ok, Err, Some, None};
+ghost use Rattle.std.specs.Prelude.{◌≡◌, ◌+◌, ◌-◌, ◌*◌, ◌^◌, ◌<◌, ◌≤◌, ◌==◌, nat_le};
+ghost use Rattle.std.specs.Prelude.{if◌then◌else◌, IfSome, MatchResult, Ok, Err, Some, None};
 ghost use Rattle.words.specs.Stack.{stack_size, stack_slots, is_in_stack, byte_index, touches};
 ghost use Rattle.reg_kinds.specs.Kinds.{slot_at, with_slots};
 ghost use Rattle.reg_kinds.specs.Stack.{bytes_over};

@@ -3,7 +3,8 @@
 ghost use Rattle.std.specs.Prelude.{◌≡◌, ◌<◌, ◌*◌, ◌%◌, MatchResult, IfOk, IsOk, Some};
 ghost use Rattle.interval.specs.Ranges.{full};
 ghost use Rattle.words.specs.Stack.{stack_slots, bytes_of};
-ghost use Rattle.reg_kinds.specs.Stack.{byte_bits, touched, loaded, read_slot, stack_read, bytes_over, slot_written, stack_write, ChangesAtMost};
+ghost use Rattle.reg_kinds.specs.Stack.{byte_bits, touched, loaded, read_slot, stack_read};
+ghost use Rattle.reg_kinds.specs.Stack.{bytes_over, slot_written, stack_write, ChangesAtMost};
 
 use crate::facts::Facts;
 use crate::kind::{Kind, Slot};

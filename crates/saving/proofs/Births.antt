@@ -1,5 +1,7 @@
 -- Each command preserves the order of births.
-use Rattle.std.proofs.Common.{◌≡◌, ◌≢◌, ℕ, zero, suc, ◌+◌, ◌-◌, ◌≤◌, ◌<◌, Bool, true, false, List, [], ◌∷◌, length, set, get_or, take, drop, replicate, filter, Option, Some, None, Result, Ok, Err, IsSome, is_some, refl, sym, ap, ap₂, subst, ◌∙◌, inl, inr, arith, true≢false, get_or-set_same, get_or-set_other}
+use Rattle.std.proofs.Common.{◌≡◌, ◌≢◌, ℕ, zero, suc, ◌+◌, ◌-◌, ◌≤◌, ◌<◌, Bool, true, false, List, [], ◌∷◌, length, set}
+use Rattle.std.proofs.Common.{get_or, take, drop, replicate, filter, Option, Some, None, Result, Ok, Err, IsSome, is_some}
+use Rattle.std.proofs.Common.{refl, sym, ap, ap₂, subst, ◌∙◌, inl, inr, arith, true≢false, get_or-set_same, get_or-set_other}
 use Rattle.std.specs.Prelude.{◌⊎◌, ◌==◌, ◌||◌, pos, nat_lt, is_none, position, option_map, slice_get, if◌then◌else◌, MatchBool}
 use Rattle.std.specs.List.{list_any, AllByRecursion}
 use Rattle.std.proofs.lemmas.Bool.{cases_eq, eq-eqb, ne_eqb, eqb-true, le-ltb, ltb-false}
@@ -15,7 +17,8 @@ use Rattle.tagged_model.specs.Table.{look_up, verdict, removal, next_of}
 use Rattle.tagged_model.specs.Step.{result_of}
 use Rattle.verifier.specs.Maps.{maps_of}
 use Rattle.tenant.specs.declared.errno.Errno.{Errno}
-use Rattle.tenant.specs.declared.errno.Errno.TheVariants.{NotPermitted, NoEntry, TooBig, BadDescriptor, NoMemory, AccessDenied, BadAddress, Exists, Invalid, TooManyOpen, NoSpace}
+use Rattle.tenant.specs.declared.errno.Errno.TheVariants.{NotPermitted, NoEntry, TooBig, BadDescriptor, NoMemory}
+use Rattle.tenant.specs.declared.errno.Errno.TheVariants.{AccessDenied, BadAddress, Exists, Invalid, TooManyOpen, NoSpace}
 use Rattle.tenant.specs.declared.object.OpenObject.{OpenObject}
 use Rattle.tenant.specs.declared.object.OpenObject.TheVariants as object
 use Rattle.tenant.specs.Errno.{status_of}
@@ -23,9 +26,13 @@ use Rattle.tenant.specs.Loaded.{LoadedProgram}
 use Rattle.tenant.specs.State.{Map, TenantState, new_tenant, live, is_named, shape_area, with_objects}
 use Rattle.insn_set.specs.declared.insn.Insn.{Insn}
 use Rattle.verifier.specs.declared.refusal.Refusal.{Refusal}
-use Rattle.tenant.specs.Machine.{Answer, cause_errno, Answers, refuses, refuses_for_memory, kind_of, asked_shape, new_map, room_for, created_at, created_as, created_under, created, handles_from, named_handle, loaded_program, answer_of_judgement, LoadsAs, LoadsUnder, Loads, closed, on_map, of_object, of_handle, gives_if_found, element_put, element_taken_out, outcome_answer, run_of, longest_packet, maps_given}
+use Rattle.tenant.specs.Machine.{Answer, cause_errno, Answers, refuses, refuses_for_memory, kind_of, asked_shape, new_map}
+use Rattle.tenant.specs.Machine.{room_for, created_at, created_as, created_under, created, handles_from, named_handle}
+use Rattle.tenant.specs.Machine.{loaded_program, answer_of_judgement, LoadsAs, LoadsUnder, Loads, closed, on_map, of_object}
+use Rattle.tenant.specs.Machine.{of_handle, gives_if_found, element_put, element_taken_out, outcome_answer, run_of, longest_packet, maps_given}
 use Rattle.saving.specs.Alike.{HoldsItsMaps}
-use Rattle.saving.specs.Births.{Birth, OfMap, OfProgram, number, birth_of, latest_at, is_of_map, is_of_program, IsBorn, AreInOrder, AreBirths, is_open_program, lives, with_birth, with_opened, births_after}
+use Rattle.saving.specs.Births.{Birth, OfMap, OfProgram, number, birth_of, latest_at, is_of_map, is_of_program, IsBorn}
+use Rattle.saving.specs.Births.{AreInOrder, AreBirths, is_open_program, lives, with_birth, with_opened, births_after}
 use Rattle.saving.specs.Laws.{MapsAreHeld, BirthsAreKept}
 use Rattle.saving.proofs.Lists.{there_is, not_none, set_by_index}
 use Rattle.saving.proofs.Moved.{or_parts, or_left, or_right, flattened-get, named_by, stands_at}

@@ -1,5 +1,6 @@
 -- Two states that are alike give the same reply to each command, and are alike after it.
-use Rattle.std.proofs.Common.{◌≡◌, ℕ, ◌+◌, ◌-◌, Bool, true, false, List, [], ◌∷◌, length, take, drop, Option, Some, None, Result, Ok, Err, is_some, refl, sym, ap, ap₂, subst, ◌∙◌, inl, inr}
+use Rattle.std.proofs.Common.{◌≡◌, ℕ, ◌+◌, ◌-◌, Bool, true, false, List, [], ◌∷◌, length, take, drop, Option}
+use Rattle.std.proofs.Common.{Some, None, Result, Ok, Err, is_some, refl, sym, ap, ap₂, subst, ◌∙◌, inl, inr}
 use Rattle.std.specs.Prelude.{◌==◌, ◌||◌, pos, nat_lt, option_map, if◌then◌else◌, MatchBool}
 use Rattle.std.specs.List.{list_any}
 use Rattle.std.specs.Map.{lookup}
@@ -28,10 +29,14 @@ use Rattle.tenant.specs.State.{Map, TenantState, live, is_named, shape_area, wit
 use Rattle.insn_set.specs.declared.insn.Insn.{Insn}
 use Rattle.verifier.specs.declared.refusal.Refusal.{Refusal}
 use Rattle.verifier.specs.Judgement.{Judges}
-use Rattle.tenant.specs.Machine.{Answer, refuses, refuses_for_memory, gives, opens, kind_of, asked_shape, new_map, room_for, created_at, created_as, created_under, created, of_handle, of_object, on_map, gives_if_found, element_put, element_taken_out, targets, targets_from, handles_from, loaded_program, answer_of_judgement, LoadsAs, LoadsUnder, Loads, longest_packet, maps_given, maps_left, outcome_answer, ran, run_of, closed, Answers}
+use Rattle.tenant.specs.Machine.{Answer, refuses, refuses_for_memory, gives, opens, kind_of, asked_shape, new_map, room_for, created_at}
+use Rattle.tenant.specs.Machine.{created_as, created_under, created, of_handle, of_object, on_map, gives_if_found, element_put}
+use Rattle.tenant.specs.Machine.{element_taken_out, targets, targets_from, handles_from, loaded_program, answer_of_judgement, LoadsAs}
+use Rattle.tenant.specs.Machine.{LoadsUnder, Loads, longest_packet, maps_given, maps_left, outcome_answer, ran, run_of, closed, Answers}
 use Rattle.saving.specs.Alike.{moved_maps, moved_object, IsMovedBy, IsAlikeAnswer}
 use Rattle.saving.specs.Laws.{AlikeIsBisimulation}
-use Rattle.saving.proofs.Moved.{named_moved, lowest_moved, open_moved, closed_moved, named_by, stands_at, named_handle_is_named, lookup_names, targets_moved, handles_moved}
+use Rattle.saving.proofs.Moved.{named_moved, lowest_moved, open_moved, closed_moved, named_by}
+use Rattle.saving.proofs.Moved.{stands_at, named_handle_is_named, lookup_names, targets_moved, handles_moved}
 use Rattle.saving.proofs.Pairs.{ArePair, same_named, unchanged, any_flag, changed, changed_one, created_pair, SameRoom, same_room_for, IsFree}
 use Rattle.saving.proofs.RunMaps.{left_same}
 use Rattle.saving.proofs.Left.{AreLeft, program_left, left_handles, left_moved}

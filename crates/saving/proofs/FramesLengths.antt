@@ -7,7 +7,8 @@ use Rattle.byteorder.specs.Endian.{little_number}
 use Rattle.command_frames.specs.declared.command.BadFrame.{BadFrame}
 use Rattle.command_frames.specs.declared.command.BadFrame.TheVariants.{TooLong, Body}
 use Rattle.saving.specs.inside.Frames.{tail_length}
-use Rattle.command_frames.specs.Command.{Command, map_create, map_lookup, map_update, map_delete, map_next_key, prog_load, prog_test_run, close, exactly, at_least, command_in, parsed, longest_frame, word_behind, long_behind, words}
+use Rattle.command_frames.specs.Command.{Command, map_create, map_lookup, map_update, map_delete, map_next_key, prog_load, prog_test_run}
+use Rattle.command_frames.specs.Command.{close, exactly, at_least, command_in, parsed, longest_frame, word_behind, long_behind, words}
 
 abbrev IsWithin : ℕ → Result Command BadFrame → Type 0
 IsWithin n (Ok command) = tail_length command ≤ n

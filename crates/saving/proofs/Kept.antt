@@ -1,5 +1,6 @@
 -- Each command preserves the invariant of states that can be restored.
-use Rattle.std.proofs.Common.{◌≡◌, ◌≢◌, ℕ, zero, suc, ◌+◌, ◌-◌, ◌≤◌, ◌<◌, Bool, true, false, List, [], ◌∷◌, ◌++◌, length, set, get_or, slice_get, Option, Some, None, IsSome, is_some, refl, sym, ap, ap₂, subst, ◌∙◌, inl, inr, arith, true≢false, length-set}
+use Rattle.std.proofs.Common.{◌≡◌, ◌≢◌, ℕ, zero, suc, ◌+◌, ◌-◌, ◌≤◌, ◌<◌, Bool, true, false, List, [], ◌∷◌, ◌++◌, length, set, get_or}
+use Rattle.std.proofs.Common.{slice_get, Option, Some, None, IsSome, is_some, refl, sym, ap, ap₂, subst, ◌∙◌, inl, inr, arith, true≢false, length-set}
 use Rattle.std.specs.Prelude.{◌⊎◌, ◌==◌, ◌||◌, not, option_map, if◌then◌else◌}
 use Rattle.std.specs.List.{list_any, AllByRecursion}
 use Rattle.std.specs.Map.{lookup, keys_of}

@@ -1,5 +1,6 @@
 -- Each command preserves the invariant of states that can be restored.
-use Rattle.std.proofs.Common.{◌≡◌, ℕ, zero, suc, ◌+◌, ◌-◌, ◌≤◌, Bool, true, false, cond, List, [], ◌∷◌, length, set, get_or, take, drop, replicate, Option, Some, None, Result, Ok, Err, refl, sym, ap, subst, ◌∙◌, inl, inr, arith, length-drop, length-take-le}
+use Rattle.std.proofs.Common.{◌≡◌, ℕ, zero, suc, ◌+◌, ◌-◌, ◌≤◌, Bool, true, false, cond, List, [], ◌∷◌, length, set, get_or, take, drop}
+use Rattle.std.proofs.Common.{replicate, Option, Some, None, Result, Ok, Err, refl, sym, ap, subst, ◌∙◌, inl, inr, arith, length-drop, length-take-le}
 use Rattle.std.specs.Prelude.{◌⊎◌, ◌==◌, ◌||◌, nat_lt, if◌then◌else◌, MatchBool}
 use Rattle.std.specs.List.{AllByRecursion}
 use Rattle.std.specs.Map.{keys_of, set_value}
@@ -17,7 +18,8 @@ use Rattle.tagged_model.specs.declared.value.Outcome.{Outcome}
 use Rattle.tagged_model.specs.declared.value.Outcome.TheVariants.{Value, Fault}
 use Rattle.tagged_model.specs.Step.{MapsByDescriptor, result_of, left_of}
 use Rattle.tagged_model.specs.Table as call
-use Rattle.tagged_model.specs.Table.{is_key, index_key, indexed, new_entries, look_up, verdict, removal, next_of, with_new, with_object, with_deleted, after_run}
+use Rattle.tagged_model.specs.Table.{is_key, index_key, indexed, new_entries, look_up, verdict}
+use Rattle.tagged_model.specs.Table.{removal, next_of, with_new, with_object, with_deleted, after_run}
 use Rattle.verifier.specs.Laws.{LoadedMapsHaveShapes}
 use Rattle.tenant.specs.declared.errno.Errno.{Errno}
 use Rattle.tenant.specs.declared.errno.Errno.TheVariants.{TooBig, Invalid, TooManyOpen}
@@ -29,12 +31,16 @@ use Rattle.tenant.specs.State.{Map, TenantState, new_tenant, free_handle, live, 
 use Rattle.insn_set.specs.declared.insn.Insn.{Insn}
 use Rattle.verifier.specs.declared.refusal.Refusal.{Refusal}
 use Rattle.verifier.specs.Judgement.{Judges}
-use Rattle.tenant.specs.Machine.{Answer, Answers, refuses, refuses_for_memory, kind_of, asked_shape, new_map, room_for, created_at, created_as, created_under, created, of_handle, of_object, on_map, gives_if_found, element_put, element_taken_out, targets, loaded_program, answer_of_judgement, LoadsAs, LoadsUnder, Loads, longest_packet, maps_given, maps_left, outcome_answer, run_of, closed}
+use Rattle.tenant.specs.Machine.{Answer, Answers, refuses, refuses_for_memory, kind_of, asked_shape, new_map, room_for, created_at, created_as}
+use Rattle.tenant.specs.Machine.{created_under, created, of_handle, of_object, on_map, gives_if_found, element_put, element_taken_out, targets}
+use Rattle.tenant.specs.Machine.{loaded_program, answer_of_judgement, LoadsAs, LoadsUnder, Loads, longest_packet, maps_given, maps_left, outcome_answer, run_of}
+use Rattle.tenant.specs.Machine.{closed}
 use Rattle.saving.specs.Alike.{HoldsItsMaps}
 use Rattle.saving.specs.Restorable.{AreDistinct, IsWholeTable, IsWholeMap, IsWholeProgram, IsRestorable}
 use Rattle.saving.specs.Laws.{MapsAreHeld, RestorableIsKept}
 use Rattle.saving.proofs.Lists.{total_in, there_is, not_none, set_by_index}
-use Rattle.saving.proofs.Wholes.{from_keys, indexed_keys, index_length, indexed_distinct, indexed_long, whole_with_new, whole_with_object, whole_with_deleted, whole_after_run, all_end, all_without}
+use Rattle.saving.proofs.Wholes.{from_keys, indexed_keys, index_length, indexed_distinct, indexed_long}
+use Rattle.saving.proofs.Wholes.{whole_with_new, whole_with_object, whole_with_deleted, whole_after_run, all_end, all_without}
 use Rattle.saving.proofs.Limits.{limited, array_key}
 use Rattle.saving.proofs.Moved.{named_by, stands_at, lookup_names}
 use Rattle.saving.proofs.Pairs.{with_new_map, SetAt, IsFree, free_at}
@@ -42,7 +48,8 @@ use Rattle.saving.proofs.Closes.{live_if, live_parts}
 use Rattle.saving.proofs.Makes.{area_left}
 use Rattle.saving.proofs.Births.{closed_there, opened_program}
 use Rattle.saving.proofs.RunMaps.{LeavesMap, IsLeftOf, leaves_maps}
-use Rattle.saving.proofs.Kept.{shape_of, AreOnce, distinct_once, contents_kept, one_left, leaves_self, run_left, found_all, program_kept, program_names, loaded_whole}
+use Rattle.saving.proofs.Kept.{shape_of, AreOnce, distinct_once, contents_kept, one_left}
+use Rattle.saving.proofs.Kept.{leaves_self, run_left, found_all, program_kept, program_names, loaded_whole}
 
 -- ---- the contents of one map
 

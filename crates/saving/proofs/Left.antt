@@ -1,5 +1,6 @@
 -- The maps after a test run, under their handles.
-use Rattle.std.proofs.Common.{◌≡◌, ◌≢◌, ℕ, Bool, true, false, List, [], ◌∷◌, length, set, get_or, Option, Some, None, IsSome, is_some, refl, sym, ap, ◌∙◌, inl, inr, true≢false, length-set}
+use Rattle.std.proofs.Common.{◌≡◌, ◌≢◌, ℕ, Bool, true, false, List, [], ◌∷◌, length, set, get_or, Option, Some}
+use Rattle.std.proofs.Common.{None, IsSome, is_some, refl, sym, ap, ◌∙◌, inl, inr, true≢false, length-set}
 use Rattle.std.specs.Prelude.{◌⊎◌, ◌==◌, ◌||◌, if◌then◌else◌}
 use Rattle.std.specs.List.{list_any}
 use Rattle.std.specs.Map.{lookup}

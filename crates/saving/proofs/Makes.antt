@@ -1,5 +1,7 @@
 -- A map is created again and gets its keys in order.
-use Rattle.std.proofs.Common.{◌≡◌, ℕ, zero, suc, ◌+◌, ◌≤◌, ◌<◌, Bool, true, false, cond, List, [], ◌∷◌, ◌++◌, length, map, set, get_or, take, drop, replicate, Option, Some, None, Result, Ok, Err, refl, sym, ap, ap₂, subst, ◌∙◌, inl, inr, arith, true≢false, length-set, get_or-set_same, append_assoc, append-nil, IsTrue, length-append}
+use Rattle.std.proofs.Common.{◌≡◌, ℕ, zero, suc, ◌+◌, ◌≤◌, ◌<◌, Bool, true, false, cond, List, [], ◌∷◌, ◌++◌, length, map, set}
+use Rattle.std.proofs.Common.{get_or, take, drop, replicate, Option, Some, None, Result, Ok, Err, refl, sym, ap, ap₂, subst, ◌∙◌}
+use Rattle.std.proofs.Common.{inl, inr, arith, true≢false, length-set, get_or-set_same, append_assoc, append-nil, IsTrue, length-append}
 use Rattle.std.specs.Prelude.{◌⊎◌, ◌==◌, ◌||◌, ◌&&◌, pos, is_none, not, if◌then◌else◌}
 use Rattle.std.specs.List.{AllByRecursion, prefix_len}
 use Rattle.std.specs.Map.{keys_of, set_value}
@@ -25,7 +27,8 @@ use Rattle.tenant.specs.declared.object.OpenObject.{OpenObject}
 use Rattle.tenant.specs.declared.object.OpenObject.TheVariants as object
 use Rattle.bpf_maps.specs.Limits.{most_bytes}
 use Rattle.tenant.specs.State.{Map, TenantState, live, is_named, named_from, map_area, maps_area, shape_area, free_handle, with_map_at}
-use Rattle.tenant.specs.Machine.{Answer, Answers, opens, gives, refuses, kind_of, asked_shape, shape_where, new_map, room_for, created, created_under, created_as, of_object, of_handle, element_put}
+use Rattle.tenant.specs.Machine.{Answer, Answers, opens, gives, refuses, kind_of, asked_shape, shape_where, new_map}
+use Rattle.tenant.specs.Machine.{room_for, created, created_under, created_as, of_object, of_handle, element_put}
 use Rattle.tenant.specs.Described.{type_number}
 use Rattle.saving.specs.Restored.{create_of, put_of, Leads}
 use Rattle.saving.specs.Restorable.{AreDistinct, IsWholeMap}

@@ -1,5 +1,6 @@
 -- Two states, each of which holds its maps, and the second of which is the first with its maps under other handles.
-use Rattle.std.proofs.Common.{◌≡◌, ◌≢◌, ℕ, ◌+◌, ◌<◌, Bool, true, false, List, length, set, get_or, Option, Some, None, IsSome, is_some, refl, sym, ap, ap₂, ◌∙◌, inl, inr, true≢false}
+use Rattle.std.proofs.Common.{◌≡◌, ◌≢◌, ℕ, ◌+◌, ◌<◌, Bool, true, false, List, length, set, get_or, Option}
+use Rattle.std.proofs.Common.{Some, None, IsSome, is_some, refl, sym, ap, ap₂, ◌∙◌, inl, inr, true≢false}
 use Rattle.std.specs.Prelude.{ℤ, ◌⊎◌, nat_lt, is_none, if◌then◌else◌}
 use Rattle.std.proofs.lemmas.Bool.{eq-eqb, ne_eqb}
 use Rattle.std.proofs.lemmas.List.Quantifiers.{position-Some}

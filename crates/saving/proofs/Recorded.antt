@@ -1,5 +1,6 @@
 -- The invariant of a tenant holds for all bytes of its part, and each command preserves it.
-use Rattle.std.proofs.Common.{◌≡◌, ℕ, ◌+◌, ◌≤◌, Bool, List, [], ◌∷◌, ◌++◌, true, false, length, reverse, filter, IsSome, Result, Ok, Err, OnOk, OnErr, refl, sym, ap, subst, ◌∙◌}
+use Rattle.std.proofs.Common.{◌≡◌, ℕ, ◌+◌, ◌≤◌, Bool, List, [], ◌∷◌, ◌++◌, true, false, length, reverse}
+use Rattle.std.proofs.Common.{filter, IsSome, Result, Ok, Err, OnOk, OnErr, refl, sym, ap, subst, ◌∙◌}
 use Rattle.byteorder.specs.Endian.{little_bytes}
 use Rattle.std.specs.Prelude.{if◌then◌else◌}
 use Rattle.std.proofs.lemmas.List.{reverse-append, append-nil}
@@ -8,7 +9,8 @@ use Rattle.command_frames.specs.declared.command.Head.{Head}
 use Rattle.command_frames.specs.Command.{Command, prog_test_run}
 use Rattle.fd_table.specs.Table.{most}
 use Rattle.tenant.specs.declared.errno.Errno.{Errno}
-use Rattle.tenant.specs.declared.errno.Errno.TheVariants.{NotPermitted, NoEntry, TooBig, BadDescriptor, NoMemory, AccessDenied, BadAddress, Exists, Invalid, TooManyOpen, NoSpace}
+use Rattle.tenant.specs.declared.errno.Errno.TheVariants.{NotPermitted, NoEntry, TooBig, BadDescriptor, NoMemory}
+use Rattle.tenant.specs.declared.errno.Errno.TheVariants.{AccessDenied, BadAddress, Exists, Invalid, TooManyOpen, NoSpace}
 use Rattle.tenant.specs.declared.reply.Reply.{Reply}
 use Rattle.tenant.specs.declared.reply.Reply.TheVariants as reply
 use Rattle.tenant.specs.Errno.{status_of}

@@ -1,5 +1,6 @@
 -- A new tenant that executes the commands of a save is alike to the saved tenant.
-use Rattle.std.proofs.Common.{◌≡◌, ◌≢◌, ℕ, zero, suc, ◌+◌, ◌≤◌, ◌<◌, Bool, true, false, List, [], ◌∷◌, ◌++◌, get_or, replicate, Option, Some, None, IsSome, is_some, refl, sym, ap, ap₂, subst, ◌∙◌, inl, inr, arith, true≢false, Ok}
+use Rattle.std.proofs.Common.{◌≡◌, ◌≢◌, ℕ, zero, suc, ◌+◌, ◌≤◌, ◌<◌, Bool, true, false, List, [], ◌∷◌, ◌++◌, get_or, replicate}
+use Rattle.std.proofs.Common.{Option, Some, None, IsSome, is_some, refl, sym, ap, ap₂, subst, ◌∙◌, inl, inr, arith, true≢false, Ok}
 use Rattle.std.specs.Prelude.{◌⊎◌, is_none, nat_lt, if◌then◌else◌}
 use Rattle.std.proofs.Math.Path.{fun_ext}
 use Rattle.std.proofs.lemmas.Bool.{cases_eq, cases_lt, eq-eqb, lt-ltb, le-ltb}
@@ -24,7 +25,8 @@ use Rattle.saving.specs.Restored.{load_of, filled, born, closings, Leads}
 use Rattle.saving.specs.Laws.{MapsAreHeld, AlikeIsBisimulation, RestoredIsAlike}
 use Rattle.saving.proofs.Lists.{not_none, some_or_none}
 use Rattle.saving.proofs.Closes.{live_with}
-use Rattle.saving.proofs.Tables.{Opened, table, tabled, IsDescriptor, IsLowestFree, lowest-is, NamesAt, names_at, set_same, set_other, table-same, table-open, table_of, table-moved}
+use Rattle.saving.proofs.Tables.{Opened, table, tabled, IsDescriptor, IsLowestFree, lowest-is, NamesAt}
+use Rattle.saving.proofs.Tables.{names_at, set_same, set_other, table-same, table-open, table_of, table-moved}
 use Rattle.saving.proofs.States.{leads_then, Follows, follows, state_of, same_state, held_of, close_answer}
 use Rattle.saving.proofs.Loads.{SameEntriesSameVerdict}
 use Rattle.saving.proofs.Makes.{LeadsTo}

@@ -6,7 +6,8 @@ use Rattle.std.proofs.lemmas.Bool.{le-leb, le-ltb}
 use Rattle.byteorder.specs.Endian.{little_number, little_bytes}
 use Rattle.command_frames.specs.declared.command.BadFrame.{BadFrame}
 use Rattle.command_frames.specs.declared.command.BadFrame.TheVariants.{TooLong, Body}
-use Rattle.command_frames.specs.Command.{Command, map_create, map_lookup, map_update, map_delete, map_next_key, prog_load, prog_test_run, close, parsed, command_in, longest_frame, before_key_and_value, word_length, before_packet, words}
+use Rattle.command_frames.specs.Command.{Command, map_create, map_lookup, map_update, map_delete, map_next_key, prog_load, prog_test_run}
+use Rattle.command_frames.specs.Command.{close, parsed, command_in, longest_frame, before_key_and_value, word_length, before_packet, words}
 use Rattle.words.specs.Context.{given_words}
 use Rattle.command_frames.specs.Frame.{head_length}
 use Rattle.tenant.specs.Batch.{BatchInput}

@@ -1,5 +1,6 @@
 -- Tables of descriptors that are given by the object of each descriptor.
-use Rattle.std.proofs.Common.{◌≡◌, ◌≢◌, ℕ, zero, suc, ◌+◌, ◌-◌, ◌≤◌, ◌<◌, Bool, true, false, cond, List, [], ◌∷◌, length, set, get_or, Option, Some, None, IsSome, is_some, refl, sym, ap, ap₂, ◌∙◌, inl, inr, arith, true≢false, length-set}
+use Rattle.std.proofs.Common.{◌≡◌, ◌≢◌, ℕ, zero, suc, ◌+◌, ◌-◌, ◌≤◌, ◌<◌, Bool, true, false, cond, List, [], ◌∷◌, length, set, get_or}
+use Rattle.std.proofs.Common.{Option, Some, None, IsSome, is_some, refl, sym, ap, ap₂, ◌∙◌, inl, inr, arith, true≢false, length-set}
 use Rattle.std.specs.Prelude.{◌⊎◌, not, nat_lt, is_none, position, option_map, slice_get, if◌then◌else◌}
 use Rattle.std.specs.List.{prefix_len}
 use Rattle.std.proofs.lemmas.Bool.{eq-eqb, ne_eqb, lt-ltb, le-ltb}

@@ -1,5 +1,6 @@
 -- A verdict depends only on the targets of the descriptors that the program loads.
-use Rattle.std.proofs.Common.{◌≡◌, ℕ, zero, suc, Bool, true, false, not, List, [], ◌∷◌, filter, slice_get, Option, Some, None, is_some, refl, sym, ap, ap₂, ◌∙◌, arith, true≢false}
+use Rattle.std.proofs.Common.{◌≡◌, ℕ, zero, suc, Bool, true, false, not, List, [], ◌∷◌, filter, slice_get}
+use Rattle.std.proofs.Common.{Option, Some, None, is_some, refl, sym, ap, ap₂, ◌∙◌, arith, true≢false}
 use Rattle.std.proofs.Common.{rules}
 use Rattle.std.specs.Prelude.{◌==◌, ◌||◌, ◌&&◌, nat_le, if◌then◌else◌}
 use Rattle.std.specs.Option.{option_map_or}
@@ -14,7 +15,8 @@ use Rattle.insn_set.specs.Flow.{descriptor, descriptor_by, jumps, falls, jumps_t
 use Rattle.insn_set.specs.Profile.{profile}
 use Rattle.insn_set.specs.Program.{IsProgram, begins_at, slot_count}
 use Rattle.reg_kinds.specs.declared.reason.Reason.{Reason}
-use Rattle.reg_kinds.specs.declared.reason.Reason.TheVariants.{JumpOutside, JumpBackward, FallsOff, Unreachable, UnknownHelper, FramePointerWritten, DescriptorNotOpen, DescriptorNotMap, NoDirectValue}
+use Rattle.reg_kinds.specs.declared.reason.Reason.TheVariants.{JumpOutside, JumpBackward, FallsOff, Unreachable, UnknownHelper}
+use Rattle.reg_kinds.specs.declared.reason.Reason.TheVariants.{FramePointerWritten, DescriptorNotOpen, DescriptorNotMap, NoDirectValue}
 use Rattle.tagged_model.specs.declared.shape.Named.{Named}
 use Rattle.tagged_model.specs.declared.shape.Target.{Target}
 use Rattle.tagged_model.specs.Named.{Shapes, target_of, shape_in, shapes_named}
@@ -26,7 +28,8 @@ use Rattle.transfer.specs.Effects.{effect}
 use Rattle.verifier.specs.Before.{facts_before, facts_from_below}
 use Rattle.verifier.specs.Laws.{MapsAreListed}
 use Rattle.verifier.specs.Maps.{maps_of, is_among, entries_of, shapes_of}
-use Rattle.verifier.specs.Shape.{is_map, is_not_open, is_not_map, is_no_value, calls_unknown, is_slot, leads_outside, leads_backward, is_reachable, reached_from, first_reason, shape_reason, shape_of, structure_fault}
+use Rattle.verifier.specs.Shape.{is_map, is_not_open, is_not_map, is_no_value, calls_unknown, is_slot, leads_outside}
+use Rattle.verifier.specs.Shape.{leads_backward, is_reachable, reached_from, first_reason, shape_reason, shape_of, structure_fault}
 use Rattle.verifier.specs.Verdict.{HasNoFault, IsAccepted, reason_of, safety_fault}
 use Rattle.saving.specs.Filler.{filler}
 

@@ -1,5 +1,6 @@
 -- Tables with distinct keys, and the tables after calls of the map.
-use Rattle.std.proofs.Common.{◌≡◌, ◌≢◌, ℕ, zero, suc, ◌+◌, ◌^◌, ◌≤◌, ◌<◌, Bool, true, false, cond, List, [], ◌∷◌, ◌++◌, length, Option, Some, None, Result, Ok, Err, is_some, refl, sym, ap, ap₂, subst, ◌∙◌, inl, inr, arith, true≢false, length-append}
+use Rattle.std.proofs.Common.{◌≡◌, ◌≢◌, ℕ, zero, suc, ◌+◌, ◌^◌, ◌≤◌, ◌<◌, Bool, true, false, cond, List, [], ◌∷◌, ◌++◌, length, Option, Some}
+use Rattle.std.proofs.Common.{None, Result, Ok, Err, is_some, refl, sym, ap, ap₂, subst, ◌∙◌, inl, inr, arith, true≢false, length-append}
 use Rattle.std.specs.Prelude.{◌⊎◌, ◌==◌, ◌||◌, ◌&&◌, nat_le, if◌then◌else◌}
 use Rattle.std.specs.List.{list_any, AllByRecursion}
 use Rattle.std.specs.Map.{lookup, keys_of, remove_entry, set_value}
@@ -13,7 +14,8 @@ use Rattle.tagged_model.specs.declared.fault.MapFault.{MapFault}
 use Rattle.tagged_model.specs.declared.fault.MapFault.TheVariants.{NoEntry, TooBig, Exists, Invalid}
 use Rattle.tagged_model.specs.declared.shape.MapKind.{MapKind}
 use Rattle.tagged_model.specs.declared.shape.MapKind.TheVariants.{Hash, Array}
-use Rattle.tagged_model.specs.Table.{Table, Verdict, Refused, Present, New, is_key, found, index_key, indexed, exist, no_exist, look_up, is_full, of_absent, of_found, verdict, removal_of, removal, with_new, with_object, with_deleted, after_run}
+use Rattle.tagged_model.specs.Table.{Table, Verdict, Refused, Present, New, is_key, found, index_key, indexed, exist, no_exist, look_up}
+use Rattle.tagged_model.specs.Table.{is_full, of_absent, of_found, verdict, removal_of, removal, with_new, with_object, with_deleted, after_run}
 use Rattle.saving.specs.Restorable.{AreDistinct, IsWholeTable}
 
 -- ---- keys

@@ -2,7 +2,8 @@
 //! only in the handles of their maps and in the flag of refused memory. Each law is the contract of a function that does nothing.
 
 ghost use Rattle.saving.specs.SaveParts.{PartsAreWhole};
-ghost use Rattle.saving.specs.Laws.{MapsAreHeld, AlikeIsBisimulation, AlikeStatesReplyAlike, BirthsAreKept, RestorableIsKept, RestoredIsAlike, FramesHaveOwners, TestRunsHaveFrames, RestoredByFrames, HistoriesAreRestored};
+ghost use Rattle.saving.specs.Laws.{MapsAreHeld, AlikeIsBisimulation, AlikeStatesReplyAlike, BirthsAreKept, RestorableIsKept};
+ghost use Rattle.saving.specs.Laws.{RestoredIsAlike, FramesHaveOwners, TestRunsHaveFrames, RestoredByFrames, HistoriesAreRestored};
 
 /// Exactly the maps that an open object names are live, in a new tenant and after each command.
 pub fn maps_are_held()

@@ -1,5 +1,6 @@
 -- The result of the seeded hash function. No contract of a map mentions it. This project's own.
-use Rattle.std.specs.Prelude.{ℕ, zero, suc, ◌+◌, ◌-◌, ◌*◌, ◌/◌, ◌%◌, ◌^◌, List, length, if◌then◌else◌, nat_le, nat_lt, slice_index, take, drop, bit_and, bit_or, bit_xor}
+use Rattle.std.specs.Prelude.{ℕ, zero, suc, ◌+◌, ◌-◌, ◌*◌, ◌/◌, ◌%◌, ◌^◌, List, length}
+use Rattle.std.specs.Prelude.{if◌then◌else◌, nat_le, nat_lt, slice_index, take, drop, bit_and, bit_or, bit_xor}
 use Rattle.std.specs.Int.{w64, from_le_bytes, rotate_left}
 use Rattle.seeded_hash.specs.declared.HashSeed.{HashSeed}
 use Rattle.seeded_hash.specs.declared.SeededHasher.{SeededHasher}

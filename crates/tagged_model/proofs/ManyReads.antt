@@ -1,5 +1,6 @@
 -- Reads of bytes across slots of the stack, if the facts say that these bytes are written.
-use Rattle.std.proofs.Common.{◌≡◌, ℕ, zero, suc, ◌+◌, ◌*◌, ◌/◌, ◌%◌, ◌<◌, ◌≤◌, ltb, ◌==◌, bit_and, ℤ, Bool, true, false, not, if◌then◌else◌, List, length, Some, None, Result, Ok, Err, refl, sym, subst, ◌∙◌, ⊎_elim, arith}
+use Rattle.std.proofs.Common.{◌≡◌, ℕ, zero, suc, ◌+◌, ◌*◌, ◌/◌, ◌%◌, ◌<◌, ◌≤◌, ltb, ◌==◌, bit_and, ℤ, Bool, true, false, not}
+use Rattle.std.proofs.Common.{if◌then◌else◌, List, length, Some, None, Result, Ok, Err, refl, sym, subst, ◌∙◌, ⊎_elim, arith}
 use Rattle.std.specs.Int.{bit_at}
 use Rattle.std.proofs.lemmas.Bool.{cond-true, and_from, eqb-true, lt-ltb, cases_lt, false≢true, or_parts, not-false}
 use Rattle.reg_kinds.specs.declared.kind.Slot.{Slot}

@@ -1,11 +1,13 @@
 -- Invariants of a map that its calls preserve.
-use Rattle.std.proofs.Common.{◌≡◌, ℕ, ◌+◌, ◌<◌, Bool, true, false, if◌then◌else◌, nat_le, List, length, Option, Some, None, Result, Ok, Err, refl, sym, ap, ◌∙◌, arith, ◌==◌}
+use Rattle.std.proofs.Common.{◌≡◌, ℕ, ◌+◌, ◌<◌, Bool, true, false, if◌then◌else◌, nat_le, List, length}
+use Rattle.std.proofs.Common.{Option, Some, None, Result, Ok, Err, refl, sym, ap, ◌∙◌, arith, ◌==◌}
 use Rattle.tagged_model.specs.declared.shape.MapKind.{MapKind}
 use Rattle.tagged_model.specs.declared.shape.MapKind.TheVariants.{Hash, Array}
 use Rattle.tagged_model.specs.declared.shape.MapShape.{MapShape}
 use Rattle.tagged_model.specs.declared.fault.MapFault.{MapFault}
 use Rattle.tagged_model.specs.declared.fault.MapFault.TheVariants.{Exists, Invalid}
-use Rattle.tagged_model.specs.Table.{Table, Verdict, Refused, Present, New, no_exist, exist, is_full, of_absent, of_found, look_up, verdict, removal_of, removal}
+use Rattle.tagged_model.specs.Table.{Table, Verdict, Refused, Present, New, no_exist, exist, is_full}
+use Rattle.tagged_model.specs.Table.{of_absent, of_found, look_up, verdict, removal_of, removal}
 use Rattle.tagged_model.specs.State.{RunMap, set_at, with_value}
 use Rattle.tagged_model.specs.Helpers.{with_object, put, updated, taken_out, removed}
 use Rattle.tagged_model.specs.StateInvariant.{AreBytes, IsMapOf}

@@ -1,10 +1,13 @@
 -- A map of objects and the map of the values that they represent, for any two kinds of object.
-use Rattle.std.proofs.Common.{◌≡◌, ℕ, zero, suc, ◌+◌, ◌==◌, Bool, true, false, cond, List, [], ◌∷◌, length, map, Option, Some, None, is_some, option_map, refl, ap, ◌∙◌, nat_le, if◌then◌else◌}
+use Rattle.std.proofs.Common.{◌≡◌, ℕ, zero, suc, ◌+◌, ◌==◌, Bool, true, false, cond, List, [], ◌∷◌, length, map}
+use Rattle.std.proofs.Common.{Option, Some, None, is_some, option_map, refl, ap, ◌∙◌, nat_le, if◌then◌else◌}
 use Rattle.std.specs.Result.{result_map_both}
 use Rattle.tagged_model.specs.declared.shape.MapKind.{MapKind}
 use Rattle.tagged_model.specs.declared.shape.MapKind.TheVariants.{Hash, Array}
 use Rattle.tagged_model.specs.declared.fault.MapFault.TheVariants.{NoEntry, TooBig, Exists, Invalid}
-use Rattle.tagged_model.specs.Table.{Table, Verdict, Refused, Present, New, no_exist, is_key, found, without, with_key, first_key, key_behind, key_after, index_key, indexed, new_entries, look_up, is_full, exist, of_present, of_absent, of_found, verdict, verdict_with, removal_of, with_values}
+use Rattle.tagged_model.specs.Table.{Table, Verdict, Refused, Present, New, no_exist, is_key, found, without, with_key}
+use Rattle.tagged_model.specs.Table.{first_key, key_behind, key_after, index_key, indexed, new_entries, look_up, is_full}
+use Rattle.tagged_model.specs.Table.{exist, of_present, of_absent, of_found, verdict, verdict_with, removal_of, with_values}
 use Rattle.tagged_model.specs.MapLaws.{CallsRefineValues}
 
 module _ {A B : Type 0} (value : A → B) where

@@ -1,7 +1,8 @@
 -- Laws of helpers, of the definitions of `Helpers`: a helper's number, and what a call leaves of
 -- the state before it, whichever helper it calls. Proved here for the proofs of the crates above.
 -- This project's own. No contract cites them, so they are not part of what has to be trusted.
-use Rattle.std.proofs.Common.{◌≡◌, ℕ, zero, suc, ◌+◌, ◌==◌, ℤ, pos, negsuc, nat_le, Bool, true, false, cond, List, [], ◌∷◌, length, Option, Some, None, refl, sym, ap, subst, ◌∙◌}
+use Rattle.std.proofs.Common.{◌≡◌, ℕ, zero, suc, ◌+◌, ◌==◌, ℤ, pos, negsuc, nat_le, Bool, true, false}
+use Rattle.std.proofs.Common.{cond, List, [], ◌∷◌, length, Option, Some, None, refl, sym, ap, subst, ◌∙◌}
 use Rattle.std.specs.Prelude.{find}
 use Rattle.std.specs.Ordering.{int_eq}
 use Rattle.std.specs.Cmp.{signed_Decides}
@@ -18,7 +19,8 @@ use Rattle.tagged_model.specs.declared.value.Tagged.TheVariants.{Scalar, Pointer
 use Rattle.tagged_model.specs.Table.{look_up}
 use Rattle.tagged_model.specs.Cells.{and_then, gathered, cell_over}
 use Rattle.tagged_model.specs.State.{RunState, RunMap, set_at, stack_byte, value_bytes, value_written, with_cells, with_value, with_map, input, output}
-use Rattle.tagged_model.specs.Helpers.{id_of, known_helpers, helper_of, MapReply, updated, removed, looked_up, packet_bytes, packet_answer, number_given, length_given, map_given, context_given, argument, GivenMap, map_argument, returns, replies, called}
+use Rattle.tagged_model.specs.Helpers.{id_of, known_helpers, helper_of, MapReply, updated, removed, looked_up, packet_bytes, packet_answer}
+use Rattle.tagged_model.specs.Helpers.{number_given, length_given, map_given, context_given, argument, GivenMap, map_argument, returns, replies, called}
 
 -- ---- the number
 

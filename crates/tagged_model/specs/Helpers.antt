@@ -3,7 +3,8 @@
 -- documentation's calling convention (bpf/standardization/abi.rst). The results of maps are in the
 -- definition of a map. No documentation says that a failed load of bytes writes zeros: it is this
 -- project's own, and as the kernel does.
-use Rattle.std.specs.Prelude.{ℕ, ◌+◌, ◌-◌, ◌%◌, ◌^◌, ◌==◌, ℤ, pos, Bool, ◌&&◌, nat_le, if◌then◌else◌, List, [], ◌∷◌, length, replicate, find, Option, Some, None, Result, Ok, Err}
+use Rattle.std.specs.Prelude.{ℕ, ◌+◌, ◌-◌, ◌%◌, ◌^◌, ◌==◌, ℤ, pos, Bool, ◌&&◌, nat_le, if◌then◌else◌}
+use Rattle.std.specs.Prelude.{List, [], ◌∷◌, length, replicate, find, Option, Some, None, Result, Ok, Err}
 use Rattle.std.specs.Ordering.{int_eq}
 use Rattle.words.specs.Bytes.{bytes_at}
 use Rattle.tagged_model.specs.declared.fault.MapFault.{MapFault}

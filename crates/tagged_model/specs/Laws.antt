@@ -11,7 +11,8 @@ use Rattle.reg_kinds.specs.Settle.{facts_settled}
 use Rattle.tagged_model.specs.declared.shape.MapShape.{MapShape}
 use Rattle.tagged_model.specs.declared.value.Tagged.{Tagged}
 use Rattle.tagged_model.specs.declared.value.Tagged.TheVariants.{Scalar}
-use Rattle.tagged_model.specs.State.{RunState, RunMap, stack_load, stack_store, stack_bytes, stack_written, object_bytes, object_written, object_stored, with_map}
+use Rattle.tagged_model.specs.State.{RunState, RunMap, stack_load, stack_store, stack_bytes}
+use Rattle.tagged_model.specs.State.{stack_written, object_bytes, object_written, object_stored, with_map}
 use Rattle.tagged_model.specs.Cells.{number_from}
 use Rattle.tagged_model.specs.Table.{look_up, has_direct_value, direct_object}
 use Rattle.tagged_model.specs.Helpers as helpers

@@ -2,7 +2,8 @@
 -- of the definitions of `Values`, `StateInvariant` and `Table`, proved here for the proofs of the
 -- crates above. This project's own. No contract cites them, so they are not part of what has to be
 -- trusted.
-use Rattle.std.proofs.Common.{◌≡◌, ℕ, ◌<◌, ◌≤◌, ◌==◌, ◌&&◌, nat_lt, ℤ, pos, neg_ℤ, ◌≤ℤ◌, int_le, Bool, true, false, cond, List, [], ◌∷◌, Some, None, refl, arith}
+use Rattle.std.proofs.Common.{◌≡◌, ℕ, ◌<◌, ◌≤◌, ◌==◌, ◌&&◌, nat_lt, ℤ, pos, neg_ℤ, ◌≤ℤ◌, int_le}
+use Rattle.std.proofs.Common.{Bool, true, false, cond, List, [], ◌∷◌, Some, None, refl, arith}
 use Rattle.std.specs.Prelude.{nat_le}
 use Rattle.std.proofs.lemmas.Bool.{and_parts, eqb-true, ltb-true, leb-true, le-leb}
 use Rattle.std.proofs.lemmas.Int.{ints}

@@ -3,7 +3,8 @@
 -- number in a run, its element in an area, its bytes. The order of the refusals, the order of a
 -- hash map's keys, and that objects deleted in a run count until the run ends are this project's
 -- own.
-use Rattle.std.specs.Prelude.{ℕ, zero, suc, ◌+◌, ◌==◌, ◌&&◌, nat_eq, nat_le, nat_lt, Bool, true, false, if◌then◌else◌, List, [], ◌∷◌, ◌++◌, length, map, Option, Some, None, is_some, Result, Ok, Err}
+use Rattle.std.specs.Prelude.{ℕ, zero, suc, ◌+◌, ◌==◌, ◌&&◌, nat_eq, nat_le, nat_lt, Bool, true, false}
+use Rattle.std.specs.Prelude.{if◌then◌else◌, List, [], ◌∷◌, ◌++◌, length, map, Option, Some, None, is_some, Result, Ok, Err}
 use Rattle.std.specs.Map.{lookup, remove_entry, set_value}
 use Rattle.std.specs.Cmp.Lexicographic.{pointwise}
 use Rattle.words.specs.Bytes.{low_bytes}

@@ -1,5 +1,6 @@
 -- A reply with the status of a fault has no payload; only a test run that faults has this status.
-use Rattle.std.proofs.Common.{Result, Ok, Err, ◌≡◌, ◌≢◌, ℕ, Bool, true, false, List, [], ◌++◌, length, Option, Some, None, refl, sym, ap, subst, ◌∙◌, arith, get_or}
+use Rattle.std.proofs.Common.{Result, Ok, Err, ◌≡◌, ◌≢◌, ℕ, Bool, true, false, List, [], ◌++◌}
+use Rattle.std.proofs.Common.{length, Option, Some, None, refl, sym, ap, subst, ◌∙◌, arith, get_or}
 use Rattle.std.specs.Prelude.{ℤ, pos, ◌==◌, nat_lt, if◌then◌else◌, MatchBool}
 use Rattle.std.specs.Int.{w32, cast_unsigned}
 use Rattle.byteorder.specs.Endian.{little_bytes}
@@ -28,7 +29,9 @@ use Rattle.tenant.specs.declared.object.OpenObject.TheVariants as object
 use Rattle.command_frames.specs.Frame.{owner, command_number, reply_to}
 use Rattle.tenant.specs.Alone.{AnswersFrame, IsFault}
 use Rattle.tenant.specs.Errno.{status_of}
-use Rattle.tenant.specs.Machine.{Answer, ran, refuses, cause_errno, codec_errno, verdict_errno, created_as, created_under, created, room_for, kind_of, asked_shape, of_object, of_handle, on_map, gives_if_found, element_put, element_taken_out, answer_of_judgement, LoadsUnder, outcome_answer, run_of, longest_packet, closed, Answers}
+use Rattle.tenant.specs.Machine.{Answer, ran, refuses, cause_errno, codec_errno, verdict_errno, created_as, created_under, created}
+use Rattle.tenant.specs.Machine.{room_for, kind_of, asked_shape, of_object, of_handle, on_map, gives_if_found, element_put}
+use Rattle.tenant.specs.Machine.{element_taken_out, answer_of_judgement, LoadsUnder, outcome_answer, run_of, longest_packet, closed, Answers}
 use Rattle.tenant.specs.State.{Map, TenantState, live}
 use Rattle.tenant.proofs.LookUps.{has_size}
 use Rattle.tenant.proofs.NextKeys.{is_empty_or_fits}

@@ -1,5 +1,6 @@
 -- The state after a load that opens a program.
-use Rattle.std.proofs.Common.{◌≡◌, ◌≢◌, ℕ, ◌+◌, ◌-◌, ◌≤◌, ◌<◌, Bool, true, false, List, get_or, Option, Some, None, sym, ap, ap₂, subst, ◌∙◌, inl, inr, arith, length-set}
+use Rattle.std.proofs.Common.{◌≡◌, ◌≢◌, ℕ, ◌+◌, ◌-◌, ◌≤◌, ◌<◌, Bool, true, false, List, get_or}
+use Rattle.std.proofs.Common.{Option, Some, None, sym, ap, ap₂, subst, ◌∙◌, inl, inr, arith, length-set}
 use Rattle.std.specs.Prelude.{◌==◌, ◌||◌, ◌⊎◌, if◌then◌else◌}
 use Rattle.bpf_maps.specs.Live.{LiveMaps, holds_at}
 use Rattle.fd_table.specs.Table.{first_descriptor, lowest, with_open}

@@ -1,5 +1,6 @@
 -- A live map in the state, and its entries in order.
-use Rattle.std.proofs.Common.{◌≡◌, ℕ, ◌+◌, ◌≤◌, Bool, true, false, List, [], ◌∷◌, map, length, Option, Some, None, IsSome, is_some, option_map, refl, sym, ap, subst, ◌∙◌, nat_eq, nat_lt, if◌then◌else◌, true≢false, arith}
+use Rattle.std.proofs.Common.{◌≡◌, ℕ, ◌+◌, ◌≤◌, Bool, true, false, List, [], ◌∷◌, map, length, Option, Some, None, IsSome}
+use Rattle.std.proofs.Common.{is_some, option_map, refl, sym, ap, subst, ◌∙◌, nat_eq, nat_lt, if◌then◌else◌, true≢false, arith}
 use Rattle.std.specs.Map.{values_of}
 use Rattle.bpf_maps.specs.Limits.{most_maps}
 use Rattle.bpf_maps.specs.Live.{LiveMap, LiveMaps, AreSound, live_at, live_or, keys_at, value_in, map_in}

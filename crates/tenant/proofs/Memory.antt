@@ -1,5 +1,6 @@
 -- Refused memory: the status of a command, and what it does to the flag.
-use Rattle.std.proofs.Common.{Result, Ok, Err, ◌≡◌, ◌≢◌, ℕ, Bool, true, false, List, [], ◌∷◌, length, Option, Some, None, refl, sym, ap, subst, ◌∙◌, ◌⊎◌, inl, inr, get_or}
+use Rattle.std.proofs.Common.{Result, Ok, Err, ◌≡◌, ◌≢◌, ℕ, Bool, true, false, List, [], ◌∷◌, length}
+use Rattle.std.proofs.Common.{Option, Some, None, refl, sym, ap, subst, ◌∙◌, ◌⊎◌, inl, inr, get_or}
 use Rattle.std.specs.Prelude.{ℤ, pos, ◌==◌, nat_lt, nat_le, if◌then◌else◌, MatchBool}
 use Rattle.std.specs.Int.{w32, cast_unsigned}
 use Rattle.byteorder.specs.Endian.{little_bytes}
@@ -34,7 +35,9 @@ use Rattle.tenant.specs.declared.object.OpenObject.{OpenObject}
 use Rattle.tenant.specs.declared.object.OpenObject.TheVariants as object
 use Rattle.tenant.specs.Errno.{status_of}
 use Rattle.tenant.specs.Laws.{takes_memory, IsNoRefusal, RefusalsAreTold}
-use Rattle.tenant.specs.Machine.{Answer, refuses, refuses_for_memory, codec_errno, verdict_errno, cause_errno, created_as, created_under, created, room_for, shape_where, kind_of, asked_shape, of_object, of_handle, on_map, gives_if_found, element_put, element_taken_out, targets, answer_of_judgement, LoadsUnder, outcome_answer, maps_given, maps_left, ran, run_of, longest_packet, closed, Answers}
+use Rattle.tenant.specs.Machine.{Answer, refuses, refuses_for_memory, codec_errno, verdict_errno, cause_errno, created_as, created_under, created, room_for}
+use Rattle.tenant.specs.Machine.{shape_where, kind_of, asked_shape, of_object, of_handle, on_map, gives_if_found, element_put, element_taken_out, targets}
+use Rattle.tenant.specs.Machine.{answer_of_judgement, LoadsUnder, outcome_answer, maps_given, maps_left, ran, run_of, longest_packet, closed, Answers}
 use Rattle.tenant.specs.State.{Map, TenantState, live, shape_area}
 use Rattle.tenant.proofs.LookUps.{has_size}
 use Rattle.tenant.proofs.NextKeys.{is_empty_or_fits}

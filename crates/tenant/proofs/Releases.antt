@@ -1,10 +1,12 @@
 -- The live maps after a release.
-use Rattle.std.proofs.Common.{◌≡◌, ◌≢◌, ℕ, ◌+◌, ◌-◌, ◌≤◌, ◌<◌, Bool, true, false, [], List, length, Option, Some, None, IsSome, is_some, refl, sym, ap, subst, ◌∙◌, inl, inr, arith}
+use Rattle.std.proofs.Common.{◌≡◌, ◌≢◌, ℕ, ◌+◌, ◌-◌, ◌≤◌, ◌<◌, Bool, true, false, [], List, length, Option}
+use Rattle.std.proofs.Common.{Some, None, IsSome, is_some, refl, sym, ap, subst, ◌∙◌, inl, inr, arith}
 use Rattle.std.specs.Prelude.{◌==◌, ◌⊎◌, nat_le, option_map, if◌then◌else◌}
 use Rattle.std.proofs.lemmas.Bool.{eq-eqb, ne_eqb, cases_lt}
 use Rattle.std.proofs.lemmas.Bool.Decides.{nat_tests}
 use Rattle.bpf_maps.specs.declared.part.TheConstants.{PART}
-use Rattle.bpf_maps.specs.Live.{LiveMaps, LiveMap, live_or, live_at, holds_at, keys_at, map_in, MapWithoutArea, held_at, without_area, one_less, no_live, KeepsMap, KeepsOthers}
+use Rattle.bpf_maps.specs.Live.{LiveMaps, LiveMap, live_or, live_at, holds_at, keys_at, map_in}
+use Rattle.bpf_maps.specs.Live.{MapWithoutArea, held_at, without_area, one_less, no_live, KeepsMap, KeepsOthers}
 use Rattle.bpf_maps.specs.KeyTable.{KeyTable}
 use Rattle.tenant.specs.Kept.{AreHeld}
 use Rattle.tenant.specs.inside.Leaves.{LeavesHeldMaps}

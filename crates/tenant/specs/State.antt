@@ -1,6 +1,7 @@
 -- The state of a tenant: its open objects, its live maps, and whether memory was ever refused to
 -- it. Descriptors and maps are those of bpf(2); the limits are this project's own.
-use Rattle.std.specs.Prelude.{ℕ, ◌+◌, ◌==◌, Bool, false, if◌then◌else◌, List, [], ◌∷◌, replicate, Option, Some, None, is_none, position, slice_index_or, slice_set}
+use Rattle.std.specs.Prelude.{ℕ, ◌+◌, ◌==◌, Bool, false, if◌then◌else◌, List, [], ◌∷◌, replicate}
+use Rattle.std.specs.Prelude.{Option, Some, None, is_none, position, slice_index_or, slice_set}
 use Rattle.std.specs.List.{list_any}
 use Rattle.std.specs.Option.{option_map_or}
 use Rattle.bpf_maps.specs.Limits.{most_maps}

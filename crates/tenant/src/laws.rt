@@ -1,7 +1,8 @@
 //! Laws of the machine. Each law is the contract of a function that does nothing.
 
 ghost use Rattle.tenant.specs.Batch.{BatchIsItsFrames, RefusedAsItsFrame, OneResultEach};
-ghost use Rattle.tenant.specs.Laws.{OneAnswer, OneReply, OneAlone, ClearFlagMeansNoRefusal, ClearFlagMeansAlone, RefusalsAreTold, OnlyCreationsAndLoadsAreRefused, UnrefusedRepliesMeanAlone, FaultsHaveNoPayload};
+ghost use Rattle.tenant.specs.Laws.{OneAnswer, OneReply, OneAlone, ClearFlagMeansNoRefusal, ClearFlagMeansAlone};
+ghost use Rattle.tenant.specs.Laws.{RefusalsAreTold, OnlyCreationsAndLoadsAreRefused, UnrefusedRepliesMeanAlone, FaultsHaveNoPayload};
 
 /// The result of a command is unique, whether memory is refused to it or not.
 pub fn one_answer()

@@ -1,5 +1,6 @@
 -- Soundness of the parser: the tokens of a line that is read are the line's spelling.
-use Rattle.std.proofs.Common.{◌≡◌, ℕ, ◌≤◌, Bool, true, false, cond, List, [], ◌∷◌, Option, Some, None, refl, ap, ◌∙◌, ◌⊎◌, inl, inr, subst, sym, eqb, leb, option_map}
+use Rattle.std.proofs.Common.{◌≡◌, ℕ, ◌≤◌, Bool, true, false, cond, List, [], ◌∷◌, Option, Some}
+use Rattle.std.proofs.Common.{None, refl, ap, ◌∙◌, ◌⊎◌, inl, inr, subst, sym, eqb, leb, option_map}
 use Rattle.std.specs.Prelude.{codes, IsTrue, ◌||◌, ◌&&◌, not}
 use Rattle.std.specs.Str.{bytes_eq}
 use Rattle.std.proofs.lemmas.Slice.Eq.{bytes_eq-Decides}
@@ -35,9 +36,16 @@ use Rattle.text_line.specs.declared.form.Form.TheVariants as form
 use Rattle.text_line.specs.declared.form.Address.{Address}
 use Rattle.text_line.specs.Token.{Token, name, number, symbol}
 use Rattle.text_line.specs.Names.{register_name, sign_name, jump_name}
-use Rattle.text_line.specs.Form.{TokenLayout, layout, operation_layout, value_layout, sign, word, space, tokens_of, reg, to_label, constant, operand_layout, destination, address, IsForm, IsOperation, IsSource, names_label}
+use Rattle.text_line.specs.Form.{TokenLayout, layout, operation_layout, value_layout, sign, word, space, tokens_of, reg}
+use Rattle.text_line.specs.Form.{to_label, constant, operand_layout, destination, address, IsForm, IsOperation, IsSource, names_label}
 use Rattle.text_line.specs.Line.{Line, blank, label, spelled, IsWellFormed, NoLabel}
-use Rattle.text_line.specs.inside.Reading.{registers, leading_symbol, leading_name, leading_number, after_symbol, after_word, leading_register, number_from, leading_constant, leading_signed_number, leading_operand, parsed_destination, leading_address, leading_wide_value, atomic_size_of, at_end, match_option, parsed_binary, parsed_sign_extension, parsed_in_place, parsed_end, parsed_unary, is_move, parsed_operation, parsed_load, parsed_store, parsed_atomic, parsed_wide_load, parsed_loaded, parsed_assigned, parsed_jump, parsed_branch, parsed_call, without_label, parsed_form, parsed_label, line_of, bool_eq, ◌>>=◌}
+use Rattle.text_line.specs.inside.Reading.{registers, leading_symbol, leading_name, leading_number, after_symbol, after_word}
+use Rattle.text_line.specs.inside.Reading.{leading_register, number_from, leading_constant, leading_signed_number, leading_operand}
+use Rattle.text_line.specs.inside.Reading.{parsed_destination, leading_address, leading_wide_value, atomic_size_of, at_end, match_option}
+use Rattle.text_line.specs.inside.Reading.{parsed_binary, parsed_sign_extension, parsed_in_place, parsed_end, parsed_unary, is_move}
+use Rattle.text_line.specs.inside.Reading.{parsed_operation, parsed_load, parsed_store, parsed_atomic, parsed_wide_load, parsed_loaded}
+use Rattle.text_line.specs.inside.Reading.{parsed_assigned, parsed_jump, parsed_branch, parsed_call, without_label, parsed_form, parsed_label, line_of, bool_eq}
+use Rattle.text_line.specs.inside.Reading.{◌>>=◌}
 
 -- ---- options and tests that have a value
 

@@ -1,5 +1,6 @@
 -- A text that is laid out is read as its tokens.
-use Rattle.std.proofs.Common.{◌≡◌, ◌≢◌, ℕ, ◌<◌, ◌^◌, Bool, true, false, ◌&&◌, not, List, [], ◌∷◌, ◌++◌, length, get_or, Some, None, refl, sym, ap, ◌∙◌, arith, decimal, IsAscii}
+use Rattle.std.proofs.Common.{◌≡◌, ◌≢◌, ℕ, ◌<◌, ◌^◌, Bool, true, false, ◌&&◌, not, List, [], ◌∷◌, ◌++◌}
+use Rattle.std.proofs.Common.{length, get_or, Some, None, refl, sym, ap, ◌∙◌, arith, decimal, IsAscii}
 use Rattle.std.specs.List.{AllByRecursion}
 use Rattle.std.specs.Char.{is_ascii_digit, is_ascii_graphic}
 use Rattle.std.specs.Int.{is_in_range}
@@ -12,7 +13,8 @@ use Rattle.text_line.specs.Token.{Token, name, number, symbol, symbols, is_name_
 use Rattle.text_line.specs.inside.Tokens.{token_at}
 use Rattle.text_line.specs.Form.{TokenLayout, tokens_of}
 use Rattle.text_line.specs.Written.{lexeme, laid_out}
-use Rattle.text_line.proofs.Fronts.{passes, passes-append, passes_more, is_long_name, is_picked, prolongs, start_in_name, start_prolongs_none, digit_prolongs_none, name_graphic, digit_graphic, decimal_digits, name_front, number_front, symbol_front}
+use Rattle.text_line.proofs.Fronts.{passes, passes-append, passes_more, is_long_name, is_picked, prolongs, start_in_name, start_prolongs_none}
+use Rattle.text_line.proofs.Fronts.{digit_prolongs_none, name_graphic, digit_graphic, decimal_digits, name_front, number_front, symbol_front}
 use Rattle.text_line.proofs.Longest.{taken}
 
 -- ---- layouts whose tokens are apart

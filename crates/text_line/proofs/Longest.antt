@@ -1,5 +1,6 @@
 -- The token that is taken at the front of a text is the longest there.
-use Rattle.std.proofs.Common.{◌≡◌, ℕ, ◌+◌, ◌<◌, ◌≤◌, Bool, true, false, ◌&&◌, not, cond, eqb, ltb, leb, List, [], ◌∷◌, ◌++◌, length, take, drop, get_or, Option, Some, None, option_map, refl, sym, ap, ◌∙◌, arith, rules, subst, inl, inr, zero, suc}
+use Rattle.std.proofs.Common.{◌≡◌, ℕ, ◌+◌, ◌<◌, ◌≤◌, Bool, true, false, ◌&&◌, not, cond, eqb, ltb, leb, List, [], ◌∷◌, ◌++◌, length, take}
+use Rattle.std.proofs.Common.{drop, get_or, Option, Some, None, option_map, refl, sym, ap, ◌∙◌, arith, rules, subst, inl, inr, zero, suc}
 use Rattle.std.specs.Prelude.{find, nat_eq, codes, slice_index}
 use Rattle.std.specs.List.{prefix_len, starts_with, list_all, AllByRecursion, Contains}
 use Rattle.std.specs.Char.{is_ascii_digit}
@@ -8,7 +9,8 @@ use Rattle.std.proofs.lemmas.Bool.{false≢true, and_parts, and_from, and_right,
 use Rattle.std.proofs.lemmas.List.{take-append-drop}
 use Rattle.std.proofs.lemmas.Option.{none-some, same_Some}
 use Rattle.std.proofs.lemmas.Slice.Eq.{bytes_eq-Decides}
-use Rattle.text_line.specs.Token.{Token, name, number, symbol, symbols, is_name, are_digits, value_of, is_name_start, is_name_byte, is_hex_digit, IsToken, BeginsWith}
+use Rattle.text_line.specs.Token.{Token, name, number, symbol, symbols, is_name, are_digits, value_of}
+use Rattle.text_line.specs.Token.{is_name_start, is_name_byte, is_hex_digit, IsToken, BeginsWith}
 use Rattle.text_line.specs.inside.Tokens.{symbol_at, is_hexadecimal, run, name_at, number_at, or_else, token_at}
 use Rattle.text_line.proofs.Fronts.{begins_itself, begins_no_name, symbols_no_name, begins_no_digit, symbols_no_digit, start_in_name, digit_no_start}
 

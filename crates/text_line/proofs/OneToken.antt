@@ -1,5 +1,6 @@
 -- Bytes are at most one token, and a text has at most one longest token at its front.
-use Rattle.std.proofs.Common.{◌≡◌, ℕ, Bool, true, false, not, ◌&&◌, cond, List, [], ◌∷◌, ◌++◌, length, take, drop, Option, Some, None, option_map, refl, sym, ap, ◌∙◌, arith, subst, inl, inr}
+use Rattle.std.proofs.Common.{◌≡◌, ℕ, Bool, true, false, not, ◌&&◌, cond, List, [], ◌∷◌, ◌++◌, length, take}
+use Rattle.std.proofs.Common.{drop, Option, Some, None, option_map, refl, sym, ap, ◌∙◌, arith, subst, inl, inr}
 use Rattle.std.specs.Prelude.{codes, slice_index}
 use Rattle.std.specs.List.{list_all, Contains}
 use Rattle.std.specs.Char.{is_ascii_digit}
@@ -9,7 +10,8 @@ use Rattle.std.proofs.Math.Seq.{take-append_seam, drop-append_seam}
 use Rattle.text_line.specs.Token.{Token, name, number, symbol, symbols, is_name, value_of, is_name_start, is_name_byte, IsToken, BeginsWith}
 use Rattle.text_line.specs.inside.Tokens.{symbol_at, is_hexadecimal, name_at, number_at, or_else, token_at}
 use Rattle.text_line.proofs.Fronts.{begins_no_name, symbols_no_name, symbols_no_digit, begins_no_digit, start_in_name}
-use Rattle.text_line.proofs.Longest.{each_symbol, no_digit_symbol, name_bytes, number_first, all_digits_of, no_symbol_there, symbol_back, name_first, digit_first, start_no_digit, taken}
+use Rattle.text_line.proofs.Longest.{each_symbol, no_digit_symbol, name_bytes, number_first, all_digits_of}
+use Rattle.text_line.proofs.Longest.{no_symbol_there, symbol_back, name_first, digit_first, start_no_digit, taken}
 
 -- ---- one token
 

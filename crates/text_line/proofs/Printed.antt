@@ -39,7 +39,8 @@ use Rattle.text_line.specs.declared.form.WideValue.TheVariants as value
 use Rattle.text_line.specs.declared.form.Form.{Form}
 use Rattle.text_line.specs.declared.form.Form.TheVariants as form
 use Rattle.text_line.specs.Names.{register_name, sign_name}
-use Rattle.text_line.specs.Form.{TokenLayout, layout, operation_layout, value_layout, sign, word, reg, space, minus, constant, operand_layout, destination, address, IsSource, IsOperation, IsForm, to_label, names_label}
+use Rattle.text_line.specs.Form.{TokenLayout, layout, operation_layout, value_layout, sign, word, reg, space, minus, constant}
+use Rattle.text_line.specs.Form.{operand_layout, destination, address, IsSource, IsOperation, IsForm, to_label, names_label}
 use Rattle.text_line.specs.Ranges.{is_at_most, imm_fits, offset_fits, next_imm_fits, source_fits, target_fits, form_fits}
 use Rattle.text_line.specs.Token.{number}
 use Rattle.text_line.specs.Written.{source_of, written, printed_insn}

@@ -36,9 +36,13 @@ use Rattle.text_line.specs.declared.form.Form.{Form}
 use Rattle.text_line.specs.declared.form.Form.TheVariants as form
 use Rattle.text_line.specs.Token.{Token, name, number, symbol}
 use Rattle.text_line.specs.Names.{register_name, sign_name}
-use Rattle.text_line.specs.Form.{TokenLayout, layout, operation_layout, value_layout, sign, word, space, tokens_of, reg, minus, to_label, operand_layout, destination, address, IsForm, IsOperation, IsSource, names_label}
+use Rattle.text_line.specs.Form.{TokenLayout, layout, operation_layout, value_layout, sign, word, space, tokens_of, reg, minus}
+use Rattle.text_line.specs.Form.{to_label, operand_layout, destination, address, IsForm, IsOperation, IsSource, names_label}
 use Rattle.text_line.specs.Line.{Line, blank, label, code, spelled, IsWellFormed, NoLabel}
-use Rattle.text_line.specs.inside.Reading.{registers, after_symbol, after_word, leading_register, leading_constant, leading_signed_number, leading_operand, parsed_destination, leading_address, leading_wide_value, atomic_size_of, parsed_binary, parsed_sign_extension, parsed_in_place, parsed_unary, parsed_operation, parsed_load, parsed_store, parsed_atomic, parsed_wide_load, parsed_loaded, parsed_assigned, parsed_branch, parsed_form, parsed_label, line_of}
+use Rattle.text_line.specs.inside.Reading.{registers, after_symbol, after_word, leading_register, leading_constant, leading_signed_number}
+use Rattle.text_line.specs.inside.Reading.{leading_operand, parsed_destination, leading_address, leading_wide_value, atomic_size_of, parsed_binary}
+use Rattle.text_line.specs.inside.Reading.{parsed_sign_extension, parsed_in_place, parsed_unary, parsed_operation, parsed_load, parsed_store}
+use Rattle.text_line.specs.inside.Reading.{parsed_atomic, parsed_wide_load, parsed_loaded, parsed_assigned, parsed_branch, parsed_form, parsed_label, line_of}
 
 -- ---- names: a last line with `_` is checked in each case that is left
 

@@ -5,7 +5,8 @@ ghost use Rattle.text_line.specs.declared.form.JumpTarget.TheVariants as target;
 ghost use Rattle.text_line.specs.declared.form.Form.TheVariants as form;
 ghost use Rattle.insn_set.specs.Sizes.{is_short};
 ghost use Rattle.text_line.specs.Form.{IsForm, IsSource};
-ghost use Rattle.text_line.specs.Ranges.{imm_fits, offset_fits, next_imm_fits, source_fits, target_fits, form_fits, normal, normal_source, normal_form, placed, resolved};
+ghost use Rattle.text_line.specs.Ranges.{imm_fits, offset_fits, next_imm_fits, source_fits, target_fits};
+ghost use Rattle.text_line.specs.Ranges.{form_fits, normal, normal_source, normal_form, placed, resolved};
 ghost use Rattle.text_line.specs.Written.{number_of, source_of, written};
 
 use crate::form::{Access, Address, Form, JumpTarget, Number, Operation, SourceOperand, WideValue};

@@ -5,7 +5,9 @@
 ghost use Rattle.std.specs.Prelude.{◌≡◌, option_map};
 ghost use Rattle.text_line.specs.inside.Shown.{shown_tokens};
 ghost use Rattle.text_line.specs.Shown.{seen_line};
-ghost use Rattle.text_line.specs.inside.Reading.{parsed_binary, parsed_sign_extension, parsed_in_place, parsed_unary, parsed_operation, parsed_load, parsed_store, parsed_atomic, parsed_wide_load, parsed_assigned, parsed_branch, parsed_form, parsed_label, line_of, seen_destination};
+ghost use Rattle.text_line.specs.inside.Reading.{parsed_binary, parsed_sign_extension, parsed_in_place, parsed_unary};
+ghost use Rattle.text_line.specs.inside.Reading.{parsed_operation, parsed_load, parsed_store, parsed_atomic, parsed_wide_load};
+ghost use Rattle.text_line.specs.inside.Reading.{parsed_assigned, parsed_branch, parsed_form, parsed_label, line_of, seen_destination};
 
 use crate::form::{Access, Form, Line, Operation};
 use crate::names::{atomic_size, register_named};

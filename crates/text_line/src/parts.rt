@@ -3,7 +3,10 @@
 
 ghost use Rattle.std.specs.Prelude.{◌≡◌};
 ghost use Rattle.text_line.specs.inside.Shown.{shown_tokens};
-ghost use Rattle.text_line.specs.inside.Reading.{leading_symbol, leading_name, leading_number, after_symbol, after_word, leading_register, number_from, leading_constant, leading_signed_number, leading_operand, parsed_destination, leading_address, leading_wide_value, is_ended, at_end, seen, seen_pair, seen_label, seen_destination};
+ghost use Rattle.text_line.specs.inside.Reading.{leading_symbol, leading_name, leading_number, after_symbol, after_word};
+ghost use Rattle.text_line.specs.inside.Reading.{leading_register, number_from, leading_constant, leading_signed_number};
+ghost use Rattle.text_line.specs.inside.Reading.{leading_operand, parsed_destination, leading_address};
+ghost use Rattle.text_line.specs.inside.Reading.{leading_wide_value, is_ended, at_end, seen, seen_pair, seen_label, seen_destination};
 
 use crate::form::{Address, JumpTarget, Number, SourceOperand, WideValue};
 use crate::names::register_named;

@@ -1,12 +1,14 @@
 //! The tokens of a line.
 
-ghost use Rattle.std.specs.Prelude.{◌≡◌, ◌≤◌, ◌<◌, List, length, drop, map, nat_eq, find, option_map, IfSome, IfNone, IfOk, IsTrue, slice_index};
+ghost use Rattle.std.specs.Prelude.{◌≡◌, ◌≤◌, ◌<◌, List, length, drop, map, nat_eq, find};
+ghost use Rattle.std.specs.Prelude.{option_map, IfSome, IfNone, IfOk, IsTrue, slice_index};
 ghost use Rattle.std.specs.List.{prefix_len, starts_with};
 ghost use Rattle.std.specs.Option.{option_map_or};
 ghost use Rattle.std.specs.Str.{IsAscii};
 ghost use Rattle.std.specs.Str.Parse.{digits_value};
 ghost use Rattle.text_line.specs.Blanks.{skip_blanks};
-ghost use Rattle.text_line.specs.Token.{Token as AnyToken, number as Number, symbol as Symbol, value_of, is_name_start, is_hex_digit, is_over, IsTokens};
+ghost use Rattle.text_line.specs.Token.{Token as AnyToken, number as Number, symbol as Symbol};
+ghost use Rattle.text_line.specs.Token.{value_of, is_name_start, is_hex_digit, is_over, IsTokens};
 ghost use Rattle.text_line.specs.inside.Tokens.{symbol_at, name_at, number_at, token_at, run};
 ghost use Rattle.text_line.specs.inside.Shown.{shown, shown_front, shown_tokens};
 ghost use Rattle.text_line.specs.inside.Class.{in_class, IsDigits};

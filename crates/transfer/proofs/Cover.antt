@@ -1,5 +1,6 @@
 -- Each instruction is covered: its step exists, and the facts on the edge that it takes admit the next state.
-use Rattle.std.proofs.Common.{◌≡◌, ℕ, length, ◌+◌, ◌<◌, ◌≤ℤ◌, ℤ, pos, ◌+ℤ◌, Bool, true, false, Option, Some, None, Result, Ok, Err, if◌then◌else◌, refl, sym, ap, subst, ◌∙◌, arith}
+use Rattle.std.proofs.Common.{◌≡◌, ℕ, length, ◌+◌, ◌<◌, ◌≤ℤ◌, ℤ, pos, ◌+ℤ◌, Bool, true, false, Option}
+use Rattle.std.proofs.Common.{Some, None, Result, Ok, Err, if◌then◌else◌, refl, sym, ap, subst, ◌∙◌, arith}
 use Rattle.std.specs.Option.{IsSome, unwrap_or}
 use Rattle.std.proofs.lemmas.Int.{ints}
 use Rattle.words.specs.declared.operator.Operator.{Operator}
@@ -8,7 +9,8 @@ use Rattle.words.specs.declared.operator.AluOp.{AluOp}
 use Rattle.words.specs.declared.operator.Condition.{Condition}
 use Rattle.insn_set.specs.declared.insn.Operand.{Operand}
 use Rattle.insn_set.specs.declared.insn.Insn.{Insn}
-use Rattle.insn_set.specs.View.{View, Access, WideValue, binary, unary, jump, branch, access, wide_load, call, exit, loads, stores, changes, immediate, map_ref, value_ref, view, IsView}
+use Rattle.insn_set.specs.View.{View, Access, WideValue, binary, unary, jump, branch, access, wide_load, call}
+use Rattle.insn_set.specs.View.{exit, loads, stores, changes, immediate, map_ref, value_ref, view, IsView}
 use Rattle.insn_set.specs.ViewLaws.{profile_slots, view_is}
 use Rattle.insn_set.specs.Profile.{profile_of}
 use Rattle.insn_set.specs.Spelling.{slots, IsInsn}
@@ -40,7 +42,8 @@ use Rattle.tagged_model.specs.Step.{Step, goes, or_fault, operand_value, advance
 use Rattle.insn_set.specs.Flow.{natural, offset_by, jumps_to}
 use Rattle.transfer.specs.Arithmetic.{check_readable, arithmetic_kind, of_scalar}
 use Rattle.transfer.specs.Branches.{Edges, falls, branch_edges}
-use Rattle.transfer.specs.Effects.{source_kind, assigns, load_kind, store_facts, changed_facts, map_of, value_of, known, exits_with, access_edges, effect_of, effect}
+use Rattle.transfer.specs.Effects.{source_kind, assigns, load_kind, store_facts, changed_facts}
+use Rattle.transfer.specs.Effects.{map_of, value_of, known, exits_with, access_edges, effect_of, effect}
 use Rattle.transfer.specs.Calls.{call_facts}
 use Rattle.transfer.specs.Sound.{IsKindAt, IsSlotAt, jumps_in, TakenEdgeAdmits, CoversStep, CallIsAdmitted, CallsAreSound, TransferIsSound}
 use Rattle.transfer.proofs.Parts.{by_law, Here, Gives, IsKindOf, IsFound, IsKnown, OnFalling, IsCoveredIf, still_of, still_at, then_covered, ok_is}

@@ -1,5 +1,6 @@
 -- Calls: if the facts permit a call, the machine has a result, and the facts after the call admit its state.
-use Rattle.std.proofs.Common.{◌≡◌, ℕ, ◌+◌, ◌-◌, ◌%◌, ◌<◌, ◌≤◌, ◌^◌, ◌==◌, leb, ℤ, pos, ◌≤ℤ◌, Bool, true, false, ◌||◌, List, length, replicate, inl, inr, eq-eqb, drop, Option, Some, None, Result, Ok, Err, refl, sym, ap, subst, ◌∙◌, arith}
+use Rattle.std.proofs.Common.{◌≡◌, ℕ, ◌+◌, ◌-◌, ◌%◌, ◌<◌, ◌≤◌, ◌^◌, ◌==◌, leb, ℤ, pos, ◌≤ℤ◌, Bool, true, false, ◌||◌, List, length}
+use Rattle.std.proofs.Common.{replicate, inl, inr, eq-eqb, drop, Option, Some, None, Result, Ok, Err, refl, sym, ap, subst, ◌∙◌, arith}
 use Rattle.std.proofs.lemmas.Bool.{cond_both, cond-true, cond-false, and_parts, eqb-false, leb-true, ne_eqb}
 use Rattle.std.proofs.lemmas.Int.{ints}
 use Rattle.std.proofs.lemmas.Option.{cond_some}
@@ -29,14 +30,18 @@ use Rattle.tagged_model.specs.declared.value.Tagged.TheVariants.{Scalar, Map, Po
 use Rattle.tagged_model.specs.Table.{look_up, verdict, Verdict, Refused, Present, New, removal}
 use Rattle.tagged_model.specs.Cells.{and_then, cell_over}
 use Rattle.tagged_model.specs.State.{RunState, RunMap, with_map, with_cells, stack_bytes, stack_written, object_bytes, object_written, input, output}
-use Rattle.tagged_model.specs.Helpers.{GivenMap, map_given, number_given, length_given, context_given, argument, map_argument, looked_up, MapReply, put, updated, taken_out, removed, errno, packet_bytes, packet_answer, is_in_packet, negative, outside, returns, replies, called}
+use Rattle.tagged_model.specs.Helpers.{GivenMap, map_given, number_given, length_given, context_given, argument}
+use Rattle.tagged_model.specs.Helpers.{map_argument, looked_up, MapReply, put, updated, taken_out, removed, errno}
+use Rattle.tagged_model.specs.Helpers.{packet_bytes, packet_answer, is_in_packet, negative, outside, returns, replies, called}
 use Rattle.tagged_model.specs.StateInvariant.{AreBytes, IsMapOf, HasMaps}
 use Rattle.tagged_model.specs.Admits.{Witness, IsOfKind, IsLookup, HasKind, AdmitsBy, objects_of, AreBelow, witness_at}
-use Rattle.tagged_model.specs.Laws.{StackInputAdmits, StackOutputAdmits, ObjectReadAdmits, ObjectWriteAdmits, MapCallsKeep, KeepsShape, Describes, MapChangeAdmits, CallAdmits, SiteAdmits}
+use Rattle.tagged_model.specs.Laws.{StackInputAdmits, StackOutputAdmits, ObjectReadAdmits, ObjectWriteAdmits}
+use Rattle.tagged_model.specs.Laws.{MapCallsKeep, KeepsShape, Describes, MapChangeAdmits, CallAdmits, SiteAdmits}
 use Rattle.transfer.specs.Arithmetic.{check_readable}
 use Rattle.tagged_model.specs.Named.{Shapes}
 use Rattle.transfer.specs.declared.calls.ShapedMap.{ShapedMap}
-use Rattle.transfer.specs.Calls.{shaped, map_kind, room_of, input_kind, output_facts, number_kind, lengths_end, length_kind, context_kind, readable_two, readable_four, any_number, call_facts}
+use Rattle.transfer.specs.Calls.{shaped, map_kind, room_of, input_kind, output_facts, number_kind, lengths_end}
+use Rattle.transfer.specs.Calls.{length_kind, context_kind, readable_two, readable_four, any_number, call_facts}
 use Rattle.transfer.specs.Sound.{CallIsAdmitted, CallsAreSound}
 use Rattle.transfer.proofs.Rooms.{owned, room_here}
 use Rattle.transfer.proofs.Parts.{Agree, by_law, refused, same_ok, IsReadable}

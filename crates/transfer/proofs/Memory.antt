@@ -1,5 +1,6 @@
 -- Loads and stores: if the facts permit one, the machine has a result, and the facts after it admit its state.
-use Rattle.std.proofs.Common.{◌≡◌, ℕ, ◌*◌, ◌/◌, ◌%◌, ◌<◌, ◌^◌, ◌==◌, ℤ, pos, negsuc, ◌+ℤ◌, ◌≤ℤ◌, Bool, true, false, ◌&&◌, length, get_or, Option, Some, None, Result, Ok, Err, refl, sym, ap, subst, ◌∙◌, arith, inl, inr}
+use Rattle.std.proofs.Common.{◌≡◌, ℕ, ◌*◌, ◌/◌, ◌%◌, ◌<◌, ◌^◌, ◌==◌, ℤ, pos, negsuc, ◌+ℤ◌, ◌≤ℤ◌, Bool, true, false, ◌&&◌}
+use Rattle.std.proofs.Common.{length, get_or, Option, Some, None, Result, Ok, Err, refl, sym, ap, subst, ◌∙◌, arith, inl, inr}
 use Rattle.std.specs.Prelude.{◌≢◌, ◌⊎◌, if◌then◌else◌, nat_lt, slice_get, unsigned_abs}
 use Rattle.std.specs.Option.{option_map}
 use Rattle.std.specs.Ordering.{int_eq}
@@ -28,12 +29,14 @@ use Rattle.reg_kinds.specs.Reason.{and_then_ok}
 use Rattle.tagged_model.specs.declared.value.Tagged.{Tagged}
 use Rattle.tagged_model.specs.declared.value.Tagged.TheVariants.{Scalar}
 use Rattle.tagged_model.specs.Cells.{and_then, number_from, read_cell, write_cell}
-use Rattle.tagged_model.specs.State.{RunState, with_cell, is_multiple, access_start, stack_load, stack_store, word_at, context_load, object_bytes, object_stored, load, store}
+use Rattle.tagged_model.specs.State.{RunState, with_cell, is_multiple, access_start, stack_load}
+use Rattle.tagged_model.specs.State.{stack_store, word_at, context_load, object_bytes, object_stored, load, store}
 use Rattle.insn_set.specs.Atomic.{atomic_operator, is_wide_atomic, access_size}
 use Rattle.tagged_model.specs.Values.{of_numbers}
 use Rattle.tagged_model.specs.Step.{changed}
 use Rattle.tagged_model.specs.Laws.{StackReadAdmits, StackWriteAdmits, ValueLoadAdmits, ValueStoreAdmits}
-use Rattle.transfer.specs.Effects.{is_word, context_read, load_kind, stored_outside, store_facts, number_or, stack_changed, is_known_multiple, value_changed, changed_facts}
+use Rattle.transfer.specs.Effects.{is_word, context_read, load_kind, stored_outside, store_facts}
+use Rattle.transfer.specs.Effects.{number_or, stack_changed, is_known_multiple, value_changed, changed_facts}
 use Rattle.transfer.specs.Calls.{room_of, any_number}
 use Rattle.transfer.specs.Sound.{IsKindAt, AreWellFormedAt}
 use Rattle.transfer.proofs.Parts.{Here, SomeIs, Agree, Gives, by_law, ok_is, refused, IsKindOf, IsReadable, IsKnown, still_of}

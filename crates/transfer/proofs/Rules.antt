@@ -12,14 +12,17 @@ use Rattle.words.specs.declared.operator.AluOp.TheVariants as alu
 use Rattle.words.specs.declared.operator.Condition.{Condition}
 use Rattle.insn_set.specs.declared.insn.Operand.{Operand}
 use Rattle.insn_set.specs.declared.insn.Insn.{Insn}
-use Rattle.insn_set.specs.View.{View, Access, WideValue, binary, unary, jump, branch, access, wide_load, call, exit, loads, stores, changes, immediate, map_ref, value_ref, view}
+use Rattle.insn_set.specs.View.{View, Access, WideValue, binary, unary, jump, branch, access, wide_load}
+use Rattle.insn_set.specs.View.{call, exit, loads, stores, changes, immediate, map_ref, value_ref, view}
 use Rattle.reg_kinds.specs.declared.kind.Kind.{Kind}
 use Rattle.reg_kinds.specs.declared.kind.Kind.TheVariants as kind
 use Rattle.reg_kinds.specs.declared.kind.Slot.{Slot}
 use Rattle.reg_kinds.specs.declared.kind.Slot.TheVariants.{Bytes, Spill}
 use Rattle.reg_kinds.specs.declared.facts.Facts.{Facts}
 use Rattle.reg_kinds.specs.declared.reason.Reason.{Reason}
-use Rattle.reg_kinds.specs.declared.reason.Reason.TheVariants.{UnknownHelper, DescriptorNotMap, NoDirectValue, PointerArithmetic, MaybeNull, ContextAccess, PointerComparison, OutsideStack, UnwrittenStack, PartOfSpill, OutsideValue, PointerStored, LengthUnbounded, UnalignedAtomic, Memory}
+use Rattle.reg_kinds.specs.declared.reason.Reason.TheVariants.{UnknownHelper, DescriptorNotMap, NoDirectValue, PointerArithmetic, MaybeNull}
+use Rattle.reg_kinds.specs.declared.reason.Reason.TheVariants.{ContextAccess, PointerComparison, OutsideStack, UnwrittenStack, PartOfSpill}
+use Rattle.reg_kinds.specs.declared.reason.Reason.TheVariants.{OutsideValue, PointerStored, LengthUnbounded, UnalignedAtomic, Memory}
 use Rattle.reg_kinds.specs.Reason.{and_then_ok}
 use Rattle.reg_kinds.specs.Pointers.{value_span}
 use Rattle.reg_kinds.specs.Kinds.{is_pointer, kind_at, slot_at}
@@ -30,11 +33,14 @@ use Rattle.tagged_model.specs.Values.{is_null_test}
 use Rattle.tagged_model.specs.Cells.{and_then}
 use Rattle.transfer.specs.declared.arithmetic.Direction.{Direction}
 use Rattle.transfer.specs.declared.arithmetic.Direction.TheVariants.{Forwards, Backwards}
-use Rattle.transfer.specs.Arithmetic.{check_readable, near, stack_moved, value_by, distance, moved_offset, pointer_moved, is_maybe, of_scalars, of_scalar, sum_kind, difference_kind, unless_maybe, arithmetic_kind}
+use Rattle.transfer.specs.Arithmetic.{check_readable, near, stack_moved, value_by, distance, moved_offset, pointer_moved}
+use Rattle.transfer.specs.Arithmetic.{is_maybe, of_scalars, of_scalar, sum_kind, difference_kind, unless_maybe, arithmetic_kind}
 use Rattle.transfer.specs.Branches.{Edges, falls, pointer_edges, branch_edges}
-use Rattle.transfer.specs.Effects.{source_kind, first_kind, assigns, is_word, context_read, load_kind, store_facts, number_or, is_known_multiple, changed_facts, map_of, value_of, known, exits_with, access_edges, wide_kind, effect_of, effect}
+use Rattle.transfer.specs.Effects.{source_kind, first_kind, assigns, is_word, context_read, load_kind, store_facts, number_or}
+use Rattle.transfer.specs.Effects.{is_known_multiple, changed_facts, map_of, value_of, known, exits_with, access_edges, wide_kind, effect_of, effect}
 use Rattle.transfer.specs.Reasons.{IsSafetyReason, IsReasonFor, IsReasonOf, TransferReasons}
-use Rattle.transfer.specs.Calls.{shaped, map_kind, room_of, input_kind, output_facts, number_kind, lengths_end, length_kind, context_kind, readable_two, readable_four, any_number, call_facts}
+use Rattle.transfer.specs.Calls.{shaped, map_kind, room_of, input_kind, output_facts, number_kind, lengths_end}
+use Rattle.transfer.specs.Calls.{length_kind, context_kind, readable_two, readable_four, any_number, call_facts}
 use Rattle.words.specs.Stack.{bytes_of, is_double, is_in_stack, byte_index, is_aligned, touches}
 use Rattle.reg_kinds.specs.declared.kind.ValuePointer.{ValuePointer}
 use Rattle.reg_kinds.specs.Many.{bits_in, any_below, is_touched_spill, lacks, stack_input, filled}

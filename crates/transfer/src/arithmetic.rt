@@ -4,7 +4,8 @@ ghost use Rattle.std.specs.Prelude.{◌≡◌, ◌≤ℤ◌, ◌+ℤ◌, ◌-ℤ
 ghost use Rattle.transfer.specs.declared.arithmetic.Direction.TheVariants.{Forwards, Backwards};
 ghost use Rattle.interval.specs.Table.{range_of};
 ghost use Rattle.words.specs.Widths.{width};
-ghost use Rattle.transfer.specs.Arithmetic.{check_readable, distance, moved_offset, stack_moved, value_by, value_moved, pointer_moved, is_maybe, of_scalars, sum_kind, difference_kind, arithmetic_kind, of_scalar};
+ghost use Rattle.transfer.specs.Arithmetic.{check_readable, distance, moved_offset, stack_moved, value_by, value_moved};
+ghost use Rattle.transfer.specs.Arithmetic.{pointer_moved, is_maybe, of_scalars, sum_kind, difference_kind, arithmetic_kind, of_scalar};
 
 use interval::{Range, alu32, alu64};
 use reg_kinds::{Kind, Reason, ValuePointer};

@@ -3,7 +3,8 @@
 ghost use Rattle.std.specs.Prelude.{◌≡◌, ◌<◌, ◌+ℤ◌, pos, int_le, ◌&&◌, if◌then◌else◌, IfOk, IfErr, OnErr, OnOk, Ok, Err};
 ghost use Rattle.tagged_model.specs.Named.{shapes_named};
 ghost use Rattle.reg_kinds.specs.declared.reason.Reason.TheVariants.{OutsideValue};
-ghost use Rattle.transfer.specs.Calls.{map_kind, room_of, input_kind, output_facts, number_kind, lengths_end, length_kind, context_kind, any_number, call_facts};
+ghost use Rattle.transfer.specs.Calls.{map_kind, room_of, input_kind, output_facts, number_kind};
+ghost use Rattle.transfer.specs.Calls.{lengths_end, length_kind, context_kind, any_number, call_facts};
 
 use crate::arithmetic::check_readable;
 use insn_set::Reg;

@@ -1,6 +1,7 @@
 //! The transfer function.
 
-ghost use Rattle.std.specs.Prelude.{◌≡◌, ◌<◌, ℕ, pos, IfSome, Some, None, if◌then◌else◌, ◌+ℤ◌, ◌%◌, ◌==◌, unsigned_abs, false, IfOk, IfErr, OnErr, OnOk, Ok, Err};
+ghost use Rattle.std.specs.Prelude.{◌≡◌, ◌<◌, ℕ, pos, IfSome, Some, None, if◌then◌else◌, ◌+ℤ◌, ◌%◌};
+ghost use Rattle.std.specs.Prelude.{◌==◌, unsigned_abs, false, IfOk, IfErr, OnErr, OnOk, Ok, Err};
 ghost use Rattle.words.specs.Words.{unsigned};
 ghost use Rattle.words.specs.Stack.{bytes_of, is_in_stack};
 ghost use Rattle.words.specs.Widths.{width};
@@ -8,7 +9,9 @@ ghost use Rattle.insn_set.specs.Atomic.{access_size};
 ghost use Rattle.tagged_model.specs.Shape.{longest_value};
 ghost use Rattle.transfer.specs.Arithmetic.{of_scalar};
 ghost use Rattle.transfer.specs.Branches.{ends, falls};
-ghost use Rattle.transfer.specs.Effects.{source_kind, first_kind, context_read, load_kind, store_facts, number_or, stack_changed, is_known_multiple, changed_facts, map_of, value_of, exit_edges, operator_edges, unary_edges, effect};
+ghost use Rattle.transfer.specs.Effects.{source_kind, first_kind, context_read, load_kind, store_facts};
+ghost use Rattle.transfer.specs.Effects.{number_or, stack_changed, is_known_multiple, changed_facts};
+ghost use Rattle.transfer.specs.Effects.{map_of, value_of, exit_edges, operator_edges, unary_edges, effect};
 ghost use Rattle.reg_kinds.specs.declared.reason.Reason.TheVariants.{OutsideStack, PointerStored};
 ghost use Rattle.tagged_model.specs.Named.{shapes_named};
 ghost use Rattle.transfer.specs.Flows.{edges_of, KeepsStack};

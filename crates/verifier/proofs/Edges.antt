@@ -13,7 +13,8 @@ use Rattle.insn_set.specs.Atomic.{access_size}
 use Rattle.transfer.specs.Branches.{Edges}
 use Rattle.transfer.specs.Branches.{falls as falls_on}
 use Rattle.transfer.specs.Arithmetic.{check_readable, arithmetic_kind, of_scalar}
-use Rattle.transfer.specs.Effects.{source_kind, first_kind, assigns, load_kind, store_facts, changed_facts, access_edges, wide_kind, known, exits_with, effect_of, effect}
+use Rattle.transfer.specs.Effects.{source_kind, first_kind, assigns, load_kind, store_facts}
+use Rattle.transfer.specs.Effects.{changed_facts, access_edges, wide_kind, known, exits_with, effect_of, effect}
 use Rattle.transfer.specs.Calls.{call_facts}
 use Rattle.tagged_model.specs.Named.{Shapes}
 use Rattle.tagged_model.specs.Helpers.{helper_of}

@@ -1,5 +1,6 @@
 -- Entries of boxed facts, as a list of facts.
-use Rattle.std.proofs.Common.{◌≡◌, ℕ, zero, suc, ◌<◌, ◌≤◌, List, [], ◌∷◌, ◌++◌, length, get_or, set, get_or-set_same, get_or-set_other, arith, false, Option, Some, None, refl, sym, ap, ◌∙◌, subst, Box, Global}
+use Rattle.std.proofs.Common.{◌≡◌, ℕ, zero, suc, ◌<◌, ◌≤◌, List, [], ◌∷◌, ◌++◌, length, get_or, set, get_or-set_same}
+use Rattle.std.proofs.Common.{get_or-set_other, arith, false, Option, Some, None, refl, sym, ap, ◌∙◌, subst, Box, Global}
 use Rattle.std.specs.Prelude.{map, option_map, box_value}
 use Rattle.std.specs.Option.{is_some}
 use Rattle.std.proofs.lemmas.Bool.{false≢true}

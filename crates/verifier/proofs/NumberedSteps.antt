@@ -1,5 +1,6 @@
 -- A step of the pass on facts whose stacks have numbers is the step of the definition.
-use Rattle.std.proofs.Common.{◌≡◌, ℕ, zero, suc, ◌+◌, ◌*◌, ◌<◌, ◌≤◌, Bool, true, false, not, List, [], ◌∷◌, length, get_or, Option, Some, None, refl, sym, ap, subst, ◌∙◌, inl, inr, arith, set, set-set, length-set, get_or-set_same, get_or-set_other}
+use Rattle.std.proofs.Common.{◌≡◌, ℕ, zero, suc, ◌+◌, ◌*◌, ◌<◌, ◌≤◌, Bool, true, false, not, List, [], ◌∷◌, length, get_or, Option, Some}
+use Rattle.std.proofs.Common.{None, refl, sym, ap, subst, ◌∙◌, inl, inr, arith, set, set-set, length-set, get_or-set_same, get_or-set_other}
 use Rattle.std.proofs.lemmas.List.{set_comm, get_or_past}
 use Rattle.std.specs.Option.{option_map}
 use Rattle.std.proofs.lemmas.Bool.{cases_eq, eq-eqb, ne_eqb}
@@ -27,8 +28,11 @@ use Rattle.verifier.specs.Shape.{is_slot}
 use Rattle.verifier.specs.declared.numbered_facts.NumberedFacts.{NumberedFacts}
 use Rattle.verifier.specs.inside.Arriving.{Brings, brought_to}
 use Rattle.verifier.specs.inside.Edges.{falling_of, jumping_of, falling_from, jumping_from}
-use Rattle.verifier.specs.inside.Numbers.{facts_on, entry_of, number_of, included_in, part_renumbered, IsInStack, IsNumberedSlot, IsJoinedBy, IsJoinedIf, IsTaken, IsSentIf, with_ranges, on_falling_edge, on_jumping_edge, noted, IsPast, IsPastIf, IsNumbered, IsNumberedIf, AreNumbered}
-use Rattle.verifier.proofs.Numbers.{joined_none, on_none, raised_if, with_held, slot_more, slot_same, slot_fresh, Stacks, with_stack, stack_on, numbered_more, numbered_more_if, numbered_same, numbered_fresh, right_join}
+use Rattle.verifier.specs.inside.Numbers.{facts_on, entry_of, number_of, included_in, part_renumbered, IsInStack}
+use Rattle.verifier.specs.inside.Numbers.{IsNumberedSlot, IsJoinedBy, IsJoinedIf, IsTaken, IsSentIf, with_ranges}
+use Rattle.verifier.specs.inside.Numbers.{on_falling_edge, on_jumping_edge, noted, IsPast, IsPastIf, IsNumbered, IsNumberedIf, AreNumbered}
+use Rattle.verifier.proofs.Numbers.{joined_none, on_none, raised_if, with_held, slot_more, slot_same, slot_fresh, Stacks}
+use Rattle.verifier.proofs.Numbers.{with_stack, stack_on, numbered_more, numbered_more_if, numbered_same, numbered_fresh, right_join}
 
 -- ---- the facts on the edges
 

@@ -1,5 +1,6 @@
 -- Joins of facts whose parts of the stack have numbers are the joins of the definition, if each number means one part.
-use Rattle.std.proofs.Common.{◌≡◌, ◌⊎◌, ℕ, ◌<◌, ◌≤◌, ◌==◌, if◌then◌else◌, Bool, true, false, List, length, get_or, Option, Some, None, refl, sym, ap, subst, ◌∙◌, ⊎_elim, inl, inr, arith}
+use Rattle.std.proofs.Common.{◌≡◌, ◌⊎◌, ℕ, ◌<◌, ◌≤◌, ◌==◌, if◌then◌else◌, Bool, true, false, List, length}
+use Rattle.std.proofs.Common.{get_or, Option, Some, None, refl, sym, ap, subst, ◌∙◌, ⊎_elim, inl, inr, arith}
 use Rattle.std.proofs.lemmas.Bool.{cond-true, cond-false, eq-eqb, ne_eqb}
 use Rattle.std.proofs.lemmas.List.{length-replicate, get_or-replicate}
 use Rattle.std.proofs.lemmas.List.FromFn.{fill_by_all}
@@ -13,7 +14,8 @@ use Rattle.reg_kinds.specs.Kinds.{entry, slot_at, tabulate}
 use Rattle.reg_kinds.specs.Laws.{SlotsAbsorb}
 use Rattle.verifier.specs.Before.{joined, only_if}
 use Rattle.verifier.specs.declared.numbered_facts.NumberedFacts.{NumberedFacts}
-use Rattle.verifier.specs.inside.Numbers.{facts_on, entry_of, number_of, included_in, numbered_by, at_entry, IsJoinedSlot, IsJoin, IsJoinedBy, IsNumberedSlot, IsNumbered, IsNumberedIf, AreNumbered}
+use Rattle.verifier.specs.inside.Numbers.{facts_on, entry_of, number_of, included_in, numbered_by, at_entry}
+use Rattle.verifier.specs.inside.Numbers.{IsJoinedSlot, IsJoin, IsJoinedBy, IsNumberedSlot, IsNumbered, IsNumberedIf, AreNumbered}
 
 -- facts joined with those of an edge that has none are not changed
 pub joined_none : (a : Option Facts) → joined a None ≡ a

@@ -12,7 +12,8 @@ use Rattle.insn_set.specs.Profile.{profile}
 use Rattle.insn_set.specs.Flow.{falls_to, jumps_to, falls, jumps, written_register, descriptor_by, descriptor}
 use Rattle.insn_set.specs.Program.{IsProgram, program_bytes, begins_at, slot_count}
 use Rattle.reg_kinds.specs.declared.reason.Reason.{Reason}
-use Rattle.reg_kinds.specs.declared.reason.Reason.TheVariants.{JumpOutside, JumpBackward, FallsOff, Unreachable, UnknownHelper, FramePointerWritten, DescriptorNotOpen, DescriptorNotMap, NoDirectValue}
+use Rattle.reg_kinds.specs.declared.reason.Reason.TheVariants.{JumpOutside, JumpBackward, FallsOff, Unreachable, UnknownHelper}
+use Rattle.reg_kinds.specs.declared.reason.Reason.TheVariants.{FramePointerWritten, DescriptorNotOpen, DescriptorNotMap, NoDirectValue}
 use Rattle.tagged_model.specs.declared.shape.MapShape.{MapShape}
 use Rattle.tagged_model.specs.declared.shape.Named.{Named}
 use Rattle.tagged_model.specs.declared.shape.Target.{Target}
@@ -22,7 +23,8 @@ use Rattle.tagged_model.specs.Named.{Shapes, target_of, shape_in, shapes_named}
 use Rattle.verifier.specs.Fits.{Fits, SameShapesAreAccepted}
 use Rattle.verifier.specs.Judgement.{Judges}
 use Rattle.verifier.specs.Maps.{maps_of, is_among, entries_of, shapes_of}
-use Rattle.verifier.specs.Shape.{leads_outside, leads_backward, is_reachable, is_slot, calls_unknown, is_map, is_not_open, is_not_map, is_no_value, lacks_value, first_reason, shape_reason, shape_of, structure_fault}
+use Rattle.verifier.specs.Shape.{leads_outside, leads_backward, is_reachable, is_slot, calls_unknown, is_map, is_not_open}
+use Rattle.verifier.specs.Shape.{is_not_map, is_no_value, lacks_value, first_reason, shape_reason, shape_of, structure_fault}
 use Rattle.verifier.specs.Verdict.{safety_fault, HasNoFault, IsAccepted}
 use Rattle.verifier.specs.Verified.{Accepted, IsVerified, shapes_in}
 use Rattle.verifier.proofs.Listed.{index_of, shape_kept}

@@ -3,7 +3,8 @@ use Rattle.std.proofs.Common.{◌≡◌, ℕ, ℤ, pos, ◌+ℤ◌, zero, suc, �
 use Rattle.std.specs.Option.{IsSome}
 use Rattle.std.proofs.lemmas.Bool.{false≢true}
 use Rattle.insn_set.specs.declared.insn.Insn.{Insn}
-use Rattle.insn_set.specs.View.{View, Access, WideValue, binary, unary, jump, branch, access, wide_load, call, exit, loads, stores, changes, immediate, map_ref, value_ref, view}
+use Rattle.insn_set.specs.View.{View, Access, WideValue, binary, unary, jump, branch, access, wide_load}
+use Rattle.insn_set.specs.View.{call, exit, loads, stores, changes, immediate, map_ref, value_ref, view}
 use Rattle.insn_set.specs.Profile.{profile_of}
 use Rattle.insn_set.specs.Program.{IsProgram, slot_count, begins_at}
 use Rattle.insn_set.specs.Flow.{falls_by, jumps_by, natural}
@@ -16,7 +17,8 @@ use Rattle.tagged_model.specs.State.{RunState, load, store}
 use Rattle.tagged_model.specs.Values.{arithmetic, first_operand, of_number, compared}
 use Rattle.tagged_model.specs.Table.{direct_object}
 use Rattle.tagged_model.specs.Helpers.{called, helper_of}
-use Rattle.tagged_model.specs.Step.{Step, goes, ends, faults, or_fault, operand_value, changed, jumped, branched, ended, accessed, loaded_wide, act_of, act, Ending, ending_after, run, start_of_run}
+use Rattle.tagged_model.specs.Step.{Step, goes, ends, faults, or_fault, operand_value, changed, jumped, branched}
+use Rattle.tagged_model.specs.Step.{ended, accessed, loaded_wide, act_of, act, Ending, ending_after, run, start_of_run}
 use Rattle.verifier.specs.declared.cost.Cost.{Cost}
 use Rattle.verifier.specs.Cost.{is_exit, IsPath, IsCostOf}
 use Rattle.verifier.specs.Maps.{shapes_of}

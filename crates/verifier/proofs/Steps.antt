@@ -18,7 +18,8 @@ use Rattle.tagged_model.specs.Admits.{Witness}
 use Rattle.tagged_model.specs.Laws.{JoinAdmits}
 use Rattle.transfer.specs.Branches.{Edges}
 use Rattle.transfer.specs.Effects.{effect}
-use Rattle.transfer.specs.Sound.{AreWellFormedAt, AreWellFormedOn, TransferKeepsWellFormed, EdgeAdmits, takes_jump, TakenEdgeAdmits, CoversStep, TransferIsSound}
+use Rattle.transfer.specs.Sound.{AreWellFormedAt, AreWellFormedOn, TransferKeepsWellFormed}
+use Rattle.transfer.specs.Sound.{EdgeAdmits, takes_jump, TakenEdgeAdmits, CoversStep, TransferIsSound}
 use Rattle.insn_set.specs.Flow.{falls_to, jumps_to}
 use Rattle.insn_set.specs.BeginLaws.{some_slots, begun_is_insn}
 use Rattle.verifier.specs.Maps.{shapes_of}

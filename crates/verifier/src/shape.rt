@@ -1,12 +1,15 @@
 //! The shape of a program.
 
 ghost use Rattle.std.specs.Prelude.{◌≡◌, ◌⊎◌, ◌≤◌, ◌&&◌, nat_le, not, [], ◌∷◌, length, None, Some, IsTrue, IfErr, IfOk, OnOk};
-ghost use Rattle.reg_kinds.specs.declared.reason.Reason.TheVariants.{JumpOutside, JumpBackward, FallsOff, Unreachable, FramePointerWritten, DescriptorNotOpen, DescriptorNotMap, NoDirectValue};
+ghost use Rattle.reg_kinds.specs.declared.reason.Reason.TheVariants.{JumpOutside, JumpBackward, FallsOff, Unreachable};
+ghost use Rattle.reg_kinds.specs.declared.reason.Reason.TheVariants.{FramePointerWritten, DescriptorNotOpen, DescriptorNotMap};
+ghost use Rattle.reg_kinds.specs.declared.reason.Reason.TheVariants.{NoDirectValue};
 ghost use Rattle.insn_set.specs.Profile.{profile};
 ghost use Rattle.insn_set.specs.Program.{slot_count};
 ghost use Rattle.insn_set.specs.Flow.{falls_to, jumps_to, falls, jumps, descriptor, descriptor_by};
 ghost use Rattle.verifier.specs.Cost.{IsCostOf};
-ghost use Rattle.verifier.specs.Shape.{is_reachable, is_slot, is_unknown_helper, is_not_open, is_not_map, is_no_value, leads_outside, leads_backward, first_reason, shape_reason, structure_fault};
+ghost use Rattle.verifier.specs.Shape.{is_reachable, is_slot, is_unknown_helper, is_not_open, is_not_map, is_no_value};
+ghost use Rattle.verifier.specs.Shape.{leads_outside, leads_backward, first_reason, shape_reason, structure_fault};
 ghost use Rattle.verifier.specs.inside.Jumps.{JumpsLand};
 ghost use Rattle.verifier.specs.inside.Longest.{AreFew, IsAdded, IsSimple, LeadTo};
 ghost use Rattle.verifier.specs.Verdict.{IsFirstFault, HasNoFault, memory_fault};

@@ -1,5 +1,6 @@
 -- Signed numbers: the equations of `Words` agree with std.
-use Rattle.std.proofs.Common.{◌≡◌, ℕ, ◌^◌, ◌<◌, ◌≢◌, ◌==◌, false, ℤ, pos, negsuc, ◌+ℤ◌, ◌-ℤ◌, ◌*ℤ◌, FitsSigned, int_div, int_rem, ap, ap₂, ◌∙◌, arith, rules, w32, w64}
+use Rattle.std.proofs.Common.{◌≡◌, ℕ, ◌^◌, ◌<◌, ◌≢◌, ◌==◌, false, ℤ, pos, negsuc, ◌+ℤ◌, ◌-ℤ◌, ◌*ℤ◌}
+use Rattle.std.proofs.Common.{FitsSigned, int_div, int_rem, ap, ap₂, ◌∙◌, arith, rules, w32, w64}
 use Rattle.std.proofs.Math.IntN.{*ℤ_comm}
 use Rattle.std.proofs.lemmas.Int.{ints, quot-rem, to_z-of_z}
 use Rattle.std.specs.Int.{cast_signed, cast_unsigned}

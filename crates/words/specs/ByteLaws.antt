@@ -1,11 +1,14 @@
 -- Laws of bytes that are written into a list and read from it, and of the bytes of a number, of the
 -- definitions of `Bytes`, proved here for the proofs of the crates above. This project's own. No
 -- contract cites them, so they are not part of what has to be trusted.
-use Rattle.std.proofs.Common.{◌≡◌, ◌⊎◌, inl, inr, ℕ, zero, suc, ◌+◌, ◌-◌, ◌*◌, ◌/◌, ◌%◌, ◌<◌, ◌≤◌, ◌^◌, List, [], ◌∷◌, ◌++◌, length, get_or, take, drop, slice_range, refl, sym, ap, ◌∙◌, ⊎_elim, arith}
+use Rattle.std.proofs.Common.{◌≡◌, ◌⊎◌, inl, inr, ℕ, zero, suc, ◌+◌, ◌-◌, ◌*◌, ◌/◌, ◌%◌, ◌<◌, ◌≤◌, ◌^◌, List, []}
+use Rattle.std.proofs.Common.{◌∷◌, ◌++◌, length, get_or, take, drop, slice_range, refl, sym, ap, ◌∙◌, ⊎_elim, arith}
 use Rattle.std.proofs.Math.Nat.{pow-suc}
 use Rattle.std.proofs.Math.Seq.{take-take, drop-append-add, take-append_seam, drop-append_seam}
 use Rattle.std.proofs.lemmas.Bool.{cases_lt}
-use Rattle.std.proofs.lemmas.List.{length-take, length-take-le, length-drop, length-append, get_or_append_left, get_or-append-add, get_or-append_right, get_or-take, get_or-drop, ext_get_or, take-append-drop, drop-drop, drop-take, take-append-le, drop-append-le}
+use Rattle.std.proofs.lemmas.List.{length-take, length-take-le, length-drop, length-append, get_or_append_left, get_or-append-add}
+use Rattle.std.proofs.lemmas.List.{get_or-append_right, get_or-take, get_or-drop, ext_get_or, take-append-drop, drop-drop, drop-take, take-append-le}
+use Rattle.std.proofs.lemmas.List.{drop-append-le}
 use Rattle.words.specs.Bytes.{number_of, low_bytes, bytes_at, written_at}
 
 -- ---- bytes of a list

@@ -2,7 +2,8 @@
 
 ghost use Rattle.std.specs.Prelude.{◌≡◌, bit_and, bit_or, bit_xor, ◌==◌, not, nat_lt, nat_le, int_lt, int_le};
 ghost use Rattle.words.specs.declared.operator.Operator.TheVariants.{Binary};
-ghost use Rattle.words.specs.Words.{add, subtract, multiply, negate, divide, remainder, signed_divide, signed_remainder, shift_left, shift_right, signed_shift_right, sign_extend, signed};
+ghost use Rattle.words.specs.Words.{add, subtract, multiply, negate, divide, remainder, signed_divide};
+ghost use Rattle.words.specs.Words.{signed_remainder, shift_left, shift_right, signed_shift_right, sign_extend, signed};
 ghost use Rattle.words.specs.Operate.{extended_bits, byte_order, operate};
 ghost use Rattle.words.specs.Compare.{compares};
 

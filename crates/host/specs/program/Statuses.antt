@@ -10,7 +10,8 @@ use Rattle.host_core.specs.declared.server.ServeFault.{ServeFault}
 use Rattle.host_core.specs.declared.server.ServeFaultKind.{ServeFaultKind}
 use Rattle.host_core.specs.declared.server.ServeFaultKind.TheVariants as fault
 use Rattle.host.specs.declared.program.failure.Failure.{Failure}
-use Rattle.host.specs.declared.program.failure.Failure.TheVariants.{WrongArguments, MapArgument, Truncated, TooManyFrames, TooLong, Line, Slot, Read, Write, Seed, Memory}
+use Rattle.host.specs.declared.program.failure.Failure.TheVariants.{WrongArguments, MapArgument, Truncated}
+use Rattle.host.specs.declared.program.failure.Failure.TheVariants.{TooManyFrames, TooLong, Line, Slot, Read, Write, Seed, Memory}
 
 -- The exit status: 1 if the input is rejected, 2 if arguments are wrong, 3 if input or output
 -- failed or maps have no seed, 4 if out of memory.

@@ -11,7 +11,8 @@ ghost use Rattle.host.specs.inside.program.MapFields.{IsWrongMapArgument};
 ghost use Rattle.host.specs.program.Judging.{AcceptsIfKnown};
 ghost use Rattle.host_core.specs.Limits.{most_tenants};
 ghost use Rattle.host.specs.inside.program.Outcomes.{Fails, FailsOnly};
-ghost use Rattle.host.specs.program.Arguments.{asked_of, asked_with, chosen_subcommand, refusal_kinds, serve_command, tenant_number, tenants_value, verify_command, AcceptsAsked, AreWrongArguments, HasWrongMapArgument};
+ghost use Rattle.host.specs.program.Arguments.{asked_of, asked_with, chosen_subcommand, refusal_kinds, serve_command, tenant_number};
+ghost use Rattle.host.specs.program.Arguments.{tenants_value, verify_command, AcceptsAsked, AreWrongArguments, HasWrongMapArgument};
 ghost use Rattle.host.specs.inside.program.Asked.{asked_by, texts_given, HasTenants};
 
 use crate::program::decimal::decimal;

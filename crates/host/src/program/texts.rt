@@ -5,7 +5,9 @@ ghost use Rattle.std.specs.Prelude.{◌≡◌, ◌<◌, ◌-◌, ◌^◌, List, 
 ghost use Rattle.std.specs.String.{string_bytes};
 ghost use Rattle.host.specs.inside.program.Outcomes.{Fails, FailsOnly, Gives};
 ghost use Rattle.host.specs.program.Texts.{IsProgramText, IsSlotText};
-ghost use Rattle.host.specs.inside.program.Rewriting.{streams, WritesWholeOutput, IsAssembly, IsDisassembly, IsNoProgramText, IsNoText, IsUnreadable, ReadsWholeInput, IsInputRefused, IsRewritten, HasNoInput, StopsRewriting};
+ghost use Rattle.host.specs.inside.program.Rewriting.{streams, WritesWholeOutput, IsAssembly, IsDisassembly};
+ghost use Rattle.host.specs.inside.program.Rewriting.{IsNoProgramText, IsNoText, IsUnreadable, ReadsWholeInput};
+ghost use Rattle.host.specs.inside.program.Rewriting.{IsInputRefused, IsRewritten, HasNoInput, StopsRewriting};
 ghost use Rattle.host.specs.declared.program.failure.Failure.{Failure as AnyFailure};
 ghost use Rattle.insn_set.specs.declared.insn.Insn.{Insn as AnyInsn};
 

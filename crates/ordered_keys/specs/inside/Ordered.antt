@@ -1,5 +1,6 @@
 -- A table of keys in any order, and the order of their elements. This project's own.
-use Rattle.std.specs.Prelude.{◌≡◌, ℕ, ◌+◌, ◌*◌, ◌<◌, ◌≤◌, ◌^◌, Bool, true, false, nat_eq, List, [], ◌∷◌, ◌++◌, length, Option, Some, None, option_map, slice_get, slice_index_or, option_to_list}
+use Rattle.std.specs.Prelude.{◌≡◌, ℕ, ◌+◌, ◌*◌, ◌<◌, ◌≤◌, ◌^◌, Bool, true, false, nat_eq, List, [], ◌∷◌, ◌++◌}
+use Rattle.std.specs.Prelude.{length, Option, Some, None, option_map, slice_get, slice_index_or, option_to_list}
 use Rattle.indexmap.specs.IndexMap.{IndexMap, index_map_len, spare}
 use Rattle.ordered_keys.specs.Orders.{Order, occurrences, first_element, following}
 use Rattle.ordered_keys.specs.inside.Links.{AreWithin}

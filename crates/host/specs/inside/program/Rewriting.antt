@@ -10,7 +10,8 @@ use Rattle.insn_set.specs.declared.insn.Insn.{Insn}
 use Rattle.host.specs.program.Statuses.{text_failure}
 use Rattle.host.specs.declared.program.texts.TheConstants.{LONGEST_INPUT}
 use Rattle.host.specs.declared.program.failure.Failure.{Failure}
-use Rattle.host.specs.declared.program.failure.Failure.TheVariants.{WrongArguments, MapArgument, Truncated, TooManyFrames, TooLong, Line, Slot, Read, Write, Seed, Memory}
+use Rattle.host.specs.declared.program.failure.Failure.TheVariants.{WrongArguments, MapArgument, Truncated}
+use Rattle.host.specs.declared.program.failure.Failure.TheVariants.{TooManyFrames, TooLong, Line, Slot, Read, Write, Seed, Memory}
 use Rattle.host.specs.declared.program.texts.TextTask.{TextTask}
 use Rattle.host.specs.declared.program.texts.TextTask.TheVariants.{Assemble, Disassemble}
 use Rattle.host.specs.program.Texts.{IsProgramText, IsProgramRefused}

@@ -1,6 +1,7 @@
 use Rattle.std.proofs.Common.{◌≡◌, refl, subst, arith}
 use Rattle.host_core.specs.inside.Frame.{ServesFrameOrEnds}
-use Rattle.host_core.proofs.Serving.{answered_none, ends_served, ends_stopped, ends_unread, frame_done, end_done, end_stays_flushed, frame_stays_flushed, frame_is_no_limit, frame_more, frame_stops, end_more, end_fails}
+use Rattle.host_core.proofs.Serving.{answered_none, ends_served, ends_stopped, ends_unread, frame_done, end_done}
+use Rattle.host_core.proofs.Serving.{end_stays_flushed, frame_stays_flushed, frame_is_no_limit, frame_more, frame_stops, end_more, end_fails}
 use Rattle.host_core.proofs.server.serve.Goals as goal
 
 pub loop-frames-init : goal.loop-frames-init

@@ -1,4 +1,5 @@
-use Rattle.std.proofs.Common.{◌≡◌, ℕ, ◌+◌, ◌<◌, ◌≤◌, ◌==◌, ◌||◌, nat_lt, length, get_or, replicate, List, Some, None, refl, sym, subst, ap, ◌∙◌, inl, inr, arith, rules}
+use Rattle.std.proofs.Common.{◌≡◌, ℕ, ◌+◌, ◌<◌, ◌≤◌, ◌==◌, ◌||◌, nat_lt, length, get_or, replicate}
+use Rattle.std.proofs.Common.{List, Some, None, refl, sym, subst, ap, ◌∙◌, inl, inr, arith, rules}
 use Rattle.std.proofs.lemmas.List.{length-replicate, get_or-replicate}
 use Rattle.std.proofs.lemmas.Bool.{cases_lt, cases_eq}
 use Rattle.insn_set.specs.declared.insn.Insn.{Insn}
@@ -10,7 +11,8 @@ use Rattle.verifier.specs.declared.cost.Counts.{Counts}
 use Rattle.verifier.specs.Cost.{IsMostOf}
 use Rattle.verifier.specs.Shape.{structure_fault}
 use Rattle.verifier.specs.inside.Longest.{arriving, no_counts, one, one_if_call, total, most_from, most_ended}
-use Rattle.verifier.proofs.Counts.{arrives_none, arrives_here, arrives_later, most_first, ended_first, carried, ended_carried, most_small, one_is_small, one_if_call_is_small, reached_below, reached_is, cost_is}
+use Rattle.verifier.proofs.Counts.{arrives_none, arrives_here, arrives_later, most_first, ended_first, carried}
+use Rattle.verifier.proofs.Counts.{ended_carried, most_small, one_is_small, one_if_call_is_small, reached_below, reached_is, cost_is}
 use Rattle.verifier.proofs.Longest.{is_most}
 use Rattle.verifier.proofs.Reached.{begins_first, begun_there, shape_is, each_lands}
 use Rattle.verifier.proofs.shape.check_shape.Goals as goal

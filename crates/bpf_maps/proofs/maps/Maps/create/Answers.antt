@@ -3,7 +3,8 @@ use Rattle.bpf_maps.specs.declared.part.TheConstants.{STACK_AND_CONTEXT}
 use Rattle.bpf_maps.specs.declared.stored_map.StoredMap.{StoredMap}
 use Rattle.bpf_maps.specs.Elements.{word_of}
 use Rattle.bpf_maps.specs.Live.{IsLaid}
-use Rattle.bpf_maps.proofs.Created.{IsRoom, IsAdded, creates_full, creates_none, has_room, older_stay, creates_one, whole_one, laid_one, last_one, more_one, front_kept, cleared_one, values_kept, fresh_one, maps_kept}
+use Rattle.bpf_maps.proofs.Created.{IsRoom, IsAdded, creates_full, creates_none, has_room, older_stay, creates_one, whole_one}
+use Rattle.bpf_maps.proofs.Created.{laid_one, last_one, more_one, front_kept, cleared_one, values_kept, fresh_one, maps_kept}
 use Rattle.bpf_maps.proofs.Whole.{laid, whole_refused}
 use Rattle.bpf_maps.proofs.maps.Maps.create.Goals as goal
 use Rattle.bpf_maps.proofs.maps.Maps.create.Goals.{Else-self-size-gt-LARGEST_SUM}

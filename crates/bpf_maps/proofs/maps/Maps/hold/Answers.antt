@@ -2,7 +2,8 @@ use Rattle.std.proofs.Common.{refl, ap, sym, ◌∙◌, ◌+◌, arith, option_m
 use Rattle.bpf_maps.specs.Live.{one_more}
 use Rattle.bpf_maps.specs.declared.stored_map.StoredMap.{StoredMap}
 use Rattle.bpf_maps.proofs.ByHandle.{has_key}
-use Rattle.bpf_maps.proofs.Changes.{told_of, IsUnder, is_under, live_under, placed_under, IsChange, live_old, live_new, others_stay, areas_stay, whole_stays, laid_stays, room_stays, part_stays}
+use Rattle.bpf_maps.proofs.Changes.{told_of, IsUnder, is_under, live_under, placed_under, IsChange, live_old}
+use Rattle.bpf_maps.proofs.Changes.{live_new, others_stay, areas_stay, whole_stays, laid_stays, room_stays, part_stays}
 use Rattle.bpf_maps.proofs.maps.Maps.hold.Goals as goal
 
 pub key-key-requires : goal.key-key-requires

@@ -7,7 +7,8 @@ use Rattle.host_core.specs.States.{HostState, host_state, states_in}
 use Rattle.host_core.specs.inside.Reached.{AreReached}
 use Rattle.host_core.proofs.Histories.{by_packets}
 use Rattle.host_core.proofs.Heads.{no_state}
-use Rattle.host_core.proofs.Tenants.{slice_get_in, states_length, state_there, others_stay, count_stays, states_are, births_stay, runs_own, put_back, with_ok, with_err, by_result}
+use Rattle.host_core.proofs.Tenants.{slice_get_in, states_length, state_there, others_stay, count_stays}
+use Rattle.host_core.proofs.Tenants.{states_are, births_stay, runs_own, put_back, with_ok, with_err, by_result}
 use Rattle.host_core.proofs.host.Host.run_packets.Goals as goal
 
 -- ---- a tenant that is not served

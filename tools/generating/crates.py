@@ -89,8 +89,8 @@ class Crates:
 
     def commands(self) -> dict[str, int]:
         """The numbers of commands, by the functions that read their bodies."""
-        found = re.findall(r"^        (\d+) => (\w+)\(body\),$", self.text("command_frames/src/body.rt"), re.M)
-        return {name: int(number) for number, name in found}
+        found = re.findall(r"^        (\w+) => (\w+)\(body\),$", self.text("command_frames/src/body.rt"), re.M)
+        return {name: self.number("command_frames/src/command.rt", number) for number, name in found}
 
     def map_types(self) -> dict[str, int]:
         found = re.findall(r"^ *(\d) => Some\(MapKind::(\w+)\),$", self.text("tenant/src/shape.rt"), re.M)

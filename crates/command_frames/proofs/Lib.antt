@@ -1,4 +1,5 @@
 mod Words
 mod Parsing
 mod Spelling
+mod Encodings
 mod Vectors

@@ -14,10 +14,12 @@ use Rattle.command_frames.specs.Laws.{IsStream, IsReply}
 
 -- ---- a number is read from its encoding
 
-number_of_bytes : (n : ℕ) (rest : List ℕ) → n < 2 ^ 32 → little_number 4 (little_bytes 4 n ++ rest) ≡ n
+-- a number below 2 ^ 32 is read from its four bytes
+pub number_of_bytes : (n : ℕ) (rest : List ℕ) → n < 2 ^ 32 → little_number 4 (little_bytes 4 n ++ rest) ≡ n
 number_of_bytes n rest small = omega arith
 
-half_of_bytes : (n : ℕ) (rest : List ℕ) → n < 2 ^ 16 → little_number 2 (little_bytes 2 n ++ rest) ≡ n
+-- a number below 2 ^ 16 is read from its two bytes
+pub half_of_bytes : (n : ℕ) (rest : List ℕ) → n < 2 ^ 16 → little_number 2 (little_bytes 2 n ++ rest) ≡ n
 half_of_bytes n rest small = omega arith
 
 -- ---- frames

@@ -49,12 +49,12 @@ longest_frame = 131072
 -- ---- the body
 
 -- the little-endian number in the four bytes at an offset of the body
-abbrev pub word_behind : ℕ → List ℕ → ℕ
-word_behind at body = little_number 4 (drop at body)
+abbrev pub word_at : ℕ → List ℕ → ℕ
+word_at at body = little_number 4 (drop at body)
 
 -- the little-endian number in the eight bytes at an offset of the body
-abbrev pub long_behind : ℕ → List ℕ → ℕ
-long_behind at body = little_number 8 (drop at body)
+abbrev pub long_at : ℕ → List ℕ → ℕ
+long_at at body = little_number 8 (drop at body)
 
 -- the numbers of the first n words of these bytes, four bytes each
 unfoldable pub words : ℕ → List ℕ → List ℕ
@@ -73,25 +73,25 @@ at_least n body command = if nat_le n (length body) then Ok command else Err Bod
 abbrev pub command_in : ℕ → List ℕ → Result Command BadFrame
 command_in n body =
     if n == 0 then exactly create_body body
-    (map_create (word_behind 0 body) (word_behind 4 body) (word_behind 8 body)
-    (word_behind 12 body) (word_behind 16 body)) else
+    (map_create (word_at 0 body) (word_at 4 body) (word_at 8 body)
+    (word_at 12 body) (word_at 16 body)) else
     (if n == 1 then
-    at_least word_length body (map_lookup (word_behind 0 body) (drop word_length body)) else
+    at_least word_length body (map_lookup (word_at 0 body) (drop word_length body)) else
     (if n == 2 then
     at_least before_key_and_value body
-    (map_update (word_behind 0 body) (long_behind word_length body)
+    (map_update (word_at 0 body) (long_at word_length body)
     (drop before_key_and_value body)) else
     (if n == 3 then
-    at_least word_length body (map_delete (word_behind 0 body) (drop word_length body)) else
+    at_least word_length body (map_delete (word_at 0 body) (drop word_length body)) else
     (if n == 4 then
-    at_least word_length body (map_next_key (word_behind 0 body) (drop word_length body)) else
+    at_least word_length body (map_next_key (word_at 0 body) (drop word_length body)) else
     (if n == 5 then
-    at_least word_length body (prog_load (word_behind 0 body) (drop word_length body)) else
+    at_least word_length body (prog_load (word_at 0 body) (drop word_length body)) else
     (if n == 10 then
     at_least before_packet body
-    (prog_test_run (word_behind 0 body) (words given_words (drop word_length body))
+    (prog_test_run (word_at 0 body) (words given_words (drop word_length body))
     (drop before_packet body)) else
-    (if n == 256 then exactly word_length body (close (word_behind 0 body)) else Err Unknown)))))))
+    (if n == 256 then exactly word_length body (close (word_at 0 body)) else Err Unknown)))))))
 
 -- ---- the frame
 

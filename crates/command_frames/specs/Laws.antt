@@ -1,8 +1,10 @@
 -- Bytes determine the frames and the replies that they encode. This project's own.
-use Rattle.std.specs.Prelude.{◌≡◌, ℕ, ℤ, ◌<◌, ◌≤◌, ◌^◌, List, ◌++◌, length, slice_index, FitsSigned}
+use Rattle.std.specs.Prelude.{◌≡◌, ℕ, ℤ, ◌<◌, ◌≤◌, ◌^◌, List, ◌++◌, length, Ok, slice_index, FitsSigned}
 use Rattle.std.specs.Int.{w32}
 use Rattle.std.specs.List.{flat_map, AllByRecursion}
-use Rattle.command_frames.specs.Frame.{framed, IsFrame, IsPartial, longest_payload, reply_bytes}
+use Rattle.command_frames.specs.Command.{Command, parsed, longest_frame}
+use Rattle.command_frames.specs.Encoded.{frame_of, FitsFields}
+use Rattle.command_frames.specs.Frame.{framed, IsFrame, IsPartial, head_length, owner, longest_payload, reply_bytes}
 
 -- ---- streams
 
@@ -33,6 +35,23 @@ FramesInFront =
     → bytes ≡ flat_map framed first ++ left
     → IsStream bytes frames rest
     → (more : List (List ℕ)) × (frames ≡ first ++ more) × IsStream left more rest
+
+-- ---- commands
+
+-- The encoding of a command inverts parsing: the frame of a command to a tenant is parsed as this
+-- command, if it is not too long; and a frame that is parsed as a command is that command's frame
+-- to its owner.
+pub record EncodingInvertsParsing : Type 0 where
+  pub parsed_again : (tenant : ℕ) (c : Command)
+      → FitsFields c → length (frame_of tenant c) ≤ longest_frame
+      → parsed (frame_of tenant c) ≡ Ok c
+  pub encoded_again : (frame : List ℕ) (c : Command)
+      → ((i : ℕ) → slice_index frame i < 256) → head_length ≤ length frame → parsed frame ≡ Ok c
+      → (frame ≡ frame_of (owner frame) c) × FitsFields c
+
+-- the owner of the frame of a command to a tenant is this tenant
+abbrev pub FramesHaveOwners : Type 0
+FramesHaveOwners = (tenant : ℕ) (c : Command) → tenant < 2 ^ 16 → owner (frame_of tenant c) ≡ tenant
 
 -- ---- replies
 

@@ -6,7 +6,10 @@ ghost use Rattle.command_frames.specs.Command.{command_in, context_length, word_
 ghost use Rattle.command_frames.specs.Shown.{shown_result};
 ghost use Rattle.words.specs.Context.{given_words};
 
-use crate::command::{BadFrame, Command};
+use crate::command::{
+    BadFrame, CLOSE, Command, MAP_CREATE, MAP_DELETE_ELEM, MAP_GET_NEXT_KEY, MAP_LOOKUP_ELEM,
+    MAP_UPDATE_ELEM, PROG_LOAD, PROG_TEST_RUN,
+};
 use byteorder::{ByteOrder, LittleEndian};
 use words::GIVEN_WORDS;
 
@@ -20,7 +23,7 @@ const CREATE_BODY: usize = 20;
 const BEFORE_KEY_AND_VALUE: usize = 12;
 
 /// The length in bytes of the context words in the body of PROG_TEST_RUN: all but the first, which is the packet's length.
-const CONTEXT_LENGTH: usize = GIVEN_WORDS * WORD_LENGTH;
+pub(crate) const CONTEXT_LENGTH: usize = GIVEN_WORDS * WORD_LENGTH;
 
 /// The number of bytes before the packet of PROG_TEST_RUN: a descriptor and the context.
 const BEFORE_PACKET: usize = WORD_LENGTH + CONTEXT_LENGTH;
@@ -158,14 +161,14 @@ pub(crate) fn command_in(number: u16, body: &[u8]) -> Result<Command<'_>, BadFra
     ensures { shown_result result ≡ command_in number body.now }
 {
     match number {
-        0 => map_create(body),
-        1 => map_lookup(body),
-        2 => map_update(body),
-        3 => map_delete(body),
-        4 => map_next_key(body),
-        5 => prog_load(body),
-        10 => prog_test_run(body),
-        256 => close(body),
+        MAP_CREATE => map_create(body),
+        MAP_LOOKUP_ELEM => map_lookup(body),
+        MAP_UPDATE_ELEM => map_update(body),
+        MAP_DELETE_ELEM => map_delete(body),
+        MAP_GET_NEXT_KEY => map_next_key(body),
+        PROG_LOAD => prog_load(body),
+        PROG_TEST_RUN => prog_test_run(body),
+        CLOSE => close(body),
         _ => Err(BadFrame::Unknown),
     }
 }

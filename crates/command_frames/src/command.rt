@@ -52,6 +52,30 @@ pub enum Command<'a> {
     },
 }
 
+/// The number of this command in linux/bpf.h (bpf_cmd).
+pub(crate) const MAP_CREATE: u16 = 0;
+
+/// The number of this command in linux/bpf.h (bpf_cmd).
+pub(crate) const MAP_LOOKUP_ELEM: u16 = 1;
+
+/// The number of this command in linux/bpf.h (bpf_cmd).
+pub(crate) const MAP_UPDATE_ELEM: u16 = 2;
+
+/// The number of this command in linux/bpf.h (bpf_cmd).
+pub(crate) const MAP_DELETE_ELEM: u16 = 3;
+
+/// The number of this command in linux/bpf.h (bpf_cmd).
+pub(crate) const MAP_GET_NEXT_KEY: u16 = 4;
+
+/// The number of this command in linux/bpf.h (bpf_cmd).
+pub(crate) const PROG_LOAD: u16 = 5;
+
+/// The number of this command in linux/bpf.h (bpf_cmd).
+pub(crate) const PROG_TEST_RUN: u16 = 10;
+
+/// The number of the command that closes a descriptor, which is this project's own.
+pub(crate) const CLOSE: u16 = 256;
+
 /// Why a frame carries no command: the first of these that applies.
 #[derive(Clone, Copy, Debug, PartialEq, Eq)]
 pub enum BadFrame {

@@ -6,6 +6,9 @@
 //! - The command of a frame, with its fields, is that of the table (`specs/Command.antt`, a definition by command number).
 //!   Otherwise the error is the first that applies: the frame is too long, no command has its number, its body has another
 //!   length: `parse`.
+//! - The frame of a command has the bytes from which it is parsed: `write_command`. Encoding inverts parsing, both ways: the frame of a
+//!   command is parsed as this command, and a frame that is parsed as a command is the frame of this command to its owner:
+//!   `encoding_inverts_parsing`, `frames_have_owners`.
 //! - After a reply is written, the buffer holds its bytes, whatever it held before: `write_reply`, `write_number`, `bytes` of
 //!   `ReplyBuf`.
 //! - A reply has at most 4,108 bytes: `bound` of `bytes` and of `into_vec` of `ReplyBuf`.
@@ -30,11 +33,13 @@
 
 mod body;
 mod command;
+mod encoding;
 mod frame;
 pub mod laws;
 mod reply;
 
 pub use command::{BadFrame, Command, Head};
+pub use encoding::write_command;
 pub use frame::{HEAD_LENGTH, LONGEST_FRAME, head, parse};
 pub use reply::{LONGEST_PAYLOAD, LONGEST_REPLY, ReplyBuf, write_number, write_reply};
 pub use words::GIVEN_WORDS;

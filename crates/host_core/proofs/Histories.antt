@@ -17,8 +17,9 @@ use Rattle.tenant.specs.Machine.{Answer, Answers, gives}
 use Rattle.tenant.specs.State.{TenantState, new_tenant}
 use Rattle.saving.specs.declared.birth.Birth.{Birth}
 use Rattle.saving.specs.Births.{births_after}
-use Rattle.saving.specs.Frames.{frame_of}
-use Rattle.saving.specs.Laws.{IsHistory, HistoriesAreRestored, FramesHaveOwners}
+use Rattle.command_frames.specs.Encoded.{frame_of}
+use Rattle.command_frames.specs.Laws.{FramesHaveOwners}
+use Rattle.saving.specs.Laws.{IsHistory, HistoriesAreRestored}
 use Rattle.saving.specs.Restored.{restored}
 use Rattle.saving.specs.SaveParts.{PartsAreWhole, parts, frames_of}
 use Rattle.saving.specs.Recorded.{RecordsFrame, births_after_frame}

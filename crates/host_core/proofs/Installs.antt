@@ -7,7 +7,7 @@ use Rattle.arena.specs.Memory.{Memory, part_bytes}
 use Rattle.command_frames.specs.Frame.{owner, reply_to}
 use Rattle.insn_set.specs.declared.insn.Insn.{Insn}
 use Rattle.saving.specs.Installs.{load_frame, load_reply}
-use Rattle.saving.specs.Laws.{FramesHaveOwners}
+use Rattle.command_frames.specs.Laws.{FramesHaveOwners}
 use Rattle.saving.specs.Recorded.{RecordedTenant, RecordsFrame, tenant_state}
 use Rattle.saving.specs.Restored.{load_of}
 use Rattle.tenant.specs.declared.errno.Errno.TheVariants.{NotPermitted, BadAddress, Invalid}

@@ -164,7 +164,7 @@ impl Host {
         // For the proof only: by the invariant of the host each tenant has a history.
         let _ = &self.tenants;
         saving::laws::histories_are_restored();
-        saving::laws::frames_have_owners();
+        command_frames::laws::frames_have_owners();
         saving::laws::parts_are_whole();
     }
 

@@ -22,7 +22,7 @@ impl Host {
             × ¬ FitsTenant program.value (slice_get self.old.states tenant)) }
     {
         laws::faults_have_no_payload();
-        saving::laws::frames_have_owners();
+        command_frames::laws::frames_have_owners();
         let number = usize::from(tenant);
         if number >= self.tenants.len() {
             return Ok(Errno::NotPermitted.status());

@@ -75,6 +75,6 @@ pub fn tenants_are_restored()
     ensures { TenantsAreRestored }
 {
     saving::laws::histories_are_restored();
-    saving::laws::frames_have_owners();
+    command_frames::laws::frames_have_owners();
     saving::laws::parts_are_whole();
 }

@@ -21,13 +21,14 @@ use Rattle.saving.specs.Filler.{filler}
 use Rattle.tenant.specs.Described.{type_number}
 use Rattle.saving.specs.Restored.{load_of, create_of, put_of, made_map, made_program, made, filled, born, closings, restored, Leads}
 use Rattle.saving.specs.Restorable.{IsRestorable}
-use Rattle.saving.specs.Frames.{frame_of, AreGood}
+use Rattle.command_frames.specs.Encoded.{frame_of}
+use Rattle.command_frames.specs.Laws.{EncodingInvertsParsing}
+use Rattle.saving.specs.Frames.{AreGood}
 use Rattle.saving.specs.Laws.{RestoredIsAlike, RestoredByFrames}
 use Rattle.saving.proofs.Lists.{is_there}
 use Rattle.saving.proofs.Limits.{limited}
-use Rattle.saving.proofs.Spelled.{create_parsed, update_parsed, load_parsed, close_parsed}
 
-module _ (tenant : ℕ) where
+module _ (law : EncodingInvertsParsing) (tenant : ℕ) where
   -- each of these commands is read from its frame
   abbrev IsCarried : Command → Type 0
   IsCarried c = parsed (frame_of tenant c) ≡ Ok c
@@ -46,10 +47,10 @@ module _ (tenant : ℕ) where
   program_carried insns is =
       let room = is.room in
       let long = length-program_bytes insns in
-      load_parsed tenant (program_bytes insns) (omega arith)
+      law.parsed_again tenant (load_of insns) (omega arith) (omega arith)
 
   close_carried : (fd : ℕ) → fd < first_descriptor + most → IsCarried (close fd)
-  close_carried fd lt = close_parsed tenant fd (omega arith)
+  close_carried fd lt = law.parsed_again tenant (close fd) (omega arith) (omega arith)
 
   kind_small : (kind : MapKind) → type_number kind < 2 ^ 32
   kind_small Hash = omega arith
@@ -61,9 +62,9 @@ module _ (tenant : ℕ) where
       let key = within.key in
       let value = within.value in
       let entries = within.entries in
-      create_parsed tenant (type_number shape.kind) shape.key_size shape.value_size
-      shape.max_entries (kind_small shape.kind) (omega arith)
-      (omega arith) (omega arith)
+      law.parsed_again tenant (create_of shape)
+      (kind_small shape.kind, omega arith, omega arith, omega arith, omega arith)
+      (omega arith)
 
   puts_carried : (shape : MapShape) (fd : ℕ) (es : List (List ℕ × List ℕ))
       → fd < first_descriptor + most
@@ -77,8 +78,10 @@ module _ (tenant : ℕ) where
       let value = within.value in
       let size = keys.0 in
       let room = values.0 in
-      let long = length-append e.0 e.1 in
-      (update_parsed tenant fd (e.0 ++ e.1) (omega arith) (omega arith), puts_carried shape fd es lt keys.1 values.1)
+      let long = length-append e.0 e.1 in (
+        law.parsed_again tenant (put_of fd e) (omega arith, omega arith) (omega arith),
+        puts_carried shape fd es lt keys.1 values.1,
+      )
 
   -- ---- the walk
 
@@ -153,9 +156,10 @@ module _ (tenant : ℕ) where
       }
 
 -- the frames that carry a save's commands restore the state if the commands do
-pub restored_by_frames : IsProgram filler → RestoredIsAlike → RestoredByFrames
-restored_by_frames fine law tenant s births whole are =
+pub restored_by_frames : EncodingInvertsParsing → IsProgram filler → RestoredIsAlike → RestoredByFrames
+restored_by_frames encoded fine law tenant s births whole are =
     let (t, leads, alike, holds) = law s births whole are in
     let all =
-    told_by tenant (restored s births) new_tenant t (restored_carried tenant fine s births whole are.order) leads in
+    told_by encoded tenant (restored s births) new_tenant t
+    (restored_carried encoded tenant fine s births whole are.order) leads in
     (t, all.replies, all.told, all.good, alike, holds)

@@ -8,7 +8,7 @@ use Rattle.command_frames.specs.declared.command.BadFrame.{BadFrame}
 use Rattle.command_frames.specs.declared.command.BadFrame.TheVariants.{TooLong, Body}
 use Rattle.saving.specs.inside.Frames.{tail_length}
 use Rattle.command_frames.specs.Command.{Command, map_create, map_lookup, map_update, map_delete, map_next_key, prog_load, prog_test_run}
-use Rattle.command_frames.specs.Command.{close, exactly, at_least, command_in, parsed, longest_frame, word_behind, long_behind, words}
+use Rattle.command_frames.specs.Command.{close, exactly, at_least, command_in, parsed, longest_frame, word_at, long_at, words}
 
 abbrev IsWithin : ℕ → Result Command BadFrame → Type 0
 IsWithin n (Ok command) = tail_length command ≤ n
@@ -34,24 +34,24 @@ body_within : (n : ℕ) (body : List ℕ) → IsWithin (length body) (command_in
 body_within n body =
     if_within (length body) (n == 0) _ _
     (exactly_within 20 body
-    (map_create (word_behind 0 body) (word_behind 4 body) (word_behind 8 body) (word_behind 12 body)
-    (word_behind 16 body))
+    (map_create (word_at 0 body) (word_at 4 body) (word_at 8 body) (word_at 12 body)
+    (word_at 16 body))
     (omega arith))
     (if_within (length body) (n == 1) _ _
-    (at_least_within 4 body (map_lookup (word_behind 0 body) (drop 4 body)) (behind 4 body))
+    (at_least_within 4 body (map_lookup (word_at 0 body) (drop 4 body)) (behind 4 body))
     (if_within (length body) (n == 2) _ _
-    (at_least_within 12 body (map_update (word_behind 0 body) (long_behind 4 body) (drop 12 body)) (behind 12 body))
+    (at_least_within 12 body (map_update (word_at 0 body) (long_at 4 body) (drop 12 body)) (behind 12 body))
     (if_within (length body) (n == 3) _ _
-    (at_least_within 4 body (map_delete (word_behind 0 body) (drop 4 body)) (behind 4 body))
+    (at_least_within 4 body (map_delete (word_at 0 body) (drop 4 body)) (behind 4 body))
     (if_within (length body) (n == 4) _ _
-    (at_least_within 4 body (map_next_key (word_behind 0 body) (drop 4 body)) (behind 4 body))
+    (at_least_within 4 body (map_next_key (word_at 0 body) (drop 4 body)) (behind 4 body))
     (if_within (length body) (n == 5) _ _
-    (at_least_within 4 body (prog_load (word_behind 0 body) (drop 4 body)) (behind 4 body))
+    (at_least_within 4 body (prog_load (word_at 0 body) (drop 4 body)) (behind 4 body))
     (if_within (length body) (n == 10) _ _
     (at_least_within 44 body
-    (prog_test_run (word_behind 0 body) (words 10 (drop 4 body)) (drop 44 body))
+    (prog_test_run (word_at 0 body) (words 10 (drop 4 body)) (drop 44 body))
     (behind 44 body))
-    (if_within (length body) (n == 256) _ _ (exactly_within 4 body (close (word_behind 0 body)) (omega arith)) tt)))))))
+    (if_within (length body) (n == 256) _ _ (exactly_within 4 body (close (word_at 0 body)) (omega arith)) tt)))))))
 
 no_command : (fault : BadFrame) (command : Command) → let a : Result Command BadFrame = Err fault in a ≡ Ok command → ⊥
 no_command fault command e = cc

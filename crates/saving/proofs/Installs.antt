@@ -20,6 +20,7 @@ use Rattle.saving.specs.Installs.{load_frame, load_reply}
 use Rattle.saving.specs.Recorded.{RecordsFrame, births_after_frame}
 use Rattle.saving.specs.Restored.{load_of}
 use Rattle.saving.specs.inside.Frames.{AnswersCommand}
+use Rattle.command_frames.specs.Laws.{EncodingInvertsParsing}
 use Rattle.saving.proofs.ByFrames.{program_carried}
 use Rattle.saving.proofs.FramesStatuses.{no_fault_written}
 
@@ -47,12 +48,12 @@ module _ (insns : List Insn) (refused : Bool) (a : Answer) (before after : Tenan
             (ap (λ (x : Answer). reply_bytes 0 0 x.status x.payload) shown);
       }
 
-  module _ (number : ℕ) (is : IsProgram insns) (status : ℤ) (status_is : status ≡ a.status)
+  module _ (law : EncodingInvertsParsing) (number : ℕ) (is : IsProgram insns) (status : ℤ) (status_is : status ≡ a.status)
       (none : a.payload ≡ []) where
     carried : AnswersFrame refused before (parsed (load_frame number insns)) a
     carried =
         subst (λ (c : Result Command BadFrame). AnswersFrame refused before c a)
-        (sym (program_carried number insns is)) loads
+        (sym (program_carried law number insns is)) loads
 
     -- the reply to the load with this status has the status and the payload of the machine's result
     pub reply_is : load_reply number insns status ≡ reply_to (load_frame number insns) a.status a.payload
@@ -75,7 +76,7 @@ module _ (insns : List Insn) (refused : Bool) (a : Answer) (before after : Tenan
       left = left;
       recorded =
           subst (λ (c : Result Command BadFrame). later ≡ births_after_frame c a births)
-          (sym (program_carried number insns is)) opened;
+          (sym (program_carried law number insns is)) opened;
     }
 
     -- the reply to the frame that loads the program is not that of a fault

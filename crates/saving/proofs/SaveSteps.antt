@@ -10,7 +10,7 @@ use Rattle.command_frames.specs.Frame.{framed}
 use Rattle.ordered_keys.specs.Orders.{occurrences, next_entry}
 use Rattle.bpf_maps.specs.Live.{LiveMaps, keys_at, value_in, map_in}
 use Rattle.tenant.specs.Entry.{NumberedEntry, numbered_entries}
-use Rattle.saving.specs.Frames.{frame_of}
+use Rattle.command_frames.specs.Encoded.{frame_of}
 use Rattle.saving.specs.Restored.{put_of}
 use Rattle.saving.specs.SaveParts.{frames_of}
 use Rattle.saving.specs.inside.Puts.{puts, rest_after}

@@ -1,40 +1,6 @@
--- Commands as frames. Their numbers are those of linux/bpf.h (bpf_cmd); 256, which closes a
--- descriptor, and the layout of a body are this project's own.
-use Rattle.std.specs.Prelude.{◌≡◌, ℕ, pos, List, [], ◌∷◌, ◌++◌}
-use Rattle.std.specs.List.{flat_map}
-use Rattle.byteorder.specs.Endian.{little_bytes}
-use Rattle.command_frames.specs.Command.{Command, map_create, map_lookup, map_update, map_delete, map_next_key, prog_load, prog_test_run, close}
+-- Replies without an error. This project's own; a negative status is an error of bpf(2).
+use Rattle.std.specs.Prelude.{◌≡◌, ℕ, pos, List, [], ◌∷◌}
 use Rattle.command_frames.specs.Frame.{reply_to}
-
--- the number of a command in the head of its frame
-abbrev pub command_code : Command → ℕ
-command_code (map_create kind key value max flags) = 0
-command_code (map_lookup fd key) = 1
-command_code (map_update fd flags bytes) = 2
-command_code (map_delete fd key) = 3
-command_code (map_next_key fd key) = 4
-command_code (prog_load kind slots) = 5
-command_code (prog_test_run fd words packet) = 10
-command_code (close fd) = 256
-
--- the bytes of a command's frame after the head
-abbrev pub body_of : Command → List ℕ
-body_of (map_create kind key value max flags) =
-    little_bytes 4 kind
-    ++
-    (little_bytes 4 key ++ (little_bytes 4 value ++ (little_bytes 4 max ++ little_bytes 4 flags)))
-body_of (map_lookup fd key) = little_bytes 4 fd ++ key
-body_of (map_update fd flags bytes) = little_bytes 4 fd ++ (little_bytes 8 flags ++ bytes)
-body_of (map_delete fd key) = little_bytes 4 fd ++ key
-body_of (map_next_key fd key) = little_bytes 4 fd ++ key
-body_of (prog_load kind slots) = little_bytes 4 kind ++ slots
-body_of (prog_test_run fd words packet) =
-    little_bytes 4 fd ++ (flat_map (little_bytes 4) words ++ packet)
-body_of (close fd) = little_bytes 4 fd
-
--- the frame of a command to a tenant, without its length before it
-abbrev pub frame_of : ℕ → Command → List ℕ
-frame_of tenant c = little_bytes 2 tenant ++ (little_bytes 2 (command_code c) ++ body_of c)
 
 -- a reply without an error: its status is not negative
 abbrev pub IsGoodReply : List ℕ → List ℕ → Type 0

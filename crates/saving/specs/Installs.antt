@@ -2,7 +2,7 @@
 use Rattle.std.specs.Prelude.{ℕ, ℤ, List, []}
 use Rattle.command_frames.specs.Frame.{reply_to}
 use Rattle.insn_set.specs.declared.insn.Insn.{Insn}
-use Rattle.saving.specs.Frames.{frame_of}
+use Rattle.command_frames.specs.Encoded.{frame_of}
 use Rattle.saving.specs.Restored.{load_of}
 
 -- the frame of a tenant that loads the program, with the slots that spell it

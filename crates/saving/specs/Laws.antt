@@ -4,7 +4,6 @@ use Rattle.std.specs.Prelude.{◌≡◌, ℕ, ◌+◌, ◌^◌, ◌≤◌, ◌<�
 use Rattle.std.specs.List.{AllByRecursion}
 use Rattle.command_frames.specs.Command.{Command, prog_test_run}
 use Rattle.words.specs.Context.{given_words}
-use Rattle.command_frames.specs.Frame.{owner}
 use Rattle.fd_table.specs.Table.{most}
 use Rattle.bpf_maps.specs.Limits.{most_maps}
 use Rattle.tenant.specs.State.{TenantState, new_tenant}
@@ -14,7 +13,8 @@ use Rattle.tenant.specs.Alone.{IsToldAlone, AloneWithRefusals}
 use Rattle.saving.specs.Alike.{IsAlike, IsAlikeAnswer, HoldsItsMaps}
 use Rattle.saving.specs.Births.{Birth, AreBirths, births_after}
 use Rattle.saving.specs.Restored.{restored, Leads}
-use Rattle.saving.specs.Frames.{frame_of, AreGood}
+use Rattle.command_frames.specs.Encoded.{frame_of}
+use Rattle.saving.specs.Frames.{AreGood}
 use Rattle.saving.specs.Restorable.{IsRestorable}
 
 -- a new tenant holds its maps, and each command preserves this
@@ -73,10 +73,6 @@ RestoredIsAlike =
     → IsRestorable s
     → AreBirths s births
     → (t : TenantState) × Leads new_tenant (restored s births) t × IsAlike s t × HoldsItsMaps t
-
--- the owner of the frame of a command to a tenant is this tenant
-abbrev pub FramesHaveOwners : Type 0
-FramesHaveOwners = (tenant : ℕ) (c : Command) → tenant < 2 ^ 16 → owner (frame_of tenant c) ≡ tenant
 
 -- a test run fits into a frame: it has ten words of context, each in four bytes, and a packet that
 -- is not too long

@@ -10,7 +10,7 @@ use Rattle.tenant.specs.State.{Map, TenantState, live}
 use Rattle.saving.specs.declared.save_parts.TheConstants.{KEYS_OF_PART}
 use Rattle.saving.specs.Births.{Birth, OfMap, OfProgram}
 use Rattle.saving.specs.Restored.{create_of, put_of, made_program, filled, closings, restored}
-use Rattle.saving.specs.Frames.{frame_of}
+use Rattle.command_frames.specs.Encoded.{frame_of}
 use Rattle.saving.specs.Pieces.{pieces}
 
 -- the command that creates a live map without its keys

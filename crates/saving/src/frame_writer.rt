@@ -8,7 +8,7 @@ ghost use Rattle.fd_table.specs.Table.{first_descriptor, most, named};
 ghost use Rattle.tenant.specs.Entry.{numbered_entries};
 ghost use Rattle.tenant.specs.Kept.{state_in};
 ghost use Rattle.tenant.specs.State.{live};
-ghost use Rattle.saving.specs.Frames.{frame_of};
+ghost use Rattle.command_frames.specs.Encoded.{frame_of};
 ghost use Rattle.saving.specs.Restored.{create_of, put_of, filled, closings, made_program};
 ghost use Rattle.saving.specs.SaveParts.{made_empty, puts_of, creation, frames_of};
 ghost use Rattle.saving.specs.declared.save_parts.TheConstants.{KEYS_OF_PART};
@@ -16,14 +16,17 @@ ghost use Rattle.saving.specs.inside.PartCommands.{part_commands};
 ghost use Rattle.saving.specs.inside.Puts.{closing, puts, rest_after};
 
 use crate::birth::Birth;
-use crate::command_bytes::{write_close, write_create, write_load, write_put};
 use crate::save_parts::{KEYS_OF_PART, SavePart};
 use bpf_maps::MapKey;
+use command_frames::{Command, write_command};
 use fd_table::{FIRST, MOST};
 use insn_codec::write_program;
 use std::alloc::{AllocError, Global};
 use tagged_model::MapShape;
-use tenant::{OpenObject, Tenant};
+use tenant::{OpenObject, Tenant, type_number};
+
+/// The type of socket filters (BPF_PROG_TYPE_SOCKET_FILTER).
+const SOCKET_FILTER: u32 = 1;
 
 /// The two slots of the program that keeps a descriptor open: `r0 = 0` (opcode 0xb7) and `exit` (0x95).
 const FILLER: [u8; 16] = [0xb7, 0, 0, 0, 0, 0, 0, 0, 0x95, 0, 0, 0, 0, 0, 0, 0];
@@ -98,7 +101,7 @@ impl FrameWriter {
             ≡ self.old.frames.items ++ framed (frame_of self.old.number (close fd))) }
         ensures number { self.new.number ≡ self.old.number }
     {
-        write_close(&mut self.frame, self.number, fd)?;
+        write_command(self.number, Command::Close { fd }, &mut self.frame)?;
         append_framed(&mut self.frames, &self.frame)
     }
 
@@ -108,7 +111,14 @@ impl FrameWriter {
             ≡ self.old.frames.items ++ framed (frame_of self.old.number (create_of shape))) }
         ensures number { self.new.number ≡ self.old.number }
     {
-        write_create(&mut self.frame, self.number, shape)?;
+        let command = Command::MapCreate {
+            kind: type_number(shape.kind),
+            key_size: shape.key_size,
+            value_size: shape.value_size,
+            max_entries: shape.max_entries,
+            flags: 0,
+        };
+        write_command(self.number, command, &mut self.frame)?;
         append_framed(&mut self.frames, &self.frame)
     }
 
@@ -119,7 +129,14 @@ impl FrameWriter {
             ++ framed (frame_of self.old.number (put_of fd (key.now, value.now)))) }
         ensures number { self.new.number ≡ self.old.number }
     {
-        write_put(&mut self.frame, self.number, fd, key, value)?;
+        // The value follows the key.
+        let command = Command::MapUpdate {
+            fd,
+            flags: 0,
+            key_and_value: key,
+        };
+        write_command(self.number, command, &mut self.frame)?;
+        self.frame.extend_from_slice(value)?;
         append_framed(&mut self.frames, &self.frame)
     }
 
@@ -129,7 +146,11 @@ impl FrameWriter {
             ≡ self.old.frames.items ++ framed (frame_of self.old.number (prog_load 1 slots.now))) }
         ensures number { self.new.number ≡ self.old.number }
     {
-        write_load(&mut self.frame, self.number, slots)?;
+        let command = Command::ProgLoad {
+            kind: SOCKET_FILTER,
+            slots,
+        };
+        write_command(self.number, command, &mut self.frame)?;
         append_framed(&mut self.frames, &self.frame)
     }
 

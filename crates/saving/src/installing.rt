@@ -50,6 +50,7 @@ impl SavableTenant {
         ensures stale { IfErr result (λ kept. (kept.value ≡ program.value) × (self.new ≡ self.old)
             × ((part : List ℕ) → ¬ Fits program.value (targets (tenant_state part self.old)))) }
     {
+        command_frames::laws::encoding_inverts_parsing();
         maps_are_held();
         births_are_kept();
         // For its contract only: the instructions are a program.

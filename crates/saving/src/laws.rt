@@ -3,7 +3,7 @@
 
 ghost use Rattle.saving.specs.SaveParts.{PartsAreWhole};
 ghost use Rattle.saving.specs.Laws.{MapsAreHeld, AlikeIsBisimulation, AlikeStatesReplyAlike, BirthsAreKept, RestorableIsKept};
-ghost use Rattle.saving.specs.Laws.{RestoredIsAlike, FramesHaveOwners, TestRunsHaveFrames, RestoredByFrames, HistoriesAreRestored};
+ghost use Rattle.saving.specs.Laws.{RestoredIsAlike, TestRunsHaveFrames, RestoredByFrames, HistoriesAreRestored};
 
 /// Exactly the maps that an open object names are live, in a new tenant and after each command.
 pub fn maps_are_held()
@@ -48,20 +48,18 @@ pub fn restored_is_alike()
     verifier::laws::maps_are_listed();
 }
 
-/// The frame of a command to a tenant has this tenant as its owner, the number in its first two bytes.
-pub fn frames_have_owners()
-    ensures { FramesHaveOwners }
-{}
-
 /// Each test run with ten words of context and a packet that is not too long has a frame, which is parsed as this test run.
 pub fn test_runs_have_frames()
     ensures { TestRunsHaveFrames }
-{}
+{
+    command_frames::laws::encoding_inverts_parsing();
+}
 
 /// A new tenant to which no memory is refused succeeds at each frame of a save, and is then alike to the saved one.
 pub fn restored_by_frames()
     ensures { RestoredByFrames }
 {
+    command_frames::laws::encoding_inverts_parsing();
     restored_is_alike();
 }
 

@@ -43,8 +43,7 @@
 //!   `restorable_is_kept`.
 //! - If no memory is refused, a new tenant carries out the commands that restore a state, and is then alike; likewise by
 //!   frames: `restored_is_alike`, `restored_by_frames`.
-//! - Each of these frames is the tenant's: `frames_have_owners`. Each test run that fits into a frame has one:
-//!   `test_runs_have_frames`.
+//! - Each test run that fits into a frame has one: `test_runs_have_frames`.
 //! - Whatever frames a tenant had, and whatever memory was refused to it: a new tenant to which no memory is refused carries
 //!   out the frames that restore its state, and then gives each list of frames exactly the replies of the old one, while no
 //!   memory is refused: `histories_are_restored`.
@@ -67,7 +66,6 @@
 #![tactic(auto)]
 
 mod birth;
-mod command_bytes;
 mod frame_writer;
 mod handling;
 mod inspection;

@@ -2,4 +2,4 @@ use Rattle.saving.proofs.Spelled.{test_runs_have_frames}
 use Rattle.saving.proofs.laws.test_runs_have_frames.Goals as goal
 
 pub returns : goal.returns
-returns c = test_runs_have_frames
+returns c = test_runs_have_frames c.encoding_inverts_parsing.ensures

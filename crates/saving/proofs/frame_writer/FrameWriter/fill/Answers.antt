@@ -3,7 +3,7 @@ use Rattle.command_frames.specs.Command.{prog_load}
 use Rattle.command_frames.specs.Frame.{framed}
 use Rattle.fd_table.specs.Table.{most}
 use Rattle.saving.specs.Filler.{filler}
-use Rattle.saving.specs.Frames.{frame_of}
+use Rattle.command_frames.specs.Encoded.{frame_of}
 use Rattle.saving.specs.Restored.{load_of, filled}
 use Rattle.saving.specs.SaveParts.{frames_of}
 use Rattle.saving.proofs.Saves.{filled_next, filled_none, filler_bytes}

@@ -2,7 +2,7 @@ use Rattle.std.proofs.Common.{◌++◌, ◌+◌, ◌-◌, ℕ, List, Some, optio
 use Rattle.command_frames.specs.Frame.{framed}
 use Rattle.tenant.specs.Entry.{numbered_entries, lent_entry}
 use Rattle.saving.specs.declared.save_parts.TheConstants.{KEYS_OF_PART}
-use Rattle.saving.specs.Frames.{frame_of}
+use Rattle.command_frames.specs.Encoded.{frame_of}
 use Rattle.saving.specs.Restored.{put_of}
 use Rattle.saving.specs.inside.Puts.{puts, rest_after}
 use Rattle.saving.proofs.SaveSteps.{one_command, no_commands, next_put, no_key, no_put}

@@ -59,7 +59,7 @@ returns-in-Ok-clause-replied c = λ number part.
     MayReply (load_frame number insns) (load_reply number insns status) (Some (tenant_state part t)) (Some after))
     c.self.view_is
     (frame_replied insns refused a (state_in part c.self.inside.tenant) after loads
-    (shown_after r after) number is status
+    (shown_after r after) c.encoding_inverts_parsing.ensures number is status
     (to_z-of_z w32 c.status_of.result small ∙ c.status_of.ensures after) (c.in-Ok.ensures.no_payload after))
 
 pub returns-in-Ok-clause-recorded : goal.returns-in-Ok-clause-recorded
@@ -78,7 +78,7 @@ returns-in-Ok-clause-recorded c = λ number part.
     after t.births c.note.new.self)
     c.self.view_is
     (frame_recorded insns refused a (state_in part c.self.inside.tenant) after loads
-    (shown_after r after) number is status
+    (shown_after r after) c.encoding_inverts_parsing.ensures number is status
     (to_z-of_z w32 c.status_of.result small ∙ c.status_of.ensures after) (c.in-Ok.ensures.no_payload after)
     c.self.inside.births c.note.new.self (c.note.ensures ∙ births_opened r after c.self.inside.births))
 
@@ -93,6 +93,6 @@ returns-in-Ok-clause-no_fault c = λ number.
     subst IsProgram (c.program.ensures.value ∙ ap (λ (a : Accepted). a.code) c.deref.ensures) c.code.ensures.program in
     let (refused, loads) = c.in-Ok.ensures.loaded [] in
     frame_no_fault c.args.program.value.code refused a (state_in [] c.self.inside.tenant) after
-    loads (shown_after r after) number is status
+    loads (shown_after r after) c.encoding_inverts_parsing.ensures number is status
     (to_z-of_z w32 c.status_of.result small ∙ c.status_of.ensures after) (c.in-Ok.ensures.no_payload after)
     r refl c.in-Ok.ensures.writable

@@ -1,0 +1,127 @@
+//! Writing frames of commands, which `parse` reads again.
+
+ghost use Rattle.std.specs.Prelude.{◌≡◌, ◌++◌, OnOk};
+ghost use Rattle.std.specs.List.{flat_map};
+ghost use Rattle.byteorder.specs.Endian.{little_bytes};
+ghost use Rattle.command_frames.specs.Encoded.{frame_of};
+ghost use Rattle.command_frames.specs.Shown.{shown_command};
+
+use crate::body::CONTEXT_LENGTH;
+use crate::command::{
+    CLOSE, Command, MAP_CREATE, MAP_DELETE_ELEM, MAP_GET_NEXT_KEY, MAP_LOOKUP_ELEM,
+    MAP_UPDATE_ELEM, PROG_LOAD, PROG_TEST_RUN,
+};
+use byteorder::{ByteOrder, LittleEndian};
+use std::alloc::AllocError;
+use words::GIVEN_WORDS;
+
+/// Appends a number in four bytes, little-endian.
+#[inline(always)]
+fn append(frame: &mut Vec<u8>, number: u32) -> Result<(), AllocError>
+    ensures { OnOk result (frame.new.items ≡ frame.old.items ++ little_bytes 4 number) }
+{
+    frame.extend_from_slice(&number.to_le_bytes())
+}
+
+/// Writes the tenant and the number of a command, which replace the buffer's contents.
+#[inline(always)]
+fn begin(frame: &mut Vec<u8>, tenant: u16, command: u16) -> Result<(), AllocError>
+    ensures { OnOk result (frame.new.items ≡ little_bytes 2 tenant ++ little_bytes 2 command) }
+{
+    frame.clear();
+    frame.extend_from_slice(&tenant.to_le_bytes())?;
+    frame.extend_from_slice(&command.to_le_bytes())
+}
+
+/// Writes a frame whose body is a number in four bytes, a descriptor or a type, and then these bytes.
+#[inline(always)]
+fn write_named(
+    frame: &mut Vec<u8>,
+    tenant: u16,
+    command: u16,
+    number: u32,
+    bytes: &[u8],
+) -> Result<(), AllocError>
+    ensures { OnOk result (frame.new.items ≡ little_bytes 2 tenant
+        ++ (little_bytes 2 command ++ (little_bytes 4 number ++ bytes.now))) }
+{
+    begin(frame, tenant, command)?;
+    append(frame, number)?;
+    frame.extend_from_slice(bytes)
+}
+
+/// Appends the words of a context, four bytes each, little-endian.
+#[inline(always)]
+fn append_words(frame: &mut Vec<u8>, words: [u32; GIVEN_WORDS]) -> Result<(), AllocError>
+    ensures { OnOk result (frame.new.items ≡ frame.old.items ++ flat_map (little_bytes 4) words) }
+{
+    let mut bytes = [0; CONTEXT_LENGTH];
+    LittleEndian::write_u32_into(&words, &mut bytes);
+    frame.extend_from_slice(&bytes)
+}
+
+/// Writes the frame of a test run: a descriptor, the words of the context, and the packet.
+#[inline(always)]
+fn write_run(
+    frame: &mut Vec<u8>,
+    tenant: u16,
+    fd: u32,
+    words: [u32; GIVEN_WORDS],
+    packet: &[u8],
+) -> Result<(), AllocError>
+    ensures { OnOk result (frame.new.items ≡ little_bytes 2 tenant
+        ++ (little_bytes 2 10
+        ++ (little_bytes 4 fd ++ (flat_map (little_bytes 4) words ++ packet.now)))) }
+{
+    begin(frame, tenant, PROG_TEST_RUN)?;
+    append(frame, fd)?;
+    append_words(frame, words)?;
+    frame.extend_from_slice(packet)
+}
+
+/// Writes the frame of a command to a tenant, without its length before it, which replaces the buffer's contents. `parse` reads this command
+/// from the frame, if that is at most `LONGEST_FRAME` bytes long. `AllocError`: out of memory.
+#[inline(always)]
+pub fn write_command(
+    tenant: u16,
+    command: Command<'_>,
+    frame: &mut Vec<u8>,
+) -> Result<(), AllocError>
+    ensures { OnOk result (frame.new.items ≡ frame_of tenant (shown_command command.entry)) }
+{
+    match command {
+        Command::MapCreate {
+            kind,
+            key_size,
+            value_size,
+            max_entries,
+            flags,
+        } => {
+            begin(frame, tenant, MAP_CREATE)?;
+            append(frame, kind)?;
+            append(frame, key_size)?;
+            append(frame, value_size)?;
+            append(frame, max_entries)?;
+            append(frame, flags)
+        }
+        Command::MapLookup { fd, key } => write_named(frame, tenant, MAP_LOOKUP_ELEM, fd, key),
+        Command::MapUpdate {
+            fd,
+            flags,
+            key_and_value,
+        } => {
+            begin(frame, tenant, MAP_UPDATE_ELEM)?;
+            append(frame, fd)?;
+            frame.extend_from_slice(&flags.to_le_bytes())?;
+            frame.extend_from_slice(key_and_value)
+        }
+        Command::MapDelete { fd, key } => write_named(frame, tenant, MAP_DELETE_ELEM, fd, key),
+        Command::MapNextKey { fd, key } => write_named(frame, tenant, MAP_GET_NEXT_KEY, fd, key),
+        Command::ProgLoad { kind, slots } => write_named(frame, tenant, PROG_LOAD, kind, slots),
+        Command::ProgTestRun { fd, words, packet } => write_run(frame, tenant, fd, words, packet),
+        Command::Close { fd } => {
+            begin(frame, tenant, CLOSE)?;
+            append(frame, fd)
+        }
+    }
+}

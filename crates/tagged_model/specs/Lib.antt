@@ -10,6 +10,3 @@ pub mod HelperLaws
 pub mod Step
 pub mod StateInvariant
 pub mod StateLaws
-pub mod Admits
-pub mod Laws
-pub mod AdmitsLaws

@@ -14,19 +14,10 @@
 //! final state; it takes at most as many steps as the program has slots. It knows nothing of memory: a map has all that it can
 //! need from its creation.
 //!
-//! `AdmitsBy` says which states facts admit: each register and each cell is what its kind says, and the result of a look-up is
-//! one value in all its copies.
+//! What an analysis knows of states is not here: which states facts admit is defined in `abstraction`.
 //!
 //! # What is proved
 //!
-//! - The join of the facts on two edges admits what the facts on either admit: `join_admits`.
-//! - A load from the stack that the facts allow gives a value of the kind that they say; a store that they allow leaves a state
-//!   that the facts after it admit: `stack_read_admits`, `stack_write_admits`.
-//! - Bytes that a helper may read are present. Bytes that it writes, a load and a store within a value, a change of a map and
-//!   the result of a call leave what the facts after them admit: `stack_input_admits`, `stack_output_admits`,
-//!   `object_read_admits`, `object_write_admits`, `value_load_admits`, `value_store_admits`, `map_calls_keep`,
-//!   `map_change_admits`, `call_admits`, `site_admits`.
-//! - After a null test of a look-up's result, the settled facts admit the state: `null_test_admits`.
 //! - Whatever the objects of a map represent, as their elements or their bytes, the replies are those of the map of what they
 //!   represent, which changes as the definition says: `calls_refine_values`.
 //! - A key that an update finds present is in the map, a new one is not, and no verdict is out of memory:

@@ -22,7 +22,7 @@ use Rattle.reg_kinds.specs.declared.reason.Reason.TheVariants.{NoDirectValue}
 use Rattle.reg_kinds.specs.Reason.{and_then_ok}
 use Rattle.reg_kinds.specs.Pointers.{value_span}
 use Rattle.reg_kinds.specs.Kinds.{kind_at, slot_at, with_kind}
-use Rattle.tagged_model.specs.Admits.{IsKindBelow, IsSlotBelow, AreBelow, objects_of, witness_at}
+use Rattle.abstraction.specs.Admits.{IsKindBelow, IsSlotBelow, AreBelow, objects_of, witness_at}
 use Rattle.tagged_model.specs.declared.helper.Helper.{Helper}
 use Rattle.tagged_model.specs.declared.shape.MapShape.{MapShape}
 use Rattle.tagged_model.specs.Helpers.{helper_of, called}
@@ -35,7 +35,7 @@ use Rattle.tagged_model.specs.Table.{has_direct_value, direct_object}
 use Rattle.words.specs.Widths.{width}
 use Rattle.insn_set.specs.Atomic.{access_size}
 use Rattle.tagged_model.specs.Cells.{and_then}
-use Rattle.tagged_model.specs.Laws.{MapCallsKeep, SiteAdmits}
+use Rattle.abstraction.specs.Laws.{MapCallsKeep, SiteAdmits}
 use Rattle.tagged_model.specs.Values.{arithmetic, first_operand, of_number, compared}
 use Rattle.tagged_model.specs.State.{RunState, load, store}
 use Rattle.tagged_model.specs.Step.{Step, goes, or_fault, operand_value, advanced, assigned, changed, branched, ended, accessed, act_of, act}

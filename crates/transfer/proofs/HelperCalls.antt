@@ -34,9 +34,9 @@ use Rattle.tagged_model.specs.Helpers.{GivenMap, map_given, number_given, length
 use Rattle.tagged_model.specs.Helpers.{map_argument, looked_up, MapReply, put, updated, taken_out, removed, errno}
 use Rattle.tagged_model.specs.Helpers.{packet_bytes, packet_answer, is_in_packet, negative, outside, returns, replies, called}
 use Rattle.tagged_model.specs.StateInvariant.{AreBytes, IsMapOf, HasMaps}
-use Rattle.tagged_model.specs.Admits.{Witness, IsOfKind, IsLookup, HasKind, AdmitsBy, objects_of, AreBelow, witness_at}
-use Rattle.tagged_model.specs.Laws.{StackInputAdmits, StackOutputAdmits, ObjectReadAdmits, ObjectWriteAdmits}
-use Rattle.tagged_model.specs.Laws.{MapCallsKeep, KeepsShape, Describes, MapChangeAdmits, CallAdmits, SiteAdmits}
+use Rattle.abstraction.specs.Admits.{Witness, IsOfKind, IsLookup, HasKind, AdmitsBy, objects_of, AreBelow, witness_at}
+use Rattle.abstraction.specs.Laws.{StackInputAdmits, StackOutputAdmits, ObjectReadAdmits, ObjectWriteAdmits}
+use Rattle.abstraction.specs.Laws.{MapCallsKeep, KeepsShape, Describes, MapChangeAdmits, CallAdmits, SiteAdmits}
 use Rattle.transfer.specs.Arithmetic.{check_readable}
 use Rattle.tagged_model.specs.Named.{Shapes}
 use Rattle.transfer.specs.declared.calls.ShapedMap.{ShapedMap}

@@ -30,8 +30,8 @@ use Rattle.tagged_model.specs.Values.{is_null_test, holds_of_pointers, compared}
 use Rattle.tagged_model.specs.State.{RunState, at_slot}
 use Rattle.tagged_model.specs.Step.{goes, or_fault, operand_value, branched}
 use Rattle.insn_set.specs.Flow.{natural}
-use Rattle.tagged_model.specs.Laws.{NullTestAdmits}
-use Rattle.tagged_model.specs.Admits.{IsLookup}
+use Rattle.abstraction.specs.Laws.{NullTestAdmits}
+use Rattle.abstraction.specs.Admits.{IsLookup}
 use Rattle.transfer.specs.Branches.{Edges, with_source, with_pair, is_same, number_edges, null_edges, settled_edges, branch_edges}
 use Rattle.transfer.specs.Sound.{EdgeAdmits, TakenEdgeAdmits}
 use Rattle.transfer.proofs.Parts.{AtBothWidths, at_width, Here, IsFound, IsKnown, OnJumping, IsCovered, IsCoveredIf}

@@ -34,7 +34,7 @@ use Rattle.tagged_model.specs.State.{stack_store, word_at, context_load, object_
 use Rattle.insn_set.specs.Atomic.{atomic_operator, is_wide_atomic, access_size}
 use Rattle.tagged_model.specs.Values.{of_numbers}
 use Rattle.tagged_model.specs.Step.{changed}
-use Rattle.tagged_model.specs.Laws.{StackReadAdmits, StackWriteAdmits, ValueLoadAdmits, ValueStoreAdmits}
+use Rattle.abstraction.specs.Laws.{StackReadAdmits, StackWriteAdmits, ValueLoadAdmits, ValueStoreAdmits}
 use Rattle.transfer.specs.Effects.{is_word, context_read, load_kind, stored_outside, store_facts}
 use Rattle.transfer.specs.Effects.{number_or, stack_changed, is_known_multiple, value_changed, changed_facts}
 use Rattle.transfer.specs.Calls.{room_of, any_number}

@@ -10,9 +10,9 @@ use Rattle.tagged_model.specs.declared.value.Tagged.{Tagged}
 use Rattle.tagged_model.specs.State.{RunState, at_slot}
 use Rattle.tagged_model.specs.Step.{Step, goes, ends, faults, or_fault}
 use Rattle.tagged_model.specs.StateInvariant.{IsInRange, HasMaps}
-use Rattle.tagged_model.specs.Admits.{Witness, IsOfKind, AdmitsBy}
+use Rattle.abstraction.specs.Admits.{Witness, IsOfKind, AdmitsBy}
 use Rattle.tagged_model.specs.Named.{Shapes}
-use Rattle.tagged_model.specs.Laws.{Describes}
+use Rattle.abstraction.specs.Laws.{Describes}
 use Rattle.transfer.specs.Branches.{Edges}
 use Rattle.transfer.specs.Sound.{IsKindAt, AreWellFormedAt, EdgeAdmits}
 

@@ -9,8 +9,8 @@ use Rattle.reg_kinds.specs.declared.reason.Reason.TheVariants.{OutsideValue}
 use Rattle.tagged_model.specs.declared.shape.MapShape.{MapShape}
 use Rattle.tagged_model.specs.Named.{Shapes}
 use Rattle.tagged_model.specs.State.{RunState}
-use Rattle.tagged_model.specs.Admits.{Witness, objects_of}
-use Rattle.tagged_model.specs.Laws.{IsObject, Describes}
+use Rattle.abstraction.specs.Admits.{Witness, objects_of}
+use Rattle.abstraction.specs.Laws.{IsObject, Describes}
 use Rattle.transfer.specs.Calls.{room_of}
 use Rattle.transfer.proofs.Parts.{refused}
 

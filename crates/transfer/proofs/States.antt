@@ -20,7 +20,7 @@ use Rattle.words.specs.Widths.{width}
 use Rattle.tagged_model.specs.Values.{first_operand}
 use Rattle.tagged_model.specs.State.{RunState, set_at, at_slot, with_register}
 use Rattle.tagged_model.specs.Step.{operand_value, assigned}
-use Rattle.tagged_model.specs.Admits.{IsOfKind, HasKind}
+use Rattle.abstraction.specs.Admits.{IsOfKind, HasKind}
 use Rattle.transfer.specs.Arithmetic.{check_readable}
 use Rattle.transfer.specs.Branches.{falls}
 use Rattle.transfer.specs.Effects.{source_kind, first_kind}

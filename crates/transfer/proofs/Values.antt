@@ -22,7 +22,7 @@ use Rattle.tagged_model.specs.declared.value.Object.TheVariants as object
 use Rattle.words.specs.Widths.{width}
 use Rattle.words.specs.Words.{signed}
 use Rattle.tagged_model.specs.Values.{of_numbers, moved, sum, difference, arithmetic, of_number}
-use Rattle.tagged_model.specs.Admits.{IsOfKind}
+use Rattle.abstraction.specs.Admits.{IsOfKind}
 use Rattle.transfer.specs.declared.arithmetic.Direction.{Direction}
 use Rattle.transfer.specs.declared.arithmetic.Direction.TheVariants.{Forwards, Backwards}
 use Rattle.transfer.specs.Arithmetic.{pointer_moved, is_maybe, of_scalars, sum_kind, difference_kind, unless_maybe, arithmetic_kind, of_scalar}

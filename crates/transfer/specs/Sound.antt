@@ -14,10 +14,10 @@ use Rattle.tagged_model.specs.Cells.{and_then}
 use Rattle.tagged_model.specs.Values.{compared}
 use Rattle.tagged_model.specs.State.{RunState}
 use Rattle.tagged_model.specs.Step.{Step, goes, ends, faults, operand_value, act}
-use Rattle.tagged_model.specs.Admits.{Witness, AreBelow}
+use Rattle.abstraction.specs.Admits.{Witness, AreBelow}
 use Rattle.tagged_model.specs.declared.helper.Helper.{Helper}
 use Rattle.tagged_model.specs.Helpers.{called}
-use Rattle.tagged_model.specs.Laws.{Describes}
+use Rattle.abstraction.specs.Laws.{Describes}
 use Rattle.transfer.specs.Branches.{Edges}
 use Rattle.tagged_model.specs.Named.{Shapes}
 use Rattle.transfer.specs.Calls.{call_facts}

@@ -19,13 +19,13 @@ pub fn transfer_is_sound()
     interval::laws::edges_keep_members();
     interval::laws::results_are_members();
     interval::laws::results_are_words();
-    tagged_model::laws::null_test_admits();
-    tagged_model::laws::stack_read_admits();
-    tagged_model::laws::stack_write_admits();
-    tagged_model::laws::value_load_admits();
-    tagged_model::laws::value_store_admits();
-    tagged_model::laws::map_calls_keep();
-    tagged_model::laws::site_admits();
+    abstraction::laws::null_test_admits();
+    abstraction::laws::stack_read_admits();
+    abstraction::laws::stack_write_admits();
+    abstraction::laws::value_load_admits();
+    abstraction::laws::value_store_admits();
+    abstraction::laws::map_calls_keep();
+    abstraction::laws::site_admits();
     calls_are_sound();
 }
 
@@ -57,12 +57,12 @@ pub fn effects_need_no_memory()
 pub fn calls_are_sound()
     ensures { CallsAreSound }
 {
-    tagged_model::laws::stack_input_admits();
-    tagged_model::laws::stack_output_admits();
-    tagged_model::laws::object_read_admits();
-    tagged_model::laws::object_write_admits();
-    tagged_model::laws::map_calls_keep();
-    tagged_model::laws::map_change_admits();
-    tagged_model::laws::call_admits();
-    tagged_model::laws::site_admits();
+    abstraction::laws::stack_input_admits();
+    abstraction::laws::stack_output_admits();
+    abstraction::laws::object_read_admits();
+    abstraction::laws::object_write_admits();
+    abstraction::laws::map_calls_keep();
+    abstraction::laws::map_change_admits();
+    abstraction::laws::call_admits();
+    abstraction::laws::site_admits();
 }

@@ -13,8 +13,8 @@ use Rattle.tagged_model.specs.declared.shape.Named.{Named}
 use Rattle.tagged_model.specs.Named.{Shapes}
 use Rattle.tagged_model.specs.Cells.{and_then}
 use Rattle.tagged_model.specs.State.{RunState}
-use Rattle.tagged_model.specs.Admits.{Witness, AdmitsBy}
-use Rattle.tagged_model.specs.Laws.{JoinAdmits}
+use Rattle.abstraction.specs.Admits.{Witness, AdmitsBy}
+use Rattle.abstraction.specs.Laws.{JoinAdmits}
 use Rattle.transfer.specs.Branches.{Edges}
 use Rattle.transfer.specs.Effects.{effect}
 use Rattle.verifier.specs.Shape.{falls_into, jumps_into, structure_fault}

@@ -18,8 +18,8 @@ use Rattle.tagged_model.specs.declared.value.Outcome.TheVariants.{Value, Fault}
 use Rattle.tagged_model.specs.Cells.{bytes}
 use Rattle.tagged_model.specs.State.{RunState}
 use Rattle.tagged_model.specs.Step.{Step, goes, ends, faults, step, Ending, ending_after, run, begins_with, MapsByDescriptor, start_of_run}
-use Rattle.tagged_model.specs.Admits.{Witness, objects_of, HasKind, HasSlot, AdmitsBy}
-use Rattle.tagged_model.specs.AdmitsLaws.{no_bytes}
+use Rattle.abstraction.specs.Admits.{Witness, objects_of, HasKind, HasSlot, AdmitsBy}
+use Rattle.abstraction.specs.AdmitsLaws.{no_bytes}
 use Rattle.verifier.specs.Maps.{shapes_of}
 use Rattle.verifier.specs.Before.{facts_from_below, facts_before}
 use Rattle.verifier.specs.Verdict.{IsAccepted}

@@ -14,8 +14,8 @@ use Rattle.tagged_model.specs.Cells.{and_then}
 use Rattle.tagged_model.specs.State.{RunState}
 use Rattle.tagged_model.specs.Step.{Step, goes, ends, faults, or_fault, act}
 use Rattle.tagged_model.specs.StateInvariant.{IsInRange, HasMaps}
-use Rattle.tagged_model.specs.Admits.{Witness}
-use Rattle.tagged_model.specs.Laws.{JoinAdmits}
+use Rattle.abstraction.specs.Admits.{Witness}
+use Rattle.abstraction.specs.Laws.{JoinAdmits}
 use Rattle.transfer.specs.Branches.{Edges}
 use Rattle.transfer.specs.Effects.{effect}
 use Rattle.transfer.specs.Sound.{AreWellFormedAt, AreWellFormedOn, TransferKeepsWellFormed}

@@ -14,8 +14,8 @@ use Rattle.tagged_model.specs.Table.{Table, indexed}
 use Rattle.tagged_model.specs.State.{RunState, context_words}
 use Rattle.tagged_model.specs.Step.{Step, goes, ends, faults, act, step, MapsByDescriptor, result_of}
 use Rattle.tagged_model.specs.StateInvariant.{AreBytes}
-use Rattle.tagged_model.specs.Admits.{Witness}
-use Rattle.tagged_model.specs.Laws.{Describes}
+use Rattle.abstraction.specs.Admits.{Witness}
+use Rattle.abstraction.specs.Laws.{Describes}
 use Rattle.transfer.specs.Branches.{Edges}
 use Rattle.transfer.specs.Effects.{effect}
 use Rattle.transfer.specs.Sound.{CoversStep}

@@ -81,7 +81,7 @@ pub fn steps_go_on()
 {
     transfer::laws::transfer_is_sound();
     transfer::laws::transfer_keeps_well_formed();
-    tagged_model::laws::join_admits();
+    abstraction::laws::join_admits();
 }
 
 /// No run of an accepted program faults.
@@ -97,5 +97,5 @@ pub fn accepted_runs_are_paths()
 {
     transfer::laws::transfer_is_sound();
     transfer::laws::transfer_keeps_well_formed();
-    tagged_model::laws::join_admits();
+    abstraction::laws::join_admits();
 }

@@ -1,0 +1,8 @@
+use Rattle.abstraction.proofs.NullTests.{null_settled, start_settled}
+use Rattle.abstraction.proofs.laws.null_test_admits.Goals as goal
+
+pub returns : goal.returns
+returns c = record {
+  null = λ witness f s site h e. null_settled witness site e f s h;
+  value = λ witness f s site h e. start_settled witness site e f s h;
+}

@@ -1,0 +1,209 @@
+-- Laws of facts and of the states that they admit. This project's own.
+use Rattle.std.specs.Prelude.{◌≡◌, ◌≢◌, ◌⊎◌, ℕ, ◌<◌, ◌≤◌, ℤ, pos, ◌+ℤ◌, ◌≤ℤ◌, Bool, true, false, List, length, Option, Some, Ok}
+use Rattle.words.specs.declared.stack.AccessSize.{AccessSize}
+use Rattle.words.specs.Stack.{bytes_of}
+use Rattle.reg_kinds.specs.declared.kind.Kind.{Kind}
+use Rattle.reg_kinds.specs.declared.facts.Facts.{Facts}
+use Rattle.reg_kinds.specs.Join.{facts_join}
+use Rattle.reg_kinds.specs.Stack.{loaded, stack_read, stack_write}
+use Rattle.reg_kinds.specs.Many.{stack_input, stack_filled, called_facts}
+use Rattle.reg_kinds.specs.Settle.{facts_settled}
+use Rattle.tagged_model.specs.declared.shape.MapShape.{MapShape}
+use Rattle.tagged_model.specs.declared.value.Tagged.{Tagged}
+use Rattle.tagged_model.specs.declared.value.Tagged.TheVariants.{Scalar}
+use Rattle.tagged_model.specs.State.{RunState, RunMap, stack_load, stack_store, stack_bytes}
+use Rattle.tagged_model.specs.State.{stack_written, object_bytes, object_written, object_stored, with_map}
+use Rattle.tagged_model.specs.Cells.{number_from}
+use Rattle.tagged_model.specs.Table.{look_up, has_direct_value, direct_object}
+use Rattle.tagged_model.specs.Helpers as helpers
+use Rattle.tagged_model.specs.Helpers.{returns}
+use Rattle.tagged_model.specs.StateInvariant.{IsInRange, AreBytes, IsMapOf, HasMaps}
+use Rattle.abstraction.specs.Admits.{Witness, IsOfKind, AdmitsBy, AreBelow, witness_at}
+
+-- the join admits every state that either side admits
+abbrev pub JoinAdmits : Type 0
+JoinAdmits =
+    (witness : Witness) (a b : Facts) (s : RunState)
+    → AdmitsBy witness a s ⊎ AdmitsBy witness b s
+    → AdmitsBy witness (facts_join a b) s
+
+-- if the facts allow a load from the stack, it gives a value of the kind that they predict
+abbrev pub StackReadAdmits : Type 0
+StackReadAdmits =
+    (witness : Witness) (f : Facts) (s : RunState) (offset : ℤ) (size : AccessSize) (signed : Bool)
+    (k : Kind)
+    → IsInRange s
+    → AdmitsBy witness f s
+    → stack_read f offset size signed ≡ Ok k
+    → (v : Tagged) × (stack_load s offset size signed ≡ Some v) × IsOfKind witness k v
+
+-- if the facts allow a store into the stack, the facts after it admit the state after it
+abbrev pub StackWriteAdmits : Type 0
+StackWriteAdmits =
+    (witness : Witness) (f g : Facts) (s : RunState) (offset : ℤ) (size : AccessSize) (k : Kind)
+    (v : Tagged)
+    → IsInRange s
+    → AdmitsBy witness f s
+    → IsOfKind witness k v
+    → stack_write f offset size k ≡ Ok g
+    → (t : RunState) × (stack_store s offset size v ≡ Some t) × AdmitsBy witness g t × IsInRange t
+
+-- if the facts allow a helper to read n bytes of the stack, these are present
+abbrev pub StackInputAdmits : Type 0
+StackInputAdmits =
+    (witness : Witness) (f : Facts) (s : RunState) (x : ℤ) (n : ℕ)
+    → IsInRange s
+    → AdmitsBy witness f s
+    → stack_input f x n ≡ Ok tt
+    → (bs : List ℕ) × (stack_bytes s x n ≡ Some bs) × (length bs ≡ n) × AreBytes bs
+
+-- if the facts allow a helper to write lo to hi bytes of the stack, the facts after it admit the
+-- state after a write of any such length
+abbrev pub StackOutputAdmits : Type 0
+StackOutputAdmits =
+    (witness : Witness) (f g : Facts) (s : RunState) (x : ℤ) (lo hi : ℕ) (bs : List ℕ)
+    → IsInRange s
+    → AdmitsBy witness f s
+    → AreBytes bs
+    → lo ≤ length bs
+    → length bs ≤ hi
+    → stack_filled f x lo hi ≡ Ok g
+    → (t : RunState) × (stack_written s x bs ≡ Some t) × AdmitsBy witness g t × IsInRange t
+
+-- map m has this shape and an object with this number
+pub record IsObject (s : RunState) (m number : ℕ) (shape : MapShape) : Type 0 where
+  pub map : RunMap
+  pub there : s.maps m ≡ Some map
+  pub is : IsMapOf shape map
+  pub owned : number < map.count
+
+-- the bytes at offsets within an object are present
+abbrev pub ObjectReadAdmits : Type 0
+ObjectReadAdmits =
+    (s : RunState) (m number : ℕ) (shape : MapShape) (y : ℤ) (n : ℕ)
+    → IsInRange s
+    → IsObject s m number shape
+    → pos 0 ≤ℤ y
+    → (y +ℤ pos n) ≤ℤ pos shape.value_size
+    → (bs : List ℕ) × (object_bytes s m number y n ≡ Some bs) × (length bs ≡ n) × AreBytes bs
+
+-- a write of bytes within an object changes no fact
+abbrev pub ObjectWriteAdmits : Type 0
+ObjectWriteAdmits =
+    (witness : Witness) (f : Facts) (shapes : ℕ → Option MapShape) (s : RunState) (m number : ℕ)
+    (shape : MapShape) (y : ℤ) (bs : List ℕ)
+    → IsInRange s
+    → AdmitsBy witness f s
+    → HasMaps shapes s
+    → IsObject s m number shape
+    → AreBytes bs
+    → pos 0 ≤ℤ y → (y +ℤ pos (length bs)) ≤ℤ pos shape.value_size
+    → (u : RunState)
+    × (object_written s m number y bs ≡ Some u)
+    × AdmitsBy witness f u
+    × IsInRange u
+    × HasMaps shapes u
+    × (u.at ≡ s.at)
+
+-- the facts describe the state by the witness: they admit it, its numbers are in range, and it has
+-- a map of each shape
+pub record Describes (witness : Witness) (f : Facts) (shapes : ℕ → Option MapShape)
+    (s : RunState) : Type 0 where
+  pub admits : AdmitsBy witness f s
+  pub proper : IsInRange s
+  pub maps : HasMaps shapes s
+
+-- a load within an object gives a value of the predicted kind
+abbrev pub ValueLoadAdmits : Type 0
+ValueLoadAdmits =
+    (witness : Witness) (s : RunState) (m number : ℕ) (shape : MapShape) (y : ℤ) (size : AccessSize)
+    (signed : Bool)
+    → IsInRange s
+    → IsObject s m number shape
+    → pos 0 ≤ℤ y
+    → (y +ℤ pos (bytes_of size)) ≤ℤ pos shape.value_size
+    → (v : Tagged)
+    × (number_from size signed (object_bytes s m number y (bytes_of size)) ≡ Some v)
+    × IsOfKind witness (loaded size signed) v
+
+-- a store of a number within an object changes no fact
+abbrev pub ValueStoreAdmits : Type 0
+ValueStoreAdmits =
+    (witness : Witness) (f : Facts) (shapes : ℕ → Option MapShape) (s : RunState) (m number : ℕ)
+    (shape : MapShape) (y : ℤ) (size : AccessSize) (n : ℕ)
+    → Describes witness f shapes s
+    → IsObject s m number shape
+    → pos 0 ≤ℤ y
+    → (y +ℤ pos (bytes_of size)) ≤ℤ pos shape.value_size
+    → (u : RunState)
+    × (object_stored s size m number y (Scalar n) ≡ Some u)
+    × Describes witness f shapes u
+    × (u.at ≡ s.at)
+
+-- the map u keeps the shape of t, and all of its objects
+pub record KeepsShape (shape : MapShape) (t u : RunMap) : Type 0 where
+  pub is : IsMapOf shape u
+  pub more : t.count ≤ u.count
+  pub bytes : (number : ℕ) → AreBytes (u.values number)
+
+-- the calls of a map keep its shape and its objects, and a look-up gives one of its objects; so
+-- does a load of the direct value, if it has one
+pub record MapCallsKeep : Type 0 where
+  pub direct : (shape : MapShape) (t : RunMap) (offset : ℕ)
+      → IsMapOf shape t
+      → has_direct_value shape offset ≡ true
+      → (number : ℕ) × (direct_object t.table offset ≡ Some number) × (number < t.count)
+  pub owned : (shape : MapShape) (t : RunMap) (key : List ℕ) (number : ℕ)
+      → IsMapOf shape t
+      → look_up t.table key ≡ Some number
+      → number < t.count
+  pub updated : (shape : MapShape) (t : RunMap) (key value : List ℕ) (flags : ℕ)
+      → IsMapOf shape t
+      → ((number : ℕ) → AreBytes (t.values number))
+      → length value ≡ shape.value_size
+      → AreBytes value
+      → KeepsShape shape t (helpers.updated t key value flags).map
+  pub removed : (shape : MapShape) (t : RunMap) (key : List ℕ)
+      → IsMapOf shape t
+      → ((number : ℕ) → AreBytes (t.values number))
+      → KeepsShape shape t (helpers.removed t key).map
+
+-- if a map changes to one that keeps its shape and its objects, the facts still describe the state
+abbrev pub MapChangeAdmits : Type 0
+MapChangeAdmits =
+    (witness : Witness) (f : Facts) (shapes : ℕ → Option MapShape) (s : RunState) (m : ℕ)
+    (shape : MapShape) (t u : RunMap)
+    → Describes witness f shapes s
+    → s.maps m ≡ Some t
+    → shapes m ≡ Some shape
+    → KeepsShape shape t u
+    → Describes witness f shapes (with_map s m u)
+
+-- if a call returns a value of a kind, the facts after it describe the state after it
+abbrev pub CallAdmits : Type 0
+CallAdmits =
+    (witness : Witness) (f : Facts) (shapes : ℕ → Option MapShape) (s : RunState) (k : Kind)
+    (v : Tagged)
+    → Describes witness f shapes s
+    → IsOfKind witness k v
+    → Describes witness (called_facts f k) shapes (returns s v)
+
+-- for a site that no fact mentions, the witness may record what the look-up there gave
+abbrev pub SiteAdmits : Type 0
+SiteAdmits =
+    (witness : Witness) (f : Facts) (shapes : ℕ → Option MapShape) (s : RunState) (site : ℕ)
+    (v : Tagged)
+    → AreBelow site f
+    → Describes witness f shapes s
+    → Describes (witness_at witness s site v) f shapes s
+
+-- once a test has decided whether a look-up gave null, the settled facts admit the state
+pub record NullTestAdmits : Type 0 where
+  pub null : (witness : Witness) (f : Facts) (s : RunState) (site : ℕ)
+      → AdmitsBy witness f s
+      → witness.gave site ≡ Scalar 0
+      → AdmitsBy witness (facts_settled site true f) s
+  pub value : (witness : Witness) (f : Facts) (s : RunState) (site : ℕ)
+      → AdmitsBy witness f s
+      → witness.gave site ≢ Scalar 0
+      → AdmitsBy witness (facts_settled site false f) s

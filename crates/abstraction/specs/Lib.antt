@@ -1,0 +1,3 @@
+pub mod Admits
+pub mod Laws
+pub mod AdmitsLaws

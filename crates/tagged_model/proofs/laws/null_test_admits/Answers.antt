@@ -1,8 +1,0 @@
-use Rattle.tagged_model.proofs.NullTests.{null_settled, start_settled}
-use Rattle.tagged_model.proofs.laws.null_test_admits.Goals as goal
-
-pub returns : goal.returns
-returns c = record {
-  null = λ witness f s site h e. null_settled witness site e f s h;
-  value = λ witness f s site h e. start_settled witness site e f s h;
-}

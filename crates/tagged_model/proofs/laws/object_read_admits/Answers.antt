@@ -1,5 +1,0 @@
-use Rattle.tagged_model.proofs.Objects.{object_read}
-use Rattle.tagged_model.proofs.laws.object_read_admits.Goals as goal
-
-pub returns : goal.returns
-returns c = λ s m number shape y n proper object. object_read s m number shape proper object y n

@@ -1,6 +1,0 @@
-use Rattle.tagged_model.proofs.StackStores.{stack_stored}
-use Rattle.tagged_model.proofs.laws.stack_write_admits.Goals as goal
-
-pub returns : goal.returns
-returns c = λ witness f g s offset size k v proper admits h e.
-    stack_stored witness f s proper admits g offset size k v h e

@@ -18,14 +18,14 @@ use Rattle.bpf_text.specs.Lines.{text_lines}
 
 -- ---- slots and labels of lines; `None` is a line that has none of the forms
 
--- the slots of a line's instruction, 0 if it has none
+-- the number of slots of a line's instruction, 0 if it has none
 abbrev pub line_slots : Option Line → ℕ
 line_slots None = 0
 line_slots (Some blank) = 0
 line_slots (Some (label n)) = 0
 line_slots (Some (code form n)) = form_slots form
 
--- the slots of all these lines
+-- the number of slots of all these lines
 unfoldable pub slots_on : List (Option Line) → ℕ
 slots_on [] = 0
 slots_on (line ∷ lines) = line_slots line + slots_on lines
@@ -37,31 +37,33 @@ defines name (Some blank) = false
 defines name (Some (label n)) = bytes_eq name n
 defines name (Some (code form n)) = false
 
--- the first line that defines a label, counted from 0
+-- the first line that defines a label, counted from 0; `None` if no line does
 unfoldable pub label_line : List ℕ → List (Option Line) → Option ℕ
 label_line name [] = None
 label_line name (line ∷ lines) =
     if defines name line then Some 0 else option_map suc (label_line name lines)
 
--- the slot of a label: the number of slots before its line
+-- the slot of a label: the number of slots before the first line that defines it, 0 if no line does
 abbrev pub label_slot : List (Option Line) → List ℕ → ℕ
 label_slot lines name = slots_on (take (unwrap_or (label_line name lines) 0) lines)
 
 -- ---- faults
 
--- whether some line defines the label that a form names, if it names one
+-- whether some line defines the label that a form names; true of a form that names none
 abbrev pub is_known : List (Option Line) → Form → List ℕ → Bool
 is_known lines form name = not (names_label form) || is_some (label_line name lines)
 
--- whether a line before line i defines the label of this name
+-- whether a line before line i, counted from 0, defines the label of this name
 abbrev pub is_twice : List (Option Line) → ℕ → List ℕ → Bool
 is_twice lines i name = nat_lt (unwrap_or (label_line name lines) i) i
 
--- these slots go past the most that a program may have, and those before them do not
+-- `slots` more slots go past the most that a program may have, and the `before` slots before them
+-- do not: so at most one line of a text does this
 abbrev pub passes : ℕ → ℕ → Bool
 passes before slots = nat_le before most_slots && nat_lt most_slots (before + slots)
 
--- the fault of a line, of the lowest kind, given its index and the slots before it
+-- the fault of a line of `lines`, of the lowest kind, given its index i and the slots before it;
+-- `None` if it has none, as a blank line
 abbrev pub line_fault : List (Option Line) → ℕ → ℕ → Option Line → Option TextFaultKind
 line_fault lines i before None = Some Syntax
 line_fault lines i before (Some blank) = None
@@ -74,7 +76,8 @@ line_fault lines i before (Some (code form name)) =
     Some UnknownLabel) else
     Some Range
 
--- the fault of line i, counted from 0; `None` if no line has this index
+-- the fault of line i, counted from 0, which is given if there is one; `None` if no line has this
+-- index, or the line has no fault
 abbrev pub line_fault_of : List (Option Line) → ℕ → Option (Option Line) → Option TextFaultKind
 line_fault_of lines i None = None
 line_fault_of lines i (Some line) = line_fault lines i (slots_on (take i lines)) line
@@ -85,12 +88,13 @@ fault_at lines i = line_fault_of lines i (slice_get lines i)
 
 -- ---- the program
 
--- the distance to a label: its slot minus the next slot
+-- the distance in slots to a label from a jump at `slot`: the label's slot minus the next slot
 abbrev pub distance : List (Option Line) → ℕ → List ℕ → ℤ
 distance lines slot name = pos (label_slot lines name) -ℤ pos (slot + 1)
 
--- the written forms of the lines from a slot on, with labels replaced by distances: `all` are all
--- lines of the text, one of which defines the label
+-- the written forms of the lines, with `slot` slots before the first of them, and with labels
+-- replaced by distances: `all` are all lines of the text, one of which defines the label. A line
+-- without an instruction has no form.
 unfoldable pub forms_from : List (Option Line) → ℕ → List (Option Line) → List Form
 forms_from all slot [] = []
 forms_from all slot (None ∷ lines) = forms_from all slot lines
@@ -99,7 +103,7 @@ forms_from all slot (Some (label n) ∷ lines) = forms_from all slot lines
 forms_from all slot (Some (code form n) ∷ lines) =
     resolved (distance all slot n) form ∷ forms_from all (slot + form_slots form) lines
 
--- the second list has the readings of the lines of the first, in order
+-- the second list has the readings of the lines of the first, in order, and as many
 abbrev pub AreRead : List (List ℕ) → List (Option Line) → Type 0
 AreRead [] [] = Unit {0}
 AreRead (bytes ∷ more) (line ∷ lines) = ReadAs bytes line × AreRead more lines

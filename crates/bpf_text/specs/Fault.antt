@@ -25,11 +25,11 @@ empty_fault = record { line = 0; kind = Empty }
 -- Below, `fault_at i` is the fault of line i + 1, of the lowest kind that the line has; None if it
 -- has no fault.
 
--- no line below has a fault
+-- no line whose index, from 0, is below n has a fault
 abbrev pub NoneBelow : (ℕ → Option TextFaultKind) → ℕ → Type 0
 NoneBelow fault_at n = (i : ℕ) → i < n → fault_at i ≡ None
 
--- the fault of the first line that has one
+-- the fault of the first line that has one; a fault counts lines from 1, the index from 0
 pub record IsFirstFaultyLine (fault_at : ℕ → Option TextFaultKind)
     (fault : TextFault) : Type 0 where
   pub index : ℕ
@@ -37,7 +37,7 @@ pub record IsFirstFaultyLine (fault_at : ℕ → Option TextFaultKind)
   pub here : fault_at index ≡ Some fault.kind
   pub below : NoneBelow fault_at index
 
--- no line has a fault, and there is no slot
+-- the fault of a text of which no line has a fault and that has no slot: `slots` is their number
 pub record IsEmpty (fault_at : ℕ → Option TextFaultKind) (slots : ℕ)
     (fault : TextFault) : Type 0 where
   pub fault_is : fault ≡ empty_fault

@@ -12,14 +12,15 @@ use Rattle.text_line.specs.Blanks.{stripped}
 use Rattle.bpf_text.specs.Fault.{IsFaultBy}
 use Rattle.bpf_text.specs.Lines.{text_lines}
 
--- each eight bytes as a line of sixteen lower-case digits
+-- each eight bytes as a line of sixteen lower-case digits, with a line feed; fewer than eight at
+-- the end have no line
 unfoldable pub hex_text : List ℕ → List ℕ
 hex_text (a ∷ b ∷ c ∷ d ∷ e ∷ f ∷ g ∷ h ∷ bytes) =
     encode_lower (a ∷ b ∷ c ∷ d ∷ e ∷ f ∷ g ∷ h ∷ []) ++ 10 ∷ hex_text bytes
 hex_text _ = []
 
 -- the bytes on a line without blanks at its ends: no byte if it is empty, else eight bytes in
--- sixteen digits of either case
+-- sixteen digits of either case; `None` if it is neither
 abbrev pub hex_digits : List ℕ → Option (List ℕ)
 hex_digits digits = if length digits == 0 then Some [] else result_ok (decode_sized digits 8)
 
@@ -27,11 +28,12 @@ hex_digits digits = if length digits == 0 then Some [] else result_ok (decode_si
 unfoldable pub hex_line : List ℕ → Option (List ℕ)
 hex_line line = hex_digits (stripped line)
 
--- the bytes on the lines that have any
+-- the bytes on all lines, in order; a blank line, and one that is no slot, has none
 abbrev pub hex_bytes : List (List ℕ) → List ℕ
 hex_bytes lines = flat_map (λ line. unwrap_or (hex_line line) []) lines
 
--- the fault of a line with these bytes, after lines of `before` bytes
+-- the fault of a line with these bytes (`None` if it is no slot), after lines of `before` bytes: it
+-- is too long if its bytes, and not those before, go past what a program may have
 abbrev pub hex_fault : ℕ → Option (List ℕ) → Option TextFaultKind
 hex_fault before None = Some Syntax
 hex_fault before (Some bytes) =
@@ -39,16 +41,17 @@ hex_fault before (Some bytes) =
     then Some TooLong
     else None
 
--- the fault of a line, after lines of `before` bytes; `None` if no line is given
+-- the fault of a line, after lines of `before` bytes; `None` if no line is given or it has none
 abbrev pub hex_fault_of : ℕ → Option (List ℕ) → Option TextFaultKind
 hex_fault_of before None = None
 hex_fault_of before (Some line) = hex_fault before (hex_line line)
 
--- the fault of line i, counted from 0; `None` if it has none
+-- the fault of line i, counted from 0; `None` if it has none, or if no line has this index
 unfoldable pub hex_fault_at : List (List ℕ) → ℕ → Option TextFaultKind
 hex_fault_at lines i = hex_fault_of (length (hex_bytes (take i lines))) (slice_get lines i)
 
--- the text has the bytes of these slots, at least one and at most as many as a program may have
+-- the text has the bytes of these slots, at least one and, since no line is too long, at most as
+-- many as a program may have
 pub record IsHexText (text bytes : List ℕ) : Type 0 where
   pub none : (i : ℕ) → hex_fault_at (text_lines text) i ≡ None
   pub bytes_are : bytes ≡ hex_bytes (text_lines text)

@@ -11,22 +11,22 @@ use Rattle.bpf_text.specs.Printed.{printed}
 abbrev pub OneProgram : Type 0
 OneProgram = (text : List ℕ) (a b : List Insn) → IsAssembled text a → IsAssembled text b → a ≡ b
 
--- a text with a program has no fault of its own
+-- a text with a program has no fault of its own, which is any but out of memory
 abbrev pub ProgramHasNoFault : Type 0
 ProgramHasNoFault =
     (text : List ℕ) (insns : List Insn) (fault : TextFault)
     → IsAssembled text insns
     → ¬ IsOwnFault text fault
 
--- a text has at most one fault of its own
+-- a text has at most one fault of its own, which is any but out of memory
 abbrev pub OneFault : Type 0
 OneFault = (text : List ℕ) (a b : TextFault) → IsOwnFault text a → IsOwnFault text b → a ≡ b
 
--- the program of the printed text of a program is that program
+-- the printed text of a program assembles to this program
 abbrev pub PrintedIsAssembled : Type 0
 PrintedIsAssembled = (insns : List Insn) → IsProgram insns → IsAssembled (printed insns) insns
 
--- the slots of the hex lines of a program are its slots
+-- the slots that are read from the hex lines of a program are the program's
 abbrev pub HexLinesAreRead : Type 0
 HexLinesAreRead =
     (insns : List Insn)

@@ -40,14 +40,14 @@ fn read_lines<'a>(alloc: Global, text: &'a [&'a str]) -> Result<Vec<Option<Line<
     Ok(lines)
 }
 
-/// A line, as of the definition of a label: its index, from 0, and the number of slots before it.
+/// A line by its index, from 0, and the number of slots before it: the line that defines a label, or the one that is assembled.
 #[derive(Clone, Copy, Debug)]
 struct Definition {
     line: usize,
     slot: usize,
 }
 
-/// The number of slots of a line's instruction; 0 if it has none.
+/// The number of slots of a line's instruction; 0 if the line is blank, defines a label, or has none of the forms.
 fn line_slots(line: &Option<Line<'_>>) -> usize
     ensures value { result ≡ line_slots (seen_option line.now) }
     ensures bound { result ≤ 2 }
@@ -58,7 +58,7 @@ fn line_slots(line: &Option<Line<'_>>) -> usize
     }
 }
 
-/// The name of the label that a line defines, if it defines one.
+/// The name of the label that a line defines; `None` if it defines none.
 fn defined<'a>(line: &Option<Line<'a>>) -> Option<&'a str>
     ensures { option_map (λ n. n.now) result ≡ label_defined (seen_option line.now) }
 {
@@ -68,7 +68,8 @@ fn defined<'a>(line: &Option<Line<'a>>) -> Option<&'a str>
     }
 }
 
-/// Enters the label that a line defines, if it defines one, with the line's index and slot, unless an earlier line defines it.
+/// Enters the label that a line defines, with `definition`, the line's index and the slots before it. Nothing is entered if the line
+/// defines no label, or one that an earlier line defines: the first definition counts.
 fn note<'a>(
     labels: &mut HashMap<&'a str, Definition>,
     line: &Option<Line<'a>>,
@@ -87,7 +88,7 @@ fn note<'a>(
     Ok(())
 }
 
-/// The definition of the first line that defines each label.
+/// For each label, the index of the first line that defines it, and the number of slots before this line.
 fn labels<'a>(
     alloc: Global,
     lines: &[Option<Line<'a>>],
@@ -110,8 +111,9 @@ fn definition_of_label(labels: &HashMap<&str, Definition>, name: &str) -> Option
     labels.get(name).copied()
 }
 
-/// The distance in slots from slot `slot + 1` to a label. So that it fits, a label that no line defines counts as one of slot 0, and one
-/// past `MAX_SLOTS` as one of that slot: the text of a jump to them has a fault.
+/// The distance in slots from slot `slot + 1`, which is next after a jump, to a label. So that it fits 16 bits, a label past `MAX_SLOTS`
+/// counts as one at that slot: its text is too long. A label that no line defines, which is a fault too, counts as one at slot 0.
+/// A form that names no label has `None` too, and does not use the distance.
 fn distance(label: Option<Definition>, slot: usize) -> i16
     requires { slot ≤ MAX_SLOTS }
     ensures { result ≡ kept_distance label slot }
@@ -123,7 +125,8 @@ fn distance(label: Option<Definition>, slot: usize) -> i16
     to as i16 - (slot as i16 + 1)
 }
 
-/// The instruction of a form, given the definition of the label that it names and the slots before it; or its fault, the lowest kind.
+/// The instruction of a form, or its fault. The kinds are tested from the lowest on, so it is the lowest that the form has. `label` is the
+/// definition of the label that the form names, `None` if it names none or no line defines it; `slot` is the number of slots before it.
 fn resolve(form: &Form, label: Option<Definition>, slot: usize) -> Result<Insn, TextFaultKind>
     requires form { IsForm form.now }
     requires room { slot ≤ MAX_SLOTS }
@@ -144,8 +147,8 @@ fn resolve(form: &Form, label: Option<Definition>, slot: usize) -> Result<Insn, 
     Ok(insn)
 }
 
-/// The instruction on a line, with its index and the slots before it in `here`; `None` for a blank line or one that defines a label. Or
-/// the line's fault.
+/// The instruction on a line, or the line's fault. `None` for a blank line, and for the first line that defines a label: the lines after it
+/// that define the label have the fault. `here` is the line's index and the slots before it.
 fn instruction(
     labels: &HashMap<&str, Definition>,
     line: &Option<Line<'_>>,
@@ -205,7 +208,8 @@ fn instructions(
     Ok(insns)
 }
 
-/// The program of the instructions; the fault `Empty` if there is no instruction.
+/// The program of the instructions; the fault `Empty` if there is no instruction. There are at most `MAX_SLOTS` slots, so `Program::new`
+/// fails only if out of memory.
 fn program(alloc: Global, insns: &[Insn]) -> Result<Program, TextFault>
     requires { slot_count insns.now ≤ MAX_SLOTS }
     ensures made { IfOk result (λ program. (program ≡ insns.now) × (0 < slot_count insns.now)) }
@@ -221,7 +225,7 @@ fn program(alloc: Global, insns: &[Insn]) -> Result<Program, TextFault>
     }
 }
 
-/// Assembles a text, as `assemble`, whose contract also has that no other program or fault is the text's.
+/// Assembles a text for `assemble`. The contract of `assemble` adds that the text has no other program or fault.
 fn program_of(alloc: Global, text: &str) -> Result<Program, TextFault>
     ensures ok { IfOk result (λ program. IsAssembled text.now program) }
     ensures fault { IfErr result (λ e. (e ≡ memory_fault) ⊎ IsOwnFault text.now e) }
@@ -240,10 +244,10 @@ fn program_of(alloc: Global, text: &str) -> Result<Program, TextFault>
 ///
 /// # Errors
 ///
-/// The fault of the first line that has one, and the lowest kind there: `Syntax` if it has none of the forms, `Range` if a
-/// number is out of range, `UnknownLabel` if no line defines the label, `LabelTwice` if an earlier line defines it,
-/// `TooLong` if the line's slots go past `MAX_SLOTS`. If no line has a fault, `Empty` at line 0 if there is no slot.
-/// `Memory` at line 0 if out of memory.
+/// The fault of the first line that has one, and of several there, the first of these kinds: `Syntax` if it has none of the
+/// forms, `Range` if a number is out of range, `UnknownLabel` if no line defines the label that its jump names, `LabelTwice`
+/// if it defines a label that an earlier line defines, `TooLong` if its slots go past `MAX_SLOTS`. If no line has a fault,
+/// `Empty` at line 0 if there is no slot. `Memory` at line 0 if out of memory.
 pub fn assemble(alloc: Global, text: &str) -> Result<Program, TextFault>
     // A program that is returned is the one of the text.
     ensures ok { IfOk result (λ program. IsAssembled text.now program) }
@@ -256,6 +260,7 @@ pub fn assemble(alloc: Global, text: &str) -> Result<Program, TextFault>
     ensures faulty { (fault : AnyFault) → IsOwnFault text.now fault → IsErrAnd result
         (λ e. (e ≡ fault) ⊎ (e ≡ memory_fault)) }
 {
+    // Laws, which do nothing when they run: with them the contract of `program_of` gives `only` and `faulty`.
     laws::one_program();
     laws::program_has_no_fault();
     laws::one_fault();

@@ -20,7 +20,7 @@ use std::fmt::Write;
 
 // ---- names
 
-/// The name of a register's 64 bits.
+/// The name of a register's 64 bits. The last arm is 10, the highest register.
 fn wide_name(reg: Reg) -> &'static str
     ensures { result.now ≡ register_name true reg }
 {
@@ -39,7 +39,7 @@ fn wide_name(reg: Reg) -> &'static str
     }
 }
 
-/// The name of a register's low 32 bits.
+/// The name of a register's low 32 bits. The last arm is 10, the highest register.
 fn half_name(reg: Reg) -> &'static str
     ensures { result.now ≡ register_name false reg }
 {
@@ -67,7 +67,7 @@ fn register_name(wide: bool, reg: Reg) -> &'static str
 
 // ---- parts of a line
 
-/// Writes a number, with a minus if it is negative.
+/// Appends a number in decimal, with a minus if it is negative.
 fn write_constant(text: &mut String, n: i32) -> Result<(), AllocError>
     ensures { OnOk result (string_bytes text.new ≡ string_bytes text.old
         ++ laid_out (constant_layout (number_of n) [])) }
@@ -75,7 +75,7 @@ fn write_constant(text: &mut String, n: i32) -> Result<(), AllocError>
     write!(text, "{n}")
 }
 
-/// The sign of a number, `+` or `-`, and its magnitude.
+/// The sign of a number, `+` or `-`, and the number without its sign, up to 2 ^ 31.
 fn signed_parts(n: i32) -> (&'static str, u32)
     ensures sign { result.0.now ≡ sign_name (number_of n).negative }
     ensures digits { decimal result.1 ≡ piece (Some (number (number_of n).magnitude)) }
@@ -84,7 +84,7 @@ fn signed_parts(n: i32) -> (&'static str, u32)
     (sign, n.unsigned_abs())
 }
 
-/// Writes the second operand: a constant, or the name of a register, of its 64 bits if `wide`, else of its low 32.
+/// Appends the second operand: a constant, or the name of a register, of its 64 bits if `wide`, else of its low 32.
 fn write_operand(text: &mut String, wide: bool, src: Operand) -> Result<(), AllocError>
     ensures { OnOk result (string_bytes text.new ≡ string_bytes text.old
         ++ laid_out (operand_layout wide (source_of src) [])) }
@@ -97,7 +97,7 @@ fn write_operand(text: &mut String, wide: bool, src: Operand) -> Result<(), Allo
 
 // ---- lines of instructions
 
-/// Writes an operation of two operands, or a move.
+/// Appends the line of an operation of two operands, or of a move.
 #[tactic(auto, unfolding(text_line::specs::Written::printed_insn))]
 fn write_alu(
     text: &mut String,
@@ -114,7 +114,7 @@ fn write_alu(
     write_operand(text, wide, src)
 }
 
-/// Writes a move with sign extension.
+/// Appends the line of a move with sign extension.
 #[tactic(auto, unfolding(text_line::specs::Written::printed_insn))]
 fn write_movsx(text: &mut String, movsx: &Movsx) -> Result<(), AllocError>
     ensures { OnOk result (string_bytes text.new ≡ string_bytes text.old
@@ -134,7 +134,7 @@ fn write_movsx(text: &mut String, movsx: &Movsx) -> Result<(), AllocError>
     write!(text, "{dst} = ({bits}){src}")
 }
 
-/// Writes a conditional jump.
+/// Appends the line of a conditional jump, with its offset in slots.
 #[tactic(auto, unfolding(text_line::specs::Written::printed_insn))]
 fn write_jump(
     text: &mut String,
@@ -154,7 +154,7 @@ fn write_jump(
     write!(text, " goto {sign}{slots}")
 }
 
-/// Writes a load.
+/// Appends the line of a load. Its address is register `src` and an offset.
 #[tactic(auto, unfolding(text_line::specs::Written::printed_insn))]
 fn write_load(text: &mut String, load: &Load) -> Result<(), AllocError>
     ensures { OnOk result (string_bytes text.new ≡ string_bytes text.old
@@ -172,7 +172,7 @@ fn write_load(text: &mut String, load: &Load) -> Result<(), AllocError>
     write!(text, "{dst} = *({size} *)({base} {sign} {offset})")
 }
 
-/// Writes a store.
+/// Appends the line of a store. Its address is register `dst` and an offset; a register that is stored is named as one of 64 bits.
 #[tactic(auto, unfolding(text_line::specs::Written::printed_insn))]
 fn write_store(
     text: &mut String,
@@ -190,7 +190,7 @@ fn write_store(
     write_operand(text, true, src)
 }
 
-/// Writes an atomic operation.
+/// Appends the line of an atomic operation. Its address is register `dst` and an offset.
 #[tactic(auto, unfolding(text_line::specs::Written::printed_insn))]
 fn write_atomic(
     text: &mut String,
@@ -209,7 +209,7 @@ fn write_atomic(
     write!(text, "lock *({size} *)({base} {sign} {offset}) {op} {src}")
 }
 
-/// Writes a load of a map by its descriptor.
+/// Appends the line of a load of a map by its descriptor.
 #[tactic(auto, using(crate::proofs::Printing::laid_out_constant), unfolding(text_line::specs::Written::printed_insn))]
 fn write_map_fd(text: &mut String, dst: Reg, fd: i32) -> Result<(), AllocError>
     ensures { OnOk result (string_bytes text.new ≡ string_bytes text.old
@@ -221,7 +221,7 @@ fn write_map_fd(text: &mut String, dst: Reg, fd: i32) -> Result<(), AllocError>
     text.push_str(" ll")
 }
 
-/// Writes a load of an address in a map's value.
+/// Appends the line of a load of an address in a map's value: the map's descriptor, and the offset in the value.
 fn write_map_value(text: &mut String, dst: Reg, fd: i32, off: u32) -> Result<(), AllocError>
     ensures { OnOk result (string_bytes text.new ≡ string_bytes text.old
         ++ printed_insn (Insn.MapValue dst fd off)) }
@@ -295,16 +295,18 @@ pub fn write_insn(text: &mut String, insn: &Insn) -> Result<(), AllocError>
     }
 }
 
-/// The text of a program: an instruction on each line, numbers in decimal, jumps as numbers.
+/// The text of a program: an instruction on each line, numbers in decimal, jumps as numbers. The second slot of a wide instruction has
+/// no line.
 ///
 /// # Errors
 ///
 /// `AllocError`: out of memory.
 pub fn disassemble(alloc: Global, program: &Program) -> Result<String, AllocError>
     ensures text { IfOk result (λ text. string_bytes text ≡ printed program.now) }
-    // `assemble` turns the text into the same program.
+    // The text assembles to the program.
     ensures program { IfOk result (λ text. IsAssembled (string_bytes text) program.now) }
 {
+    // Two laws, which do nothing when they run.
     program.insns_in_order();
     laws::printed_text_is_assembled();
     let mut text = String::new(alloc);

@@ -4,7 +4,7 @@ ghost use Rattle.std.specs.Prelude.{◌≡◌, ◌<◌, ◌^◌};
 
 use std::alloc::{AllocError, AllocFailed};
 
-/// The kinds of faults, lowest first.
+/// The kinds of faults, lowest first: a line that has several has the lowest of them.
 #[derive(Clone, Copy, Debug, PartialEq, Eq)]
 pub enum TextFaultKind {
     /// The line has none of the forms.
@@ -26,7 +26,7 @@ pub enum TextFaultKind {
 impl TextFaultKind {
     ghost use Rattle.bpf_text.specs.Fault.{kind_number};
 
-    /// The kind's number, from 1 to 7.
+    /// The kind's number, from 1, the lowest, to 7.
     pub fn number(self) -> u16
         ensures { result ≡ kind_number self }
     {
@@ -49,13 +49,13 @@ pub struct TextFault {
     pub kind: TextFaultKind,
 }
 
-/// Out of memory.
+/// The fault of a text for which memory is refused.
 pub(crate) const OUT_OF_MEMORY: TextFault = TextFault {
     line: 0,
     kind: TextFaultKind::Memory,
 };
 
-/// The text has no slot.
+/// The fault of a text without a slot of which no line has a fault.
 pub(crate) const NO_SLOT: TextFault = TextFault {
     line: 0,
     kind: TextFaultKind::Empty,
@@ -64,7 +64,8 @@ pub(crate) const NO_SLOT: TextFault = TextFault {
 impl TextFault {
     ghost use Rattle.bpf_text.specs.inside.Faults.{fault_on};
 
-    /// The fault of the line with this index, counted from 0; `Memory` is a fault of the whole text.
+    /// The fault of the line with this index, counted from 0, so that its number is `index + 1`; `Memory` is a fault of the whole text,
+    /// at line 0.
     pub(crate) fn at(index: usize, kind: TextFaultKind) -> TextFault
         requires { index < 2 ^ 63 }
         ensures { result ≡ fault_on index kind }
@@ -78,6 +79,7 @@ impl TextFault {
     }
 }
 
+/// With `?`, a refusal of memory becomes the fault `Memory` at line 0.
 impl From<AllocError> for TextFault {
     ghost use Rattle.bpf_text.specs.Fault.{memory_fault};
 
@@ -88,6 +90,7 @@ impl From<AllocError> for TextFault {
     }
 }
 
+/// With `?`, a refusal of memory that returns a value becomes the fault `Memory` at line 0; the value is dropped.
 impl<T: Drop> From<AllocFailed<T>> for TextFault {
     ghost use Rattle.bpf_text.specs.Fault.{memory_fault};
 

@@ -24,14 +24,16 @@ use text_line::stripped;
 /// `AllocError`: out of memory.
 pub fn hex_lines(alloc: Global, program: &Program) -> Result<String, AllocError>
     ensures text { IfOk result (λ text. string_bytes text ≡ hex_text (program_bytes program.now)) }
-    // `from_hex_lines` turns the text into the same slots.
+    // `from_hex_lines` reads the program's slots from the text.
     ensures slots { IfOk result (λ text. IsHexText (string_bytes text)
         (program_bytes program.now)) }
 {
+    // A law, which does nothing when it runs: it gives `slots`.
     laws::hex_lines_are_read();
     let bytes = write_program(alloc, program)?;
     let mut text = String::new(alloc);
     let mut rest = bytes.as_slice();
+    // The bytes are eight for each slot, so none is left.
     while rest.len() >= 8 {
         let (slot, after) = rest.split_at(8);
         text.push_str(&hex::encode(alloc, slot)?)?;
@@ -71,7 +73,7 @@ pub fn from_hex_lines(alloc: Global, text: &str) -> Result<Vec<u8>, TextFault>
     Ok(bytes)
 }
 
-/// The bytes of the slots on the lines, in order.
+/// The bytes of the slots on the lines, in order, of which there may be none; or the fault of the first line that has one.
 fn slots_on(alloc: Global, lines: &[&str]) -> Result<Vec<u8>, TextFault>
     ensures found { IfOk result (λ bytes. bytes.items
         ≡ hex_bytes (map (λ line. line.now) lines.now)) }
@@ -89,7 +91,8 @@ fn slots_on(alloc: Global, lines: &[&str]) -> Result<Vec<u8>, TextFault>
     Ok(bytes)
 }
 
-/// Appends the slot of a line, eight bytes, to `bytes`, if the line has one. `bytes` has those of the lines before it.
+/// Appends the slot of a line, eight bytes, to `bytes`, which has the slots of the lines before it; a blank line has none. Or returns the
+/// fault: `Syntax` if the line is no slot, `TooLong` if `bytes` has `MAX_SLOTS` slots, `Memory` if out of memory.
 fn append_slot(bytes: &mut Vec<u8>, line: &str) -> Result<(), TextFaultKind>
     requires { vec_len bytes.old ≤ 8 * MAX_SLOTS }
     ensures ok { OnOk result (bytes.new.items ≡ bytes.old.items

@@ -1,4 +1,4 @@
-//! Laws of texts. A law does nothing when it runs.
+//! Laws of texts. A law does nothing when it runs; what it calls are other laws, for its proof. A text's own faults are all but `Memory`.
 
 ghost use Rattle.std.specs.Prelude.{◌≡◌, ◌*◌, ◌≤◌, ℕ, List, length};
 ghost use Rattle.hex.specs.Hex.{IsBytes};
@@ -7,7 +7,7 @@ ghost use Rattle.bpf_text.specs.Law.{OneProgram, ProgramHasNoFault, OneFault, Pr
 
 use insn_codec::MAX_SLOTS;
 
-/// A text has at most one program.
+/// A law: a text has at most one program. So a program that `assemble` returns is the only one of the text.
 pub fn one_program()
     ensures { OneProgram }
 {
@@ -15,21 +15,21 @@ pub fn one_program()
     text_line::laws::one_instruction();
 }
 
-/// A text with a program has no fault of its own.
+/// A law: a text with a program has no fault of its own. So `assemble` returns the program unless memory is refused.
 pub fn program_has_no_fault()
     ensures { ProgramHasNoFault }
 {
     text_line::laws::one_reading();
 }
 
-/// A text has at most one fault of its own.
+/// A law: a text has at most one fault of its own. So a fault that `assemble` returns is the only one, unless it is `Memory`.
 pub fn one_fault()
     ensures { OneFault }
 {
     text_line::laws::one_reading();
 }
 
-/// The program of the text that `disassemble` prints is the program that was printed.
+/// A law: the text that `disassemble` prints of a program assembles to this program.
 pub fn printed_text_is_assembled()
     ensures { PrintedIsAssembled }
 {
@@ -37,18 +37,19 @@ pub fn printed_text_is_assembled()
     text_line::laws::written_in_range();
 }
 
-/// The slots of the text that `hex_lines` writes are those of the program.
+/// A law: the slots that are read from the text that `hex_lines` writes of a program are the program's.
 pub fn hex_lines_are_read()
     ensures { HexLinesAreRead }
 {}
 
-/// The slots of the hex lines of 1 to `MAX_SLOTS` slots are these slots, whether they are a program's or not.
+/// A law: 1 to `MAX_SLOTS` slots are read from their hex lines, whether they are a program's or not. `slots` is their number, and
+/// `bytes` has eight bytes for each.
 pub fn hex_slots_are_read()
     ensures { (slots : ℕ) (bytes : List ℕ) → IsBytes bytes → length bytes ≡ 8 * slots → 1 ≤ slots
         → slots ≤ MAX_SLOTS → IsHexText (hex_text bytes) bytes }
 {}
 
-/// A text of hex lines has at most one list of slots.
+/// A law: the slots that are read from a text of hex lines are the only ones. `a` and `b` are the bytes of slots.
 pub fn one_hex_text()
     ensures { (text a b : List ℕ) → IsHexText text a → IsHexText text b → a ≡ b }
 {}

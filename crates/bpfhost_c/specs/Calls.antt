@@ -12,7 +12,8 @@ use Rattle.bpfhost_c.specs.declared.codes.TheConstants.{ERR_TENANT_COUNT, ERR_BU
 use Rattle.bpfhost_c.specs.declared.session.Session.{Session}
 use Rattle.bpfhost_c.specs.Contexts.{contexts_code}
 
--- the host of a handle; an empty handle has no tenants
+-- the host of a handle; for an empty handle one of no tenants, so that calls have a host before and
+-- after them
 abbrev pub host_of : Option Session → HostState
 host_of None = new_host 0
 host_of (Some s) = s.host
@@ -23,14 +24,14 @@ states None = []
 states (Some s) = s.host.states
 
 -- A reply lies at an address: it is the bytes of the vector of the session's last reply, which
--- begin there. The session owns them, and the handle owns the session.
+-- begin there. The session owns them, and the handle owns the session. An empty handle has none.
 abbrev pub StandsAt : Option Session → List ℕ → Ptr → ℕ → Type 0
 StandsAt None reply at length = ⊥
 StandsAt (Some s) reply at length =
     (s.reply.items ≡ reply) × (at ≡ vec_ptr s.reply) × (length ≡ vec_len s.reply)
 
 -- The frames that were saved last lie at an address: they are the bytes of the session's vector for
--- them, which begin there.
+-- them, which begin there. An empty handle has none.
 abbrev pub SavedAt : Option Session → List ℕ → Ptr → ℕ → Type 0
 SavedAt None frames at length = ⊥
 SavedAt (Some s) frames at length =
@@ -59,6 +60,6 @@ save_code before tenant part =
     then ERR_NO_HOST
     else (if is_none (saved_part (host_of before) tenant part) then ERR_NO_PART else DONE)
 
--- the code of a call with contexts of `size` words, unless it is out of memory
+-- the code of a call that runs packets, with contexts of `size` words, unless it is out of memory
 abbrev pub run_code : Option Session → ℕ → List ℕ → ℤ
 run_code before size words = if is_none before then ERR_NO_HOST else contexts_code size words

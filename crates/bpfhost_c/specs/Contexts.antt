@@ -5,13 +5,14 @@ use Rattle.std.specs.List.{list_all}
 use Rattle.words.specs.Context.{given_words}
 use Rattle.bpfhost_c.specs.declared.codes.TheConstants.{DONE, ERR_SIZE, ERR_TOO_BIG}
 
--- the words that a run is given of a context: 0 for each that it does not have, and none after them
+-- the ten words that a run is given of a context: its first ten, and 0 for each that it does not
+-- have
 abbrev pub fitted : List ℕ → List ℕ
 fitted words =
     take (min (length words) given_words) words
     ++ drop (min (length words) given_words) (replicate given_words 0)
 
--- each word after those that a run is given is 0
+-- each word of a context after those that a run is given, its first ten, is 0
 abbrev pub has_known_words : List ℕ → Bool
 has_known_words words = list_all (λ word. nat_eq word 0) (drop given_words words)
 

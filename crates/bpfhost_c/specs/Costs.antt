@@ -10,6 +10,6 @@ abbrev pub shown_cost : Option Cost → ProgramCost
 shown_cost None = record { instructions = 0; calls = 0 }
 shown_cost (Some cost) = record { instructions = cost.instructions; calls = cost.calls }
 
--- the cost of the program that a descriptor of a tenant names
+-- `shown` is the cost of the program that descriptor fd of a tenant names, as C has it
 abbrev pub ShowsCost : Option TenantState → ℕ → ProgramCost → Type 0
 ShowsCost s fd shown = (cost : Option Cost) × HasCostAt s fd cost × (shown ≡ shown_cost cost)

@@ -7,7 +7,7 @@ use Rattle.tagged_model.specs.declared.shape.Named.{Named}
 use Rattle.bpfhost_c.specs.declared.codes.TheConstants.{DONE, ERR_NO_HOST, ERR_STYLE}
 use Rattle.bpfhost_c.specs.declared.session.Session.{Session}
 
--- the style of a number
+-- the style of a log by its number; None for a number above 2
 abbrev pub style_of : ℕ → Option LogStyle
 style_of n =
     if n == 0 then Some New else
@@ -20,7 +20,8 @@ Logs number slots named accepted text =
     × (style_of number ≡ Some style)
     × IsLogOfSlots slots named style accepted text
 
--- the number of bytes of a text that fit in a room, with a zero byte after them
+-- the number of bytes of a text that fit in a room, with a zero byte after them; 0 for an empty
+-- room, since 0 - 1 is 0
 abbrev pub fitting : List ℕ → List ℕ → ℕ
 fitting text room = min (length text) (length room - 1)
 

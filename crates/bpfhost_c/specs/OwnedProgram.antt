@@ -9,7 +9,7 @@ use Rattle.std_heap.specs.contracts.GlobalAllocator.TheImpl.{ghosts}
 use Rattle.verifier.specs.contracts.verified.Verified.{the_row}
 
 -- nothing if the pointer is null; else what a box of a program owns there: the program, and the
--- right to free its block
+-- right to free its block; a null pointer with a program, or another one without, can't occur
 abbrev pub prepared_owns : Global → Ptr → Option the_row.Denot → Fml
 prepared_owns alloc null_ptr None = ftrue
 prepared_owns alloc null_ptr (Some s) = ffalse

@@ -39,14 +39,15 @@ object_of d =
 abbrev pub are_objects : List Descriptor → Bool
 are_objects ds = list_all (λ d. is_some (object_of d)) ds
 
--- the descriptors with their objects
+-- the descriptors with their objects; one without an object is left out
 abbrev pub named_by : List Descriptor → List Named
 named_by ds =
     filter_map (λ d. option_map (λ t. record { fd = d.fd; target = t }) (object_of d)) ds
 
 -- ---- preparing
 
--- the code of a call that prepares a program, unless it is out of memory
+-- the code of a call that prepares a program for these descriptors, unless it is out of memory;
+-- `before` is what the handle has before it
 abbrev pub prepare_code : Option Accepted → List Descriptor → ℤ
 prepare_code before ds =
     if is_some before then ERR_HAS_PROGRAM
@@ -75,7 +76,8 @@ abbrev pub FitsPrepared : Option Accepted → Option TenantState → Type 0
 FitsPrepared None s = ⊥
 FitsPrepared (Some a) s = FitsTenant a s
 
--- what a host does at the frame of a tenant that loads the program, whose reply has this status
+-- what a host does at the frame of a tenant that loads the program, whose reply has this status;
+-- without a program nothing is installed
 abbrev pub InstallsPrepared : ℕ → Option Accepted → ℤ → HostState → HostState → Type 0
 InstallsPrepared tenant None status before after = ⊥
 InstallsPrepared tenant (Some a) status before after = Installs tenant a.code status before after

@@ -14,7 +14,8 @@ use host_core::GIVEN_WORDS;
 use std::alloc::{AllocError, Global};
 use std::borrow::CowSlice;
 
-/// Contexts of `GIVEN_WORDS` words each, without a copy; `None` if the last one is cut off.
+/// Contexts of `GIVEN_WORDS` words each, without a copy; `None` if the last one is cut off. All their words are given to a run, so that
+/// there is none that has to be 0 (`known`).
 #[tactic(auto, using(crate::proofs::Given::as_given, crate::proofs::Given::all_known))]
 fn as_given(words: &[u32]) -> Option<&[[u32; GIVEN_WORDS]]>
     ensures some { is_some result ≡ nat_eq (length words.now % given_words) 0 }
@@ -39,7 +40,7 @@ fn fit(words: &[u32]) -> [u32; GIVEN_WORDS]
     context
 }
 
-/// The first `count` contexts, each of `size` words, as a run is given them. `AllocError`: out of memory.
+/// The first `count` contexts in `words`, each of `size` words, as a run is given them (`fit`). `AllocError`: out of memory.
 #[tactic(auto, using(crate::proofs::Loops::fitted_more, crate::proofs::Loops::room_step))]
 fn fit_all(
     alloc: Global,
@@ -60,7 +61,7 @@ fn fit_all(
     Ok(contexts)
 }
 
-/// Whether each word after those that a run is given is zero.
+/// Whether each word of a context after those that a run is given, its first `GIVEN_WORDS`, is zero.
 fn is_known(words: &[u32]) -> bool
     ensures { result ≡ has_known_words words.now }
 {
@@ -76,7 +77,7 @@ fn is_known(words: &[u32]) -> bool
     true
 }
 
-/// Whether each of the first `count` contexts, of `size` words, has zeros after the words that a run is given.
+/// Whether each of the first `count` contexts in `words`, of `size` words each, has only zeros after the words that a run is given.
 #[tactic(auto, using(crate::proofs::Loops::known_step, crate::proofs::Loops::room_step))]
 fn are_known(words: &[u32], size: usize, count: usize) -> bool
     requires { count * size ≤ length words.now }
@@ -95,7 +96,8 @@ fn are_known(words: &[u32], size: usize, count: usize) -> bool
 
 /// Contexts of `size` words, one after another, as a run is given them, in memory of their own.
 ///
-/// `Err`: the code of the call, `ERR_SIZE`, `ERR_TOO_BIG` or `ERR_NO_MEMORY`.
+/// `Err`: the code of the call: `ERR_SIZE` if `size` is 0 or the last context is cut off, `ERR_TOO_BIG` if one has a word that no run is
+/// given and that is not 0, or `ERR_NO_MEMORY`.
 fn copied_contexts(
     alloc: Global,
     words: &[u32],
@@ -120,9 +122,11 @@ fn copied_contexts(
     }
 }
 
-/// Contexts of `size` words, one after another, as a run is given them: the words themselves if each context has as many, else copies.
+/// Contexts of `size` words, one after another, as a run is given them: the words themselves if `size` is `GIVEN_WORDS`, else
+/// copies.
 ///
-/// `Err`: the code of the call, `ERR_SIZE`, `ERR_TOO_BIG` or `ERR_NO_MEMORY`.
+/// `Err`: the code of the call: `ERR_SIZE` if `size` is 0 or the last context is cut off, `ERR_TOO_BIG` if one has a word that no run is
+/// given and that is not 0, or `ERR_NO_MEMORY`.
 pub(crate) fn given_contexts(
     alloc: Global,
     words: &[u32],

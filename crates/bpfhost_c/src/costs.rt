@@ -18,7 +18,7 @@ pub struct ProgramCost {
     pub calls: u32,
 }
 
-/// A cost as C has it; both numbers are 0 if there is none.
+/// A cost as C has it; both numbers are 0 if there is none. A program has at least one instruction.
 fn shown(cost: Option<Cost>) -> ProgramCost
     ensures { result ≡ shown_cost cost }
 {
@@ -35,7 +35,7 @@ fn shown(cost: Option<Cost>) -> ProgramCost
 }
 
 /// Writes the cost of the program that the descriptor `fd` of `tenant` names to `cost`: 1 to 4,096 instructions, and 0 to 4,095 calls;
-/// both 0 if it names none, and for a number that is not served. Takes no memory.
+/// both 0 if it names no program, and for a tenant that is not served. Takes no memory.
 ///
 /// Returns `DONE`; else `ERR_NO_HOST`, and `cost` is unchanged. The host is unchanged.
 #[unsafe(no_mangle)]

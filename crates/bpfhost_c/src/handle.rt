@@ -11,7 +11,8 @@ use std::marker::Model;
 use std::mem::replace;
 use std::ptr::null_mut;
 
-/// A pointer to a session, or null. For C it is an opaque type of the size of a pointer.
+/// A pointer to a session, or null. For C it is an opaque type of the size of a pointer, since `alloc` has no bytes. `session`, for
+/// contracts only, is what the pointer leads to.
 #[repr(C)]
 pub struct Handle {
     at: *mut u8,
@@ -45,7 +46,7 @@ impl Handle {
         }
     }
 
-    /// The raw pointer of the session's box, which the caller owns then; `None` if the handle is empty.
+    /// The raw pointer of the session's box, with which the caller gets the box and has to free it; `None` if the handle is empty.
     pub(crate) fn into_raw_box(self) -> Option<RawBox<Session, Global>>
         ensures { option_map (λ raw. raw.value) result ≡ self.session }
     {
@@ -59,7 +60,7 @@ impl Handle {
         })
     }
 
-    /// Takes the session out, which leaves the handle empty; `None` if it was empty. `alloc` is for the empty handle.
+    /// Takes the session out, which leaves the handle empty; `None` if it was empty. `alloc` only fills a field of the handle.
     pub(crate) fn take(&mut self, alloc: Global) -> Option<Box<Session>>
         ensures session { option_map (λ b. b.value) result ≡ self.old.session }
         ensures empty { self.new.session ≡ None }
@@ -70,7 +71,7 @@ impl Handle {
         }
     }
 
-    /// Puts a session in. A session that the handle had is dropped.
+    /// Puts a session in. A session that the handle had is dropped; in a call it has none, since `take` was called before.
     pub(crate) fn put(&mut self, session: Box<Session>)
         ensures { self.new.session ≡ Some session.value }
     {
@@ -78,8 +79,8 @@ impl Handle {
     }
 }
 
-/// Frees the session of a handle that is dropped. It is never inlined, unlike `drop`: `put` drops the handle that it replaces, which a call
-/// has emptied by `take`, so that only the test for null is in the code of the call.
+/// Frees the session of a handle that is dropped. It is never inlined, unlike `drop` of `Handle`. `put` drops the handle that it replaces,
+/// which `take` has emptied before: so of this drop a call has only the test for null in its code.
 #[cold]
 #[inline(never)]
 fn free(session: Box<Session>) {
@@ -87,7 +88,7 @@ fn free(session: Box<Session>) {
 }
 
 impl Drop for Handle {
-    /// Frees the session, if there is one. Inlined in each call, without `free`.
+    /// Frees the session, if there is one. It is inlined in each call, and `free`, which only a full handle needs, is not.
     #[inline(always)]
     fn drop(self) {
         if let Some(raw) = self.into_raw_box() {

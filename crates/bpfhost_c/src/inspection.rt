@@ -40,7 +40,8 @@ pub extern "C" fn bpfhost_c_status(
 }
 
 /// Writes what the descriptor `fd` of `tenant` names at this moment to `described`: nothing, a map with its shape and the number of
-/// its keys, or a program with the number of its slots. Each of the 64 descriptors, 3 to 66, can be asked for. Takes no memory.
+/// its keys, or a program with the number of its slots. Nothing if `fd` is not one of the 64 descriptors, 3 to 66, or
+/// the tenant is not served. Takes no memory.
 ///
 /// Returns `DONE`; else `ERR_NO_HOST`, and `described` is unchanged. The host is unchanged.
 #[unsafe(no_mangle)]

@@ -2,7 +2,7 @@
 //!
 //! A session (`Session`) is a host with its last reply and the last part of a save; a `Handle` owns one or is empty, and contracts see
 //! which. The header declares these functions and adds others in C, which are tested and not proved; so is the crate for Rust,
-//! `clients/rust`.
+//! `clients/rust`. The header has no `alloc` in these functions: a `Global` has no bytes, and C passes nothing for it.
 //!
 //! # What is proved
 //!
@@ -162,8 +162,8 @@ pub struct Lent {
     pub length: usize,
 }
 
-/// Creates a host for 1 to `MOST_TENANTS` tenants, and stores it in an empty handle. The two words are the seed of its hash maps:
-/// random ones, which no tenant knows.
+/// Creates a host for 1 to `MOST_TENANTS` tenants, and stores it in an empty handle. `first` and `second` are the seed of its hash maps:
+/// two random words, which no tenant knows.
 ///
 /// Returns `DONE`; else `ERR_TENANT_COUNT`, `ERR_HAS_HOST` or `ERR_NO_MEMORY`, and the handle is unchanged.
 #[unsafe(no_mangle)]
@@ -271,8 +271,8 @@ pub extern "C" fn bpfhost_c_handle_lent(
 }
 
 /// Runs the program at a descriptor of a tenant on many packets, one after another. The packets lie one after another in `bytes`, and
-/// `ends` has for each how many bytes are before its end. `contexts` has the context that all packets get, or that of each, each of
-/// `size` words: a word that a context does not have counts as 0, and one that no run is given has to be 0.
+/// `ends` has for each how many bytes are before its end. `contexts` has one context for all packets, or one for each. Each context
+/// has `size` words: if they are fewer than a run is given, the others count as 0; if they are more, the rest have to be 0.
 ///
 /// With a `bound` that is not 0 the batch is made shorter: it has as many of the first packets as can be run, by the cost of the program,
 /// without executing more than `bound` instructions, if a call of a helper counts as `CALL_WEIGHT` more, but at least one.
@@ -403,7 +403,7 @@ pub extern "C" fn bpfhost_c_memory_refused(
     DONE
 }
 
-/// Frees the host of a handle, which is empty afterwards; an empty handle stays empty.
+/// Frees the host of a handle, which is empty afterwards, also if it was before. The assignment drops what the handle had, which frees it.
 #[unsafe(no_mangle)]
 pub extern "C" fn bpfhost_c_free(alloc: Global, handle: &mut Handle)
     ensures { handle.new.session ≡ None }

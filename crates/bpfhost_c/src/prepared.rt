@@ -11,7 +11,8 @@ use std::mem::replace;
 use std::ptr::null_mut;
 use verifier::Verified;
 
-/// A pointer to a prepared program, or null. For C it is an opaque type of the size of a pointer.
+/// A pointer to a prepared program, or null. For C it is an opaque type of the size of a pointer, since `alloc` has no bytes. `program`,
+/// for contracts only, is what the pointer leads to.
 #[repr(C)]
 pub struct Prepared {
     at: *mut u8,
@@ -45,7 +46,7 @@ impl Prepared {
         }
     }
 
-    /// The raw pointer of the program's box, which the caller owns then; `None` if the handle is empty.
+    /// The raw pointer of the program's box, with which the caller gets the box and has to free it; `None` if the handle is empty.
     pub(crate) fn into_raw_box(self) -> Option<RawBox<Verified, Global>>
         ensures { option_map (λ raw. raw.value) result ≡ self.program }
     {
@@ -59,7 +60,7 @@ impl Prepared {
         })
     }
 
-    /// Takes the program out, which leaves the handle empty; `None` if it was empty. `alloc` is for the empty handle.
+    /// Takes the program out, which leaves the handle empty; `None` if it was empty. `alloc` only fills a field of the handle.
     pub(crate) fn take(&mut self, alloc: Global) -> Option<Box<Verified>>
         ensures program { option_map (λ b. b.value) result ≡ self.old.program }
         ensures empty { self.new.program ≡ None }

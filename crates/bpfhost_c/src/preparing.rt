@@ -36,7 +36,7 @@ pub struct Descriptor {
     pub max_entries: u32,
 }
 
-/// Why slots are refused: the status, the slot and the number of the reason in the reply to PROG_LOAD; all 0 if they are not.
+/// Why slots are refused: the status, the slot and the number of the reason in the reply to PROG_LOAD; all 0 if they are accepted.
 #[derive(Clone, Copy)]
 #[repr(C)]
 pub struct PreparedRefusal {
@@ -45,7 +45,8 @@ pub struct PreparedRefusal {
     pub reason: u32,
 }
 
-/// The object that a descriptor is to name, a program or a map, whose flags are 0; `None` if no map may have its kind and shape.
+/// The object that a descriptor is to name: a program, or a map as MAP_CREATE makes it with these fields and flags 0. `None` if MAP_CREATE
+/// has an error for them.
 fn object_of(descriptor: &Descriptor) -> Option<Target>
     ensures { result ≡ object_of descriptor.now }
 {
@@ -65,7 +66,7 @@ fn object_of(descriptor: &Descriptor) -> Option<Target>
     }
 }
 
-/// Whether each descriptor is given an object that there can be.
+/// Whether each descriptor is given an object that there can be: a program, or a map that MAP_CREATE can make.
 fn are_objects(descriptors: &[Descriptor]) -> bool
     ensures { result ≡ are_objects descriptors.now }
 {
@@ -77,7 +78,8 @@ fn are_objects(descriptors: &[Descriptor]) -> bool
     true
 }
 
-/// The descriptors with their objects; one without an object is left out. `AllocError`: out of memory.
+/// The descriptors with their objects. One without an object is left out; there is none after the test by `are_objects`. `AllocError`: out
+/// of memory.
 fn named_by(alloc: Global, descriptors: &[Descriptor]) -> Result<Vec<Named>, AllocError>
     ensures { IfOk result (λ named. named.items ≡ named_by descriptors.now) }
 {
@@ -91,7 +93,8 @@ fn named_by(alloc: Global, descriptors: &[Descriptor]) -> Result<Vec<Named>, All
     Ok(named)
 }
 
-/// The program that the slots spell, if it is accepted with these objects, or why the slots are refused. `AllocError`: out of memory.
+/// Verifies slots with the objects of these descriptors, in working memory that is freed afterwards. The inner result is the program that
+/// the slots spell, or why they are refused. `AllocError`: out of memory.
 fn verified(
     alloc: Global,
     slots: &[u8],
@@ -112,14 +115,15 @@ fn verified(
     }
 }
 
-/// What is written if slots are not refused.
+/// What is written instead of a refusal if the slots are accepted.
 const NOT_REFUSED: PreparedRefusal = PreparedRefusal {
     status: 0,
     slot: 0,
     reason: 0,
 };
 
-/// Why slots are refused, as in the reply to PROG_LOAD; a slot above 2^32 - 1 is written as this number.
+/// Why slots are refused, as in the reply to PROG_LOAD; a slot above 2^32 - 1, which has no room in the field, is written as
+/// 2^32 - 1.
 fn shown_refusal(refusal: Refusal) -> PreparedRefusal
     ensures status { result.status ≡ status_of (cause_errno refusal.cause) }
     ensures slot { result.slot ≡ min refusal.slot 4294967295 }
@@ -134,7 +138,7 @@ fn shown_refusal(refusal: Refusal) -> PreparedRefusal
 
 /// Verifies the slots of a program with these objects, and stores it in an empty handle; or stores none, and writes why the slots are
 /// refused. The host is not needed, so this can be done on any thread. A refusal is that of PROG_LOAD if the descriptors name these
-/// objects; of several entries with one descriptor the first counts.
+/// objects. If `descriptors` has the same descriptor more than once, the first entry counts.
 ///
 /// Returns `DONE`; else `ERR_HAS_PROGRAM`, `ERR_DESCRIPTORS` or `ERR_NO_MEMORY`, and `prepared` and `refusal` are unchanged.
 #[unsafe(no_mangle)]
@@ -226,7 +230,7 @@ pub extern "C" fn bpfhost_c_install(
     code
 }
 
-/// Frees a prepared program; `prepared` is empty afterwards, and stays so if it was.
+/// Frees a prepared program. `prepared` is empty afterwards, also if it was before. The assignment drops what it had, which frees it.
 #[unsafe(no_mangle)]
 pub extern "C" fn bpfhost_c_prepared_free(alloc: Global, prepared: &mut Prepared)
     ensures { prepared.new.program ≡ None }

@@ -48,12 +48,14 @@ pub(crate) struct SizedBatch<'a> {
 /// What a batch gave: its status, and how many packets were run.
 #[derive(Clone, Copy)]
 pub(crate) struct Ran {
-    /// 0, or that of the error for which no packet was run.
+    /// 0, or the status of the error for which no packet was run.
     pub(crate) status: i32,
+    /// 0 if the status is not 0.
     pub(crate) packets: usize,
 }
 
-/// The contexts of the first `count` of `packets` packets: the one of all, or the first `count` if each packet has its own.
+/// The contexts of the first `count` of `packets` packets: the first `count` if each packet has its own, else all contexts: one
+/// for all packets, or a number of them for which the batch is rejected.
 fn front_contexts(
     contexts: &[[u32; GIVEN_WORDS]],
     packets: usize,
@@ -108,16 +110,17 @@ impl Session {
         self.reply = reply.into_vec();
     }
 
-    /// Saves part `part` of a tenant, from 0, whose frames are then in `saved`; false if there is no such part, or no such tenant.
-    /// `AllocError`: out of memory.
+    /// Saves part `part` of a tenant, counted from 0. Its frames are then in `saved`. False if there is no such part, or the tenant is not
+    /// served; then `saved` is empty. `AllocError`: out of memory.
     pub(crate) fn save(&mut self, tenant: usize, part: usize) -> Result<bool, AllocError>
         ensures saved { IfOk result (λ found. saved_part self.old.host tenant part
             ≡ (if found then Some self.new.saved.items else None)) }
         ensures restored { AreRestored self.old.host }
         ensures host { self.new.host ≡ self.old.host }
     {
+        // For the proof of `restored`: a law, which does nothing.
         self.host.tenants_are_restored();
-        // The frames of the part before are freed first.
+        // The frames of the part before are freed first, so that two parts are never held at once.
         self.saved = Vec::new(self.alloc);
         match self.host.save(tenant, part)? {
             Some(frames) => {
@@ -129,7 +132,8 @@ impl Session {
     }
 
     /// Opens a program of `tenant` that was verified elsewhere, and returns the status of the reply to the frame that would load it. If a
-    /// descriptor of its maps names no map of its shape, it is given back, and the session is unchanged.
+    /// descriptor of its maps names no map of the shape with which it was accepted, the program is given back, and the session is
+    /// unchanged.
     pub(crate) fn install(
         &mut self,
         tenant: u16,
@@ -172,8 +176,8 @@ impl Session {
         }
     }
 
-    /// The number of packets at the front of a batch that a bound on executed instructions allows; `contexts` and `packets` are numbers. A
-    /// batch with neither one context nor one for each packet is rejected, and not made shorter.
+    /// The number of packets at the front of a batch that a bound on executed instructions allows. It has `contexts` contexts and
+    /// `packets` packets. A batch with neither one context nor one for each packet is not made shorter, since it is rejected as a whole.
     fn allowed_packets(
         &self,
         tenant: usize,
@@ -193,7 +197,8 @@ impl Session {
         self.host.allowed_packets(tenant, fd, bound, packets)
     }
 
-    /// Runs a program of a tenant on the packets at the front of a batch that a bound on executed instructions allows.
+    /// Runs a program of a tenant on the packets at the front of a batch that a bound on executed instructions allows; 0 is no bound. If
+    /// the batch is rejected, none was run.
     pub(crate) fn run_bounded(
         &mut self,
         tenant: usize,
@@ -222,9 +227,9 @@ impl Session {
     }
 
     /// Runs a program of a tenant on the packets at the front of a batch that a bound on executed instructions allows, with contexts of
-    /// any size.
+    /// any size; a bound of 0 is none.
     ///
-    /// `Err`: the code of the call, `ERR_SIZE`, `ERR_TOO_BIG` or `ERR_NO_MEMORY`, and nothing is changed.
+    /// `Err`: the code of the call, by its contexts: `ERR_SIZE`, `ERR_TOO_BIG` or `ERR_NO_MEMORY`. Then nothing is changed.
     pub(crate) fn run_sized(
         &mut self,
         tenant: usize,

@@ -13,7 +13,7 @@ use host_core::Host;
 use log_core::{LogStyle, SlotsLog, log_of_slots};
 use std::alloc::{AllocError, Global};
 
-/// The length of a log in bytes, and whether the program is accepted.
+/// The length of a whole log in bytes, even if it did not fit in the room, and whether the program is accepted.
 #[derive(Drop)]
 #[repr(C)]
 pub struct Logged {
@@ -33,7 +33,8 @@ fn style_of(number: u32) -> Option<LogStyle>
     }
 }
 
-/// Writes as much of a text as fits to the front of `room`, and a zero byte after it. Into an empty room it writes nothing.
+/// Writes as much of a text as fits to the front of `room`, and a zero byte after it, as C ends a string. In an empty room there is no byte
+/// for the zero, and nothing is written.
 fn write_text(text: &[u8], room: &mut [u8])
     ensures { room.new ≡ text_in text.now room.old }
 {
@@ -45,7 +46,8 @@ fn write_text(text: &[u8], room: &mut [u8])
     room[count] = 0;
 }
 
-/// The log of the program that slots spell, verified with the objects that the descriptors of `tenant` name. `AllocError`: out of memory.
+/// The log of the program that slots spell, or the line of their refusal if they spell none. The objects are those that the descriptors of
+/// `tenant` name. `AllocError`: out of memory.
 fn log_in(
     alloc: Global,
     host: &Host,

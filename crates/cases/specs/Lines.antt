@@ -6,6 +6,6 @@ abbrev pub is_remark : List ℕ → Bool
 is_remark [] = true
 is_remark (first ∷ rest) = first == 35
 
--- what separates the words of a line
+-- a blank, which separates the words of a line
 abbrev pub is_space : ℕ → Bool
 is_space byte = byte == 32

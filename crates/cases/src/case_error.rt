@@ -18,10 +18,10 @@ pub enum CaseError {
     /// The slots are no program.
     #[error("slot {} kind {}", .0.slot, .0.kind.number())]
     Slots(#[from] CodecFault),
-    /// The program is refused.
+    /// The verifier rejects the program.
     #[error("slot {} reason {}", .0.slot, .0.reason.number())]
     Refused(#[from] VerifyFault),
-    /// The words name no map.
+    /// The text of a map or of its shape names none.
     #[error(transparent)]
     Map(#[from] BadShape),
     /// A number is missing, or wrong.
@@ -30,12 +30,13 @@ pub enum CaseError {
     /// A number is out of its range.
     #[error("out of range")]
     OutOfRange,
-    /// The line names no map that is live.
+    /// The line names no map that is live, or has a program that does not load exactly one.
     #[error("no such map")]
     NoMap,
     /// The bytes are fewer or more than those of a key or a value of the map.
     #[error("wrong size")]
     Size,
+    /// A character is no hex digit, or the number of digits is odd.
     #[error("no hex digits")]
     Digits(#[from] FromHexError),
     /// The bytes are not UTF-8.

@@ -22,11 +22,12 @@ pub fn shape_of(alloc: Global, text: &str) -> Result<MapShape, CaseError> {
     let argument = format!(in alloc; "3:{text}")?;
     match read_shape(argument.as_str())?.target {
         Target::Map(shape) => Ok(shape),
+        // `read_shape` never returns a program.
         Target::Program => Err(CaseError::Notation),
     }
 }
 
-/// The map of a descriptor, which may be any number of 32 bits.
+/// The map that `FD:KIND:KEY:VALUE:MAX` names. Unlike in a map argument, FD may be any number of 32 bits.
 fn named_map(alloc: Global, text: &str) -> Result<Named, CaseError> {
     let (fd, shape) = text.split_once(':').ok_or(CaseError::Notation)?;
     let shape = shape_of(alloc, shape)?;
@@ -36,7 +37,7 @@ fn named_map(alloc: Global, text: &str) -> Result<Named, CaseError> {
     })
 }
 
-/// The program of a descriptor.
+/// A program at the descriptor with these decimal digits, any number of 32 bits.
 fn named_program(text: &str) -> Result<Named, CaseError> {
     Ok(Named {
         fd: text.parse()?,
@@ -58,13 +59,13 @@ impl Descriptors {
         &self.named
     }
 
-    /// Appends an open descriptor. Returns the text below the line.
+    /// Appends an open descriptor. Returns what is written below the line that opens it.
     fn open(&mut self, new: Named) -> Result<String, CaseError> {
         self.named.push(new)?;
         Ok("open".to_string(self.alloc)?)
     }
 
-    /// Plays a line that opens a descriptor, or `new`. Returns the text below the line.
+    /// Plays a line that opens a descriptor, or `new`, which closes all. Returns what is written below the line.
     pub fn play(&mut self, line: &str) -> Result<String, CaseError> {
         let (word, rest) = first_word(line);
         match word {

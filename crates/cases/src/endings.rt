@@ -5,7 +5,7 @@ use crate::notation::text_of;
 use std::alloc::{AllocError, Global};
 use std::fmt::Write;
 
-/// Appends equal lines after a line feed: one unchanged, more as a repetition in the notation of cases.
+/// Appends equal lines, at least one, after a line feed: one unchanged, more as a repetition in the notation of cases.
 fn append_equal(text: &mut String, lines: &[&str]) -> Result<(), AllocError> {
     let line = lines.first().copied().unwrap_or("");
     match lines.len() {
@@ -14,7 +14,7 @@ fn append_equal(text: &mut String, lines: &[&str]) -> Result<(), AllocError> {
     }
 }
 
-/// Appends the lines of an output.
+/// Appends the lines of an output, equal neighbours as a repetition; and that its last line has no line feed, if it has none.
 fn append_output(alloc: Global, text: &mut String, output: &str) -> Result<(), AllocError> {
     let lines: Vec<&str> = output.lines().collect(alloc)?;
     for equal in lines.chunk_by(|a, b| a == b) {

@@ -8,7 +8,7 @@
 //! |---|---|
 //! | `;` in a text | a line feed |
 //! | `\xHH` in a text | the byte with these two hex digits |
-//! | `{COUNT*PART}` | the part COUNT times, where each `#` in the part is the number of times before |
+//! | `{COUNT*PART}` | the part COUNT times, in which each `#` is the number of repetitions before, from 0 on |
 //! | hex digits | bytes; blanks may separate them |
 //! | `FD:KIND:KEY:VALUE:MAX` | a map at a descriptor, as the arguments of `verify` name it; `KIND:KEY:VALUE:MAX` is its shape |
 //!

@@ -1,5 +1,5 @@
 //! Texts and bytes on one line: `;` is a line feed, `\xHH` the byte with these two hex digits, and `{COUNT*PART}` the part
-//! COUNT times, where each `#` in the part is the number of times before.
+//! COUNT times, in which each `#` is the number of repetitions before, from 0 on.
 
 ghost use Rattle.std.specs.Prelude.{◌≡◌, length, IfOk};
 
@@ -30,7 +30,7 @@ fn append_characters(bytes: &mut Vec<u8>, text: &str) -> Result<(), AllocError> 
     Ok(())
 }
 
-/// Appends the byte with the two hex digits at the front, and the characters after them.
+/// Appends the byte with the two hex digits at the front of `text`, which followed a `\x`, and the characters after them.
 fn append_escaped(bytes: &mut Vec<u8>, text: &str) -> Result<(), CaseError> {
     let (digits, rest) = text.split_at_checked(2).ok_or(CaseError::Notation)?;
     let byte = <[u8; 1] as FromHex>::from_hex(digits)?;
@@ -39,7 +39,7 @@ fn append_escaped(bytes: &mut Vec<u8>, text: &str) -> Result<(), CaseError> {
     Ok(())
 }
 
-/// Appends the bytes of a text without repetitions.
+/// Appends the bytes of a text without repetitions. Each piece but the first follows a `\x`.
 fn append_text(bytes: &mut Vec<u8>, text: &str) -> Result<(), CaseError> {
     for (index, piece) in text.split("\\x").enumerate() {
         if index == 0 {
@@ -51,7 +51,7 @@ fn append_text(bytes: &mut Vec<u8>, text: &str) -> Result<(), CaseError> {
     Ok(())
 }
 
-/// Appends a part once, with a number in place of each `#`.
+/// Appends a part once, with the decimal digits of a number in place of each `#`.
 fn append_numbered(bytes: &mut Vec<u8>, part: &[u8], digits: &str) -> Result<(), AllocError> {
     for byte in part {
         if *byte == b'#' {
@@ -63,7 +63,7 @@ fn append_numbered(bytes: &mut Vec<u8>, part: &[u8], digits: &str) -> Result<(),
     Ok(())
 }
 
-/// Appends a part a number of times, with the number of times before for each `#`.
+/// Appends a part a number of times. Each `#` in it becomes the number of repetitions before, from 0 on.
 fn append_times(
     alloc: Global,
     bytes: &mut Vec<u8>,
@@ -87,7 +87,7 @@ fn append_repeated(alloc: Global, bytes: &mut Vec<u8>, text: &str) -> Result<(),
     append_text(bytes, rest)
 }
 
-/// The bytes that a text in this notation represents.
+/// The bytes that a text in this notation represents. Each piece but the first follows a `{`.
 pub fn written(alloc: Global, text: &str) -> Result<Vec<u8>, CaseError> {
     let mut bytes = Vec::new(alloc);
     for (index, piece) in text.split('{').enumerate() {
@@ -100,7 +100,7 @@ pub fn written(alloc: Global, text: &str) -> Result<Vec<u8>, CaseError> {
     Ok(bytes)
 }
 
-/// The bytes as text.
+/// The bytes as text, if they are UTF-8.
 pub fn text_of(bytes: &[u8]) -> Result<&str, CaseError> {
     str::from_utf8(bytes).map_err(|_| CaseError::NoText)
 }
@@ -125,7 +125,7 @@ pub fn bytes_of_size(alloc: Global, text: &str, size: u32) -> Result<Vec<u8>, Ca
     Ok(bytes)
 }
 
-/// The hex digits of bytes, in groups of `size` bytes, at least one, with a blank between them.
+/// The hex digits of bytes, in groups of `size` bytes with a blank between them; a size of 0 counts as 1.
 pub fn hex_groups(alloc: Global, bytes: &[u8], size: usize) -> Result<String, AllocError> {
     let mut text = String::new(alloc);
     for group in bytes.chunks(size.max(1)) {
@@ -137,7 +137,7 @@ pub fn hex_groups(alloc: Global, bytes: &[u8], size: usize) -> Result<String, Al
     Ok(text)
 }
 
-/// Appends equal lines, with `;` for the line feed at their end: one line unchanged, more as a repetition.
+/// Appends equal lines, at least one, with `;` for the line feed at their end: one line as it is, more as a repetition.
 fn append_lines(alloc: Global, shown: &mut String, lines: &[&str]) -> Result<(), AllocError> {
     let line = lines.first().copied().unwrap_or("");
     let line = line.replace(alloc, '\n', ";")?;
@@ -147,7 +147,7 @@ fn append_lines(alloc: Global, shown: &mut String, lines: &[&str]) -> Result<(),
     }
 }
 
-/// A text on one line, in this notation.
+/// A text on one line: `;` for each line feed, and equal neighbours as a repetition. Its own `;`, `\` and braces are not escaped.
 pub fn shown(alloc: Global, text: &str) -> Result<String, AllocError> {
     let lines: Vec<&str> = text.split_inclusive('\n').collect(alloc)?;
     let mut shown = String::new(alloc);

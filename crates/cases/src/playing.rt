@@ -4,13 +4,13 @@ use crate::case_error::CaseError;
 use crate::lines::is_remark;
 use std::io;
 
-/// Plays lines.
+/// Plays the lines of a file of cases in order. Its state is what earlier lines have made.
 pub trait Player {
     /// The answer to a line that is no remark: lines, or none.
     fn play(&mut self, line: &str) -> Result<String, CaseError>;
 }
 
-/// Writes the lines of an answer, indented.
+/// Writes the lines of an answer, each indented by two blanks.
 fn print_indented<R: Print>(rt: &R, answer: &str) -> io::Result<()> {
     for line in answer.lines() {
         println!(rt; "  {line}")?;

@@ -3,10 +3,10 @@
 use cases::{GROUP, hex_groups};
 use std::alloc::{AllocError, Global};
 
-/// The most bytes that are all written.
+/// Up to this number of bytes, all of them are written.
 const MOST_WRITTEN: usize = 64;
 
-/// The hex digits of bytes; of more than `MOST_WRITTEN`, those of the first 16, and the number of all.
+/// The hex digits of bytes; of more than `MOST_WRITTEN` bytes, only those of the first 16, and how many there are.
 pub fn shown(alloc: Global, bytes: &[u8]) -> Result<String, AllocError> {
     if bytes.len() <= MOST_WRITTEN {
         return hex_groups(alloc, bytes, GROUP);

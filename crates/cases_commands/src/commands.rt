@@ -5,7 +5,7 @@ use cases::{CaseError, bytes_of};
 use command_frames::{BadFrame, Command, GIVEN_WORDS, HEAD_LENGTH, head, parse};
 use std::alloc::{AllocError, Global};
 
-/// The tenant and the command number of the frame of hex digits, as text.
+/// The tenant and the command number of a frame, given as hex digits; or that it is too short for a head.
 pub fn head_line(alloc: Global, digits: &str) -> Result<String, CaseError> {
     let frame = bytes_of(alloc, digits)?;
     let Some(head) = head(&frame) else {
@@ -27,7 +27,7 @@ fn words_text(alloc: Global, words: [u32; GIVEN_WORDS]) -> Result<String, AllocE
     Ok(text)
 }
 
-/// The text of a command whose fields are a number, mostly a descriptor, and bytes.
+/// The text of a command whose fields are a number (a descriptor, or the program type of a load) and bytes.
 fn fd_and_bytes(alloc: Global, name: &str, fd: u32, bytes: &[u8]) -> Result<String, AllocError> {
     let bytes = shown(alloc, bytes)?;
     format!(in alloc; "{name} {fd} [{bytes}]")
@@ -64,7 +64,7 @@ fn command_text(alloc: Global, command: Command<'_>) -> Result<String, AllocErro
     }
 }
 
-/// The command of the frame of hex digits, or why it has none, as text.
+/// The command of a frame, given as hex digits, with its fields, or why it has none. `parse` needs a frame with a head.
 pub fn parse_line(alloc: Global, digits: &str) -> Result<String, CaseError> {
     let frame = bytes_of(alloc, digits)?;
     if frame.len() < HEAD_LENGTH {

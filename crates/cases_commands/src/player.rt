@@ -50,7 +50,7 @@ impl CommandPlayer {
         }
     }
 
-    /// The number that a descriptor names, as text.
+    /// The number that a descriptor names, as text; `nothing` if it is not open.
     fn get(&self, fd: u32) -> Result<String, AllocError> {
         match self.numbers.get(fd) {
             Some(number) => number.to_string(self.alloc),
@@ -58,7 +58,7 @@ impl CommandPlayer {
         }
     }
 
-    /// Closes a descriptor, and returns the number that it named, as text.
+    /// Closes a descriptor, and returns the number that it named, as text; `nothing` if it was not open.
     fn close(&mut self, fd: u32) -> Result<String, AllocError> {
         match self.numbers.close(fd) {
             Some(number) => number.to_string(self.alloc),
@@ -66,7 +66,7 @@ impl CommandPlayer {
         }
     }
 
-    /// The answer to each number of a line.
+    /// The answer to each number of a line, with commas between them. `word` is `place`, `get` or `close` (`_`).
     fn each(&mut self, word: &str, rest: &str) -> Result<String, CaseError> {
         let mut text = String::new(self.alloc);
         for number in rest.split_whitespace() {

@@ -14,7 +14,7 @@
 //! | `run TENANT FD HEX` | the reply to PROG_TEST_RUN with this packet, which may be left out |
 //! | `rounds COUNT LINES` | the replies to lines that are played COUNT times, with ` | ` between them, if they are the same each time |
 //! | `stream TENANTS LIMIT HEX` | how `serve` ends on these bytes in a new host, and below it what it wrote |
-//! | `cut TENANTS LIMIT COUNT HEX` | the same, on the first COUNT of these bytes |
+//! | `cut TENANTS LIMIT COUNT HEX` | how `serve` ends on the first COUNT of these bytes in a new host, and below it what it wrote |
 //! | `relay HEX` | how many bytes a reader of these gives at once, with room for four, how many of them a writer takes, and what it has then |
 //! | `program ARGUMENTS <HEX` | how the program ends on these arguments and this input. The argument `""` is empty |
 #![tactic(auto)]

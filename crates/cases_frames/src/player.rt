@@ -7,7 +7,7 @@ use host::{HashSeed, Host, MOST_TENANTS, ReplyBuf};
 use insn_codec::write_program;
 use std::alloc::{AllocError, Global};
 
-/// The numbers of the commands.
+/// The numbers of the commands in frames. All but CLOSE are those of bpf(2).
 const MAP_CREATE: u16 = 0;
 
 const MAP_LOOKUP_ELEM: u16 = 1;
@@ -22,6 +22,7 @@ const PROG_LOAD: u16 = 5;
 
 const PROG_TEST_RUN: u16 = 10;
 
+/// The number of CLOSE in frames, which is no command of bpf(2).
 const CLOSE: u16 = 256;
 
 /// A program type of PROG_LOAD: a socket filter.
@@ -30,7 +31,7 @@ const SOCKET_FILTER: u32 = 1;
 /// The length in bytes of the context words that a frame of PROG_TEST_RUN has: ten of the eleven, as the host writes the packet's length.
 const WORDS: usize = 40;
 
-/// A new host for this number of tenants.
+/// A new host for this number of tenants, in decimal digits, with a seed that is always the same.
 pub fn new_host(alloc: Global, tenants: &str) -> Result<Host, CaseError> {
     let tenants: usize = tenants.parse()?;
     if tenants < 1 || tenants > MOST_TENANTS {
@@ -65,7 +66,7 @@ fn numbers(alloc: Global, words: &str) -> Result<Vec<u8>, CaseError> {
     Ok(bytes)
 }
 
-/// These bytes, and those of hex digits after them.
+/// The bytes of `front`, and after them those of the hex digits.
 fn before(alloc: Global, front: &[u8], digits: &str) -> Result<Vec<u8>, CaseError> {
     let rest = bytes_of(alloc, digits)?;
     let mut bytes = Vec::new(alloc);
@@ -106,13 +107,13 @@ impl HostPlayer {
         hex_groups(self.alloc, reply.bytes(), GROUP)
     }
 
-    /// The reply to the frame of hex digits.
+    /// The reply to a frame that is given as hex digits.
     fn reply_to_digits(&mut self, digits: &str) -> Result<String, CaseError> {
         let frame = bytes_of(self.alloc, digits)?;
         Ok(self.reply(&frame)?)
     }
 
-    /// The reply to a command, given as the words of its tenant and of the number at the front of its body, and the bytes after that.
+    /// The reply to a command. The tenant and the number with which its body begins are in decimal digits; `rest` is the rest of the body.
     fn command(
         &mut self,
         tenant: &str,
@@ -133,7 +134,8 @@ impl HostPlayer {
         self.command(tenant, command, descriptor, &bytes)
     }
 
-    /// The reply to MAP_CREATE, for the words of a line: a tenant, and the five numbers of the body.
+    /// The reply to MAP_CREATE, for the words of a line: a tenant, and the five numbers of the body: the kind of map, the sizes of a key
+    /// and of a value, the most entries, and the flags.
     fn create(&mut self, rest: &str) -> Result<String, CaseError> {
         let (tenant, rest) = first_word(rest);
         let (kind, sizes) = first_word(rest);
@@ -173,7 +175,8 @@ impl HostPlayer {
         Ok(self.load_slots(tenant, &slots)?)
     }
 
-    /// The reply to a test run, for the words of a line: a tenant, a descriptor and a packet. It has the context words that are set.
+    /// The reply to a test run, for the words of a line: a tenant, a descriptor and a packet. Its context words are those of the last line
+    /// `words`, or zeros if there was none.
     fn run(&mut self, rest: &str) -> Result<String, CaseError> {
         let (tenant, rest) = first_word(rest);
         let (descriptor, packet) = first_word(rest);
@@ -227,7 +230,8 @@ impl HostPlayer {
         Ok(None)
     }
 
-    /// The replies to lines that are played a number of times, if they are the same each time; otherwise the first others.
+    /// The replies to lines that are played a number of times, if they are the same each time; otherwise those of the first round that has
+    /// other replies than round 0.
     fn rounds(&mut self, rest: &str) -> Result<String, CaseError> {
         let (count, lines) = first_word(rest);
         let count: u32 = count.parse()?;
@@ -238,13 +242,13 @@ impl HostPlayer {
         }
     }
 
-    /// Plays the lines that follow on a new host.
+    /// Plays the lines that follow on a new host. The empty text means that nothing is written below the line.
     fn begin(&mut self, tenants: &str) -> Result<String, CaseError> {
         self.host = new_host(self.alloc, tenants)?;
         Ok(String::new(self.alloc))
     }
 
-    /// Sets the context words of the runs that follow.
+    /// Sets the context words of the runs that follow. The empty text means that nothing is written below the line.
     fn set_words(&mut self, digits: &str) -> Result<String, CaseError> {
         self.words = bytes_of(self.alloc, digits)?;
         Ok(String::new(self.alloc))
@@ -262,6 +266,7 @@ impl Player for HostPlayer {
             "cut" => cut(self.alloc, rest),
             "relay" => relay(self.alloc, rest),
             "program" => program(self.alloc, rest),
+            // A line that asks for one frame, or no line of cases.
             _ => self.reply_to_line(word, rest),
         }
     }

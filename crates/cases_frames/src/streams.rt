@@ -29,7 +29,7 @@ fn ended(alloc: Global, end: Result<u32, ServeFault>, output: &[u8]) -> Result<S
     format!(in alloc; "{end}\n{output}")
 }
 
-/// How `serve` ends on these bytes, and what it wrote.
+/// How `serve` ends on these bytes, of which it serves at most `limit` frames, in decimal digits; and what it wrote.
 fn served(alloc: Global, host: &mut Host, limit: &str, input: &[u8]) -> Result<String, CaseError> {
     let limit: u32 = limit.parse()?;
     if limit > MOST_FRAMES {
@@ -50,7 +50,7 @@ pub fn stream(alloc: Global, line: &str) -> Result<String, CaseError> {
     served(alloc, &mut host, limit, &input)
 }
 
-/// The first `count` bytes of those of hex digits.
+/// The first bytes of those that the hex digits represent; `count`, in decimal digits, is how many.
 fn front(alloc: Global, count: &str, digits: &str) -> Result<Vec<u8>, CaseError> {
     let mut input = bytes_of(alloc, digits)?;
     input.truncate(count.parse()?);
@@ -92,7 +92,7 @@ fn word_of(word: &str) -> &str {
     if word == "\"\"" { "" } else { word }
 }
 
-/// A run of the program on these arguments and this input.
+/// How a run of the program on these arguments and this input ends: its status, its output in hex digits, and its fault line.
 fn ran(alloc: Global, words: &[&str], input: &[u8]) -> Result<String, CaseError> {
     let mut output = Vec::new(alloc);
     let mut faults = Vec::new(alloc);
@@ -111,7 +111,7 @@ fn ran(alloc: Global, words: &[&str], input: &[u8]) -> Result<String, CaseError>
     outcome(alloc, status, &output, &faults)
 }
 
-/// A run of the program, for its arguments and, after `<`, its input.
+/// How a run of the program ends, for its arguments and, after `<`, its input in hex digits.
 pub fn program(alloc: Global, line: &str) -> Result<String, CaseError> {
     let (words, digits) = input_of(line)?;
     let words: Vec<&str> = words.split_whitespace().map(word_of).collect(alloc)?;

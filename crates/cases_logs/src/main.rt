@@ -3,8 +3,8 @@
 //! | Line | Answer |
 //! |---|---|
 //! | `log TEXT` | the log of a program's text |
-//! | `all TEXT` | the same, with all that is known before each instruction |
-//! | `dot TEXT` | its control flow, for Graphviz |
+//! | `all TEXT` | the log of a program's text, with all that is known before each instruction |
+//! | `dot TEXT` | the control flow of a program's text, for Graphviz |
 //! | `run ARGUMENTS <TEXT` | how the program `verifier_log` ends on these arguments and this input |
 //! | `map FD:KIND:KEY:VALUE:MAX` | from here on this descriptor names a map |
 //! | `program FD` | from here on this descriptor names a program |

@@ -60,6 +60,7 @@ impl Player for LogPlayer {
             "all" => self.log(rest, LogStyle::Whole),
             "dot" => self.log(rest, LogStyle::Graph),
             "run" => self.run(rest),
+            // A line that opens a descriptor, `new`, or no line of cases.
             _ => self.descriptors.play(line),
         }
     }

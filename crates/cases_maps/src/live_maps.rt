@@ -34,7 +34,7 @@ impl Model for LiveMapsPlayer {
     ghost invariant = { λ p. IsPartOf 0 p.arena };
 }
 
-/// Creates a map, and adds this number of references to it.
+/// Creates a map, and adds this number of references to the one that it has.
 fn create_held(
     maps: &mut Maps,
     shape: MapShape,
@@ -68,7 +68,7 @@ impl LiveMapsPlayer {
         Ok(nothing(self.alloc))
     }
 
-    /// The live map of a number.
+    /// The live map with this number, in decimal digits; `NoMap` if no map has had the number yet, or its map is not live.
     fn live_map(&self, number: &str) -> Result<MapKey, CaseError>
         ensures { IfOk result (λ map. IsSome (live_at self.now map)) }
     {
@@ -79,7 +79,7 @@ impl LiveMapsPlayer {
         }
     }
 
-    /// The number of a map: the index of its key, which is appended if it is new.
+    /// The number of a map: the index of its key, which is appended if it is new. The live maps, all that contracts see, are unchanged.
     fn number_of(&mut self, map: MapKey) -> Result<usize, AllocError>
         ensures { self.new ≡ self.old }
     {
@@ -96,6 +96,7 @@ impl LiveMapsPlayer {
         let (shape, holds) = first_word(rest);
         let shape = shape_of(self.alloc, shape)?;
         let holds = holds.parse()?;
+        // A law, which does nothing when it runs: the size of the memory is that of its part.
         self.arena.memory_is_its_parts();
         match create_held(&mut self.maps, shape, holds, self.arena.part_mut(0)) {
             Ok(map) => {
@@ -109,6 +110,7 @@ impl LiveMapsPlayer {
     /// Drops a reference to a map. Returns whether it is still live, as text.
     fn release(&mut self, number: &str) -> Result<String, CaseError> {
         let map = self.live_map(number)?;
+        // A law, which does nothing when it runs: the size of the memory is that of its part.
         self.arena.memory_is_its_parts();
         self.maps.release(map, self.arena.part_mut(0));
         let text = if self.maps.is_live(map) {
@@ -119,7 +121,7 @@ impl LiveMapsPlayer {
         Ok(text.to_string(self.alloc)?)
     }
 
-    /// The shape of a map.
+    /// The shape of a map, as text.
     fn shape(&self, number: &str) -> Result<String, CaseError> {
         let map = self.live_map(number)?;
         let shape = self.maps.shape(map);
@@ -132,7 +134,7 @@ impl LiveMapsPlayer {
         Ok(format!(in self.alloc; "{kind:?} {key} {value} {entries}")?)
     }
 
-    /// The offset in the part of the value of an element.
+    /// The offset in the part of the value of an element; `OutOfRange` if the map has no such element.
     fn offset(&self, map: MapKey, element: u32) -> Result<usize, CaseError>
         requires { IsSome (live_at self.now map) }
     {
@@ -177,6 +179,7 @@ impl LiveMapsPlayer {
         match self.maps.claim(map, &key, flags) {
             Ok(element) => {
                 let start = self.maps.value_at(map, element);
+                // A law, which does nothing when it runs: the size of the memory is that of its part.
                 self.arena.memory_is_its_parts();
                 let part = self.arena.part_mut(0);
                 part[start..start + value.len()].copy_from_slice(&value);
@@ -194,7 +197,7 @@ impl LiveMapsPlayer {
         Ok(done(self.alloc, self.maps.remove(map, &key), "removed")?)
     }
 
-    /// The key that follows a key, for the words of a line: the map, and the key or nothing.
+    /// The key that follows a key, for the words of a line: the map, and the key, or nothing for the first key.
     fn next(&self, rest: &str) -> Result<String, CaseError> {
         let (number, digits) = first_word(rest);
         let map = self.live_map(number)?;
@@ -208,7 +211,7 @@ impl LiveMapsPlayer {
         key_text(self.alloc, outcome, &buffer, size)
     }
 
-    /// The end of a run on a map.
+    /// Ends a run on a map, so that the elements of removed keys are free again.
     fn end(&mut self, number: &str) -> Result<String, CaseError> {
         let map = self.live_map(number)?;
         self.maps.end_run(map);
@@ -230,11 +233,12 @@ impl LiveMapsPlayer {
             &packet,
         )? {
             Outcome::Value(value) => Ok(value.to_string(self.alloc)?),
+            // Never: the run of an accepted program has no fault.
             Outcome::Fault => Ok("fault".to_string(self.alloc)?),
         }
     }
 
-    /// Plays a line.
+    /// Plays the line of a call on live maps: the call's name, and the words after it.
     pub fn play(&mut self, call: &str, rest: &str) -> Result<String, CaseError> {
         match call {
             "new" => self.begin(),

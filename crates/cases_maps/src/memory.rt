@@ -45,7 +45,7 @@ fn new_memory(alloc: Global, parts: usize, size: usize) -> Result<Arena, CaseErr
     Ok(Arena::new(alloc, parts, size)?)
 }
 
-/// The memory of the calls.
+/// The memory from which the lines load and to which they store.
 #[derive(Drop)]
 pub struct MemoryPlayer {
     alloc: Global,
@@ -68,7 +68,7 @@ impl MemoryPlayer {
         Ok(nothing(self.alloc))
     }
 
-    /// A load, for the words of a line: the address and the size.
+    /// A load, for the words of a line: the address and the size. `outside` if the memory does not have all these bytes.
     fn load(&self, rest: &str) -> Result<String, CaseError> {
         let (at, size) = first_word(rest);
         match self
@@ -89,7 +89,8 @@ impl MemoryPlayer {
         Ok(done_inside(self.alloc, outcome, "stored")?)
     }
 
-    /// A copy, for the words of a line: the addresses of the target and of the source, and the length.
+    /// A copy, for the words of a line: the addresses of the target and of the source, and the length, which `Arena::copy` requires to be
+    /// at least 1.
     fn copy(&mut self, rest: &str) -> Result<String, CaseError> {
         let (to, rest) = first_word(rest);
         let (from, length) = first_word(rest);
@@ -101,7 +102,8 @@ impl MemoryPlayer {
         Ok(done_inside(self.alloc, outcome, "copied")?)
     }
 
-    /// The bytes from an address on, each loaded by itself, for the words of a line: the address, and how many.
+    /// The bytes from an address on, each loaded by itself, for the words of a line: the address, and how many. `outside` if the memory
+    /// does not have one of them.
     fn bytes(&self, rest: &str) -> Result<String, CaseError> {
         let (from, count) = first_word(rest);
         let from = address(from)?;
@@ -122,7 +124,7 @@ impl MemoryPlayer {
         Ok(text)
     }
 
-    /// Plays a line.
+    /// Plays the line of a call on the memory: the call's name, and the words after it.
     pub fn play(&mut self, call: &str, rest: &str) -> Result<String, CaseError> {
         match call {
             "new" => self.begin(rest),

@@ -8,7 +8,7 @@ use cases::{CaseError, bytes_of, bytes_of_size, first_word, shape_of};
 use seeded_hash::HashSeed;
 use std::alloc::Global;
 
-/// The element of the key of hex digits, which has `size` bytes, as text.
+/// The element of a key, given as hex digits, as text. `size` is the size of the map's keys.
 fn find<M: ValueMap>(alloc: Global, map: &M, size: u32, digits: &str) -> Result<String, CaseError>
     requires { size ≡ (M.keys map.now).shape.key_size }
 {
@@ -19,7 +19,7 @@ fn find<M: ValueMap>(alloc: Global, map: &M, size: u32, digits: &str) -> Result<
     }
 }
 
-/// A claim of an element, for the words of a line: the flags, and a key of `size` bytes.
+/// A claim of an element, for the words of a line: the flags and a key. `size` is the size of the map's keys.
 fn claim<M: ValueMap>(
     alloc: Global,
     map: &mut M,
@@ -34,7 +34,7 @@ fn claim<M: ValueMap>(
     Ok(done(alloc, map.claim(&key, flags), "claimed")?)
 }
 
-/// The removal of a key of `size` bytes.
+/// The removal of a key, given as hex digits. `size` is the size of the map's keys.
 fn remove<M: ValueMap>(
     alloc: Global,
     map: &mut M,
@@ -47,7 +47,7 @@ fn remove<M: ValueMap>(
     Ok(done(alloc, map.remove(&key), "removed")?)
 }
 
-/// The key that follows one of `size` bytes, or the first key if there are no hex digits.
+/// The key that follows the key of these hex digits, or the first key if there are none. `size` is the size of the map's keys.
 fn next<M: ValueMap>(alloc: Global, map: &M, size: u32, digits: &str) -> Result<String, CaseError>
     requires { size ≡ (M.keys map.now).shape.key_size }
 {
@@ -60,7 +60,7 @@ fn next<M: ValueMap>(alloc: Global, map: &M, size: u32, digits: &str) -> Result<
     key_text(alloc, outcome, &buffer, size)
 }
 
-/// What a call on a map returns whose keys have this size.
+/// What a call on a map returns, as text. `size` is the size of the map's keys.
 fn play_call<M: ValueMap>(
     alloc: Global,
     map: &mut M,
@@ -83,7 +83,7 @@ fn play_call<M: ValueMap>(
     }
 }
 
-/// The map of the calls, if there is one.
+/// The map on which the calls of the lines are; `None` before the first `map new`.
 #[derive(Drop)]
 pub struct OneMapPlayer {
     alloc: Global,
@@ -103,7 +103,7 @@ impl OneMapPlayer {
         Ok(nothing(self.alloc))
     }
 
-    /// Plays a line.
+    /// Plays the line of a call on the map: the call's name, and the words after it.
     pub fn play(&mut self, call: &str, rest: &str) -> Result<String, CaseError> {
         if call == "new" {
             return self.begin(rest);

@@ -9,7 +9,7 @@ pub fn nothing(alloc: Global) -> String {
     String::new(alloc)
 }
 
-/// `what` was done if the call succeeded, or the name of its fault.
+/// The text `what` if the call succeeded, else the name of its fault.
 pub fn done<T: Drop>(
     alloc: Global,
     outcome: Result<T, MapFault>,
@@ -21,7 +21,7 @@ pub fn done<T: Drop>(
     }
 }
 
-/// `what` was done, or that an address is outside of the memory (`None`).
+/// The text `what` if the call succeeded, else (`None`) that a range of it is outside of the memory.
 pub fn done_inside(alloc: Global, outcome: Option<()>, what: &str) -> Result<String, AllocError> {
     match outcome {
         Some(()) => what.to_string(alloc),
@@ -43,6 +43,7 @@ pub fn key_text(
 ) -> Result<String, CaseError> {
     match outcome {
         Ok(()) => {
+            // The callers' buffers have room for the longest key, so this is never `Size`.
             let key = buffer.get(..size as usize).ok_or(CaseError::Size)?;
             Ok(hex_groups(alloc, key, GROUP)?)
         }

@@ -18,11 +18,12 @@ use verifier::{Verified, laws, verify};
 /// The descriptor of the map.
 const DESCRIPTOR: u32 = 3;
 
-/// The program of a text in the notation of cases, accepted with a map of this shape at `DESCRIPTOR`.
+/// The program of a text in the notation of cases, accepted with a map of this shape at `DESCRIPTOR`. Each map that it loads has the shape.
 fn accepted(alloc: Global, text: &str, shape: MapShape) -> Result<Verified, CaseError>
     ensures { IfOk result (λ program. (i : ℕ) → i < length (maps_of program.code)
         → shapes_in program (slice_index (maps_of program.code) i) ≡ Some shape) }
 {
+    // A law, for the contract: each map that an accepted program loads has a shape. It does nothing when it runs.
     laws::loaded_maps_have_shapes();
     let text = written(alloc, text)?;
     let program = assemble(alloc, text_of(&text)?)?;
@@ -35,7 +36,7 @@ fn accepted(alloc: Global, text: &str, shape: MapShape) -> Result<Verified, Case
 }
 
 /// The result of a program, given as text, on this packet and zeros as the other words of the context, with this map, which it has to
-/// load. The map's run is ended first, as a bound map has no element that is kept apart.
+/// load. The map's run is ended first, as a bound map has no element that is kept apart. The memory's part 0 is used.
 pub fn run_text(
     alloc: Global,
     text: &str,

@@ -14,7 +14,7 @@ pub fn grouped(alloc: Global, bytes: &[u8]) -> Result<String, AllocError> {
     hex_groups(alloc, bytes, SLOT)
 }
 
-/// The text of an instruction, the number of its slots, and its bytes as they are encoded.
+/// The text of an instruction, the number of slots from which it was decoded, and its bytes as they are encoded, two slots at most.
 fn encoded(alloc: Global, insn: &Insn, slots: usize) -> Result<String, AllocError> {
     let mut out = [0; 16];
     let length = encode(insn, &mut out);
@@ -40,7 +40,7 @@ pub fn disassembled(alloc: Global, text: &str) -> Result<String, CaseError> {
     Ok(answer)
 }
 
-/// The instructions of a program, in order.
+/// The instructions of a program, in order. The second slot of a wide one begins none.
 fn insns_of(alloc: Global, program: &Program) -> Result<Vec<Insn>, AllocError> {
     let mut insns = Vec::new(alloc);
     for slot in 0..program.slots() {
@@ -51,7 +51,7 @@ fn insns_of(alloc: Global, program: &Program) -> Result<Vec<Insn>, AllocError> {
     Ok(insns)
 }
 
-/// Appends the instruction that begins at a slot, or that none does, after a semicolon if it is not the first slot.
+/// Appends the instruction that begins at a slot, or that none does. Before each slot but the first one it appends a semicolon.
 fn append_place(text: &mut String, program: &Program, slot: usize) -> Result<(), AllocError> {
     if slot != 0 {
         text.push_str("; ")?;
@@ -62,7 +62,7 @@ fn append_place(text: &mut String, program: &Program, slot: usize) -> Result<(),
     }
 }
 
-/// `places`: what begins at each slot and after the last one, in a copy of the program that is made of the instructions.
+/// `places`: what begins at each slot and after the last one. This is read from a clone of a program that is made of the instructions.
 pub fn places(alloc: Global, text: &str) -> Result<String, CaseError> {
     let bytes = bytes_of(alloc, text)?;
     let program = read_program(alloc, &bytes)?;
@@ -84,7 +84,7 @@ pub fn made_of_exits(alloc: Global, digits: &str) -> Result<String, CaseError> {
     Ok(answer)
 }
 
-/// Whether a slot of this opcode and zeros is decoded, or has another fault than its opcode: then the opcode is an instruction's.
+/// Whether the opcode is an instruction's: two slots of zeros, but for this opcode, are decoded or have another fault than their opcode.
 fn is_known(opcode: u8) -> bool {
     let mut bytes = [0; 16];
     bytes[0] = opcode;

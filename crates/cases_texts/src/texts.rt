@@ -6,7 +6,7 @@ use cases::{CaseError, shown, text_of, written};
 use insn_codec::{Program, write_program};
 use std::alloc::Global;
 
-/// Assembles the program of a text.
+/// Assembles the program whose text is given in the notation of cases.
 fn program_of(alloc: Global, text: &str) -> Result<Program, CaseError> {
     let text = written(alloc, text)?;
     let program = assemble(alloc, text_of(&text)?)?;
@@ -21,7 +21,7 @@ pub fn assembled(alloc: Global, text: &str) -> Result<String, CaseError> {
     Ok(answer)
 }
 
-/// `round`: the printed text of the program, if it is read again as the same program.
+/// `round`: the printed text of the program, if it is read again as the same program, compared by its slots; else that it is another.
 pub fn printed(alloc: Global, text: &str) -> Result<String, CaseError> {
     let program = program_of(alloc, text)?;
     let text = disassemble(alloc, &program)?;

@@ -11,7 +11,7 @@ const REGISTER: usize = 0;
 /// The stack slot of which something is known, the lowest one.
 const SLOT: usize = 0;
 
-/// The numbers `LO HI`.
+/// The range `LO HI` of numbers.
 fn range_of(text: &str) -> Result<Range, CaseError> {
     let (lo, hi) = first_word(text);
     let (lo, hi): (u64, u64) = (lo.parse()?, hi.parse()?);
@@ -21,7 +21,7 @@ fn range_of(text: &str) -> Result<Range, CaseError> {
     Ok(Range { lo, hi })
 }
 
-/// A pointer into a value: `FD LO HI`.
+/// A pointer into a value, `FD LO HI`: the map's descriptor, and the lowest and the highest offset.
 fn value_of(text: &str) -> Result<ValuePointer, CaseError> {
     let (map, rest) = first_word(text);
     let (lo, hi) = first_word(rest);
@@ -32,7 +32,7 @@ fn value_of(text: &str) -> Result<ValuePointer, CaseError> {
     Ok(ValuePointer::new(map.parse()?, lo, hi))
 }
 
-/// The result of a look-up: `FD SITE`.
+/// The result of a look-up before its null test, `FD SITE`: the map's descriptor, and the slot of the look-up.
 fn looked_up(text: &str) -> Result<Kind, CaseError> {
     let (map, site) = first_word(text);
     Ok(Kind::MaybeValue {
@@ -56,8 +56,8 @@ fn kind_of(text: &str) -> Result<Kind, CaseError> {
     }
 }
 
-/// The facts at program entry, but for register 0 of this kind, of which the lowest stack slot is a spill if it is a pointer; or but for
-/// this slot, with `bytes` and the mask of its written bytes.
+/// The facts at program entry with one change. After `bytes`, the lowest stack slot has the mask of its written bytes. Any other text is a
+/// kind: register 0 has it, and if it is a pointer, the slot is a spill of it.
 fn facts_of(text: &str) -> Result<Facts, CaseError> {
     let mut facts = Facts::at_entry();
     let (word, rest) = first_word(text);
@@ -73,7 +73,8 @@ fn facts_of(text: &str) -> Result<Facts, CaseError> {
     Ok(facts)
 }
 
-/// What the join of two facts says of the register and of the slot, for the texts of both with a `|` between them.
+/// What the join of the facts of two texts, with a `|` between them, has for the register and for the slot; or that `join` and `join_into`
+/// make different facts.
 pub fn joined(alloc: Global, text: &str) -> Result<String, CaseError> {
     let (one, other) = text.split_once('|').ok_or(CaseError::Notation)?;
     let (one, other) = (facts_of(one.trim())?, facts_of(other.trim())?);

@@ -30,7 +30,7 @@ impl VerdictPlayer {
         Ok(verify(self.alloc, &program, self.descriptors.named())?)
     }
 
-    /// The verdict on a program's text.
+    /// The text `accepted` for an accepted program, given as text; a rejected one is an error with its slot and its reason.
     fn verdict(&self, text: &str) -> Result<String, CaseError> {
         self.accepted(text)?;
         Ok("accepted".to_string(self.alloc)?)
@@ -42,7 +42,7 @@ impl VerdictPlayer {
         self.verdict(whole.as_str())
     }
 
-    /// The verdict on the program of `jumping`, for the words of a line: by how many slots its jumps go, and its last instruction.
+    /// The verdict on the program of `jumping`, for the words of a line: by how many slots each jump goes ahead, and the last instruction.
     fn verdict_of_jumps(&self, text: &str) -> Result<String, CaseError> {
         let (ahead, end) = first_word(text);
         let whole = jumping(self.alloc, ahead.parse()?, end)?;
@@ -67,6 +67,7 @@ impl Player for VerdictPlayer {
             "jumps" => self.verdict_of_jumps(rest),
             "maps" => self.maps(rest),
             "join" => joined(self.alloc, rest),
+            // A line that opens a descriptor, `new`, or no line of cases.
             _ => self.descriptors.play(line),
         }
     }

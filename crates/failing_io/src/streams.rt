@@ -13,7 +13,7 @@ const LOAD_AND_RUN: [u8; 80] = [
     0, 0, 0, 0, 0, 0, 0, 0, 0, 0, 0, 0, 0, 0, 0, 0, 0, 0, 0, 0, 0, 0,
 ];
 
-/// The end of the first frame of `LOAD_AND_RUN`, the load, in bytes.
+/// The length in bytes of the first frame of `LOAD_AND_RUN`, the load, with its length field.
 const FIRST_FRAME: usize = 28;
 
 /// The replies to the frames of `LOAD_AND_RUN`: descriptor 3, and the result 1.
@@ -21,13 +21,13 @@ const REPLIES: [u8; 28] = [
     8, 0, 0, 0, 0, 0, 5, 0, 3, 0, 0, 0, 12, 0, 0, 0, 0, 0, 10, 0, 0, 0, 0, 0, 1, 0, 0, 0,
 ];
 
-/// The end of the first reply of `REPLIES`, in bytes.
+/// The length in bytes of the first reply of `REPLIES`, with its length field.
 const FIRST_REPLY: usize = 12;
 
-/// A frame that is too short for a head.
+/// A frame of three bytes after its length field, which is too short for a head of four.
 const SHORT_FRAME: [u8; 7] = [3, 0, 0, 0, 0xaa, 0xbb, 0xcc];
 
-/// The replies to five times `SHORT_FRAME`: EINVAL, with the head of no tenant and no command.
+/// The replies to five times `SHORT_FRAME`: EINVAL (-22), with 65,535 as tenant and as command, since the frame has neither.
 const SHORT_REPLIES: [u8; 60] = [
     8, 0, 0, 0, 255, 255, 255, 255, 234, 255, 255, 255, 8, 0, 0, 0, 255, 255, 255, 255, 234, 255,
     255, 255, 8, 0, 0, 0, 255, 255, 255, 255, 234, 255, 255, 255, 8, 0, 0, 0, 255, 255, 255, 255,
@@ -55,6 +55,7 @@ impl Read for Input<'_> {
     fn read(&mut self, buf: &mut [u8]) -> io::Result<usize> {
         if self.rest.is_empty() {
             match self.then {
+                // No bytes are left, so the call returns 0, the end.
                 Then::Ends => {}
                 Then::Fails => return Err(io::Error::from(ErrorKind::Other)),
                 Then::BeginsAgain => self.rest = self.bytes,
@@ -69,7 +70,7 @@ impl Read for Input<'_> {
 }
 
 /// A writer with room for `room` more bytes, which takes at most `at_once` in a call. Its flush fails unless `flushes`. It compares what it
-/// takes with `expected`, the bytes that are still to come; `differs` if some were others.
+/// takes with `expected`, the bytes that are still to come; `differs` if some were others. Without room it takes none, which ends a stream.
 #[derive(Drop)]
 struct Output<'a> {
     room: usize,
@@ -104,7 +105,8 @@ fn front(bytes: &[u8], count: usize) -> &[u8] {
     bytes.get(..count).unwrap_or(bytes)
 }
 
-/// A stream of two tenants, how many frames are allowed, how it ends, and how many calls of the reader and of the writer fail.
+/// A stream of two tenants, at most `limit` frames of which are served; how it has to `end`, and how many calls of the reader and of the
+/// writer have to fail.
 struct Stream<'a> {
     input: Input<'a>,
     output: Output<'a>,
@@ -138,7 +140,8 @@ fn assert_ends(rt: &impl Abort, alloc: Global, case: &str, number: usize, stream
     assert!(rt; found == end && is_written && is_counted, "{case} {number}");
 }
 
-/// A stream of these bytes, which are read at once, with these replies. All of it goes well.
+/// A stream of these bytes, which are read at once, with these replies. As made here it has to end after two frames, with no call failed;
+/// a case changes the fields in which it differs.
 fn stream_of<'a>(bytes: &'a [u8], then: Then, expected: &'a [u8]) -> Stream<'a> {
     Stream {
         input: Input {
@@ -161,7 +164,8 @@ fn stream_of<'a>(bytes: &'a [u8], then: Then, expected: &'a [u8]) -> Stream<'a> 
     }
 }
 
-/// How a stream of the first `length` bytes of `LOAD_AND_RUN` ends, and how many bytes are written.
+/// How a stream of the first `length` bytes of `LOAD_AND_RUN` ends, and how many bytes are written: at the end of a frame, inside the
+/// first frame, or inside the second one (`_`).
 fn end_of_cut(length: usize) -> (Result<u32, ServeFault>, usize) {
     match length {
         0 => (Ok(0), 0),

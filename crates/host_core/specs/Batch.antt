@@ -10,8 +10,8 @@ use Rattle.tenant.specs.Errno.{status_of}
 use Rattle.tenant.specs.State.{TenantState}
 use Rattle.host_core.specs.Handled.{Turn, frames_in, replies_in, HandlesInOrder}
 
--- a batch of a tenant that is served, and its state before and after it: the results are written to
--- the front of `room`, which gives `written`
+-- the program at descriptor fd of a tenant runs on these inputs, which leads from one state to the
+-- other; the results at the front of `room` give `written`; a tenant that is not served runs none
 abbrev pub RunsFor : ℕ → Option TenantState → List BatchInput → List ℕ → List ℕ → Option TenantState
     → Type 0
 RunsFor fd None inputs room written after = ⊥
@@ -19,7 +19,7 @@ RunsFor fd (Some s) inputs room written after =
     (last : TenantState) × RunsBatch fd s inputs room written last × (after ≡ Some last)
 
 -- why a batch of so many contexts, `many` bytes of packets with these ends, and room for `room`
--- results is rejected: its tenant is not served, or the error of the tenant
+-- results is rejected: its tenant is not served, or the error of the tenant; None if it is run
 abbrev pub refusal_for : Option TenantState → ℕ → ℕ → ℕ → List ℕ → ℕ → Option Errno
 refusal_for None fd contexts many ends room = Some NotPermitted
 refusal_for (Some s) fd contexts many ends room =
@@ -41,7 +41,8 @@ pub record ChangesTenant (tenant : ℕ) (before after : List TenantState) : Type
   pub others : (other : ℕ) → other ≢ tenant → slice_get after other ≡ slice_get before other
   pub count : length after ≡ length before
 
--- the runs of a batch are the calls on the test-run frames of its packets, one after another
+-- If a tenant runs a batch, there are turns, calls of `Host::handle`, with the same effect: their
+-- frames are the test runs of its packets, and their replies have its results.
 abbrev pub BatchIsItsCalls : Type 0
 BatchIsItsCalls =
     (tenant fd : ℕ) (frames : List (List ℕ)) (inputs : List BatchInput) (results : List ℕ)

@@ -27,7 +27,7 @@ frames_in turns = map (λ turn. turn.frame) turns
 abbrev pub replies_in : List Turn → List (List ℕ)
 replies_in turns = map (λ turn. turn.reply) turns
 
--- the states after these turns
+-- the states after these turns; those before them if there are none
 abbrev pub states_after : List TenantState → List Turn → List TenantState
 states_after before [] = before
 states_after before (turn ∷ turns) = states_after turn.states turns

@@ -19,7 +19,8 @@ pub record Installs (tenant : ℕ) (code : List Insn) (status : ℤ) (before aft
   pub recorded : Records (load_frame tenant code) (load_reply tenant code status) before after
 
 -- each descriptor of the program's maps names, in this state, a map of the shape with which the
--- program was accepted; a tenant that is not served has no state, and needs none
+-- program was accepted; for a tenant that is not served nothing is required, since no program is
+-- opened there
 abbrev pub FitsTenant : Accepted → Option TenantState → Type 0
 FitsTenant a None = Unit {0}
 FitsTenant a (Some s) = Fits a (targets s)

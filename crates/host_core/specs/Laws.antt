@@ -11,7 +11,7 @@ use Rattle.host_core.specs.declared.server.ServeFault.{ServeFault}
 use Rattle.host_core.specs.declared.server.ServeFaultKind.TheVariants.{Truncated, TooManyFrames, Memory}
 use Rattle.host_core.specs.Served.{IsUnrefused, Noninterference, NoneFaults, StreamState, ServesAlone, ServesStream, NoCallFailed}
 
--- each tenant gets replies that its own machine may give to its own frames
+-- each tenant gets replies that its own machine may give to its own frames; memory may be refused
 abbrev pub EachIsToldByItsMachine : List TenantState → List (List ℕ) → List (List ℕ)
     → List TenantState → Type 0
 EachIsToldByItsMachine before frames replies after =
@@ -19,8 +19,8 @@ EachIsToldByItsMachine before frames replies after =
     → AloneWithRefusals (slice_get before t) (frames_of t frames) (replies_of t frames replies)
     (slice_get after t)
 
--- a tenant to which no memory was refused gets exactly the replies of its own machine, whatever was
--- refused to others
+-- If each tenant gets replies that its machine may give with refusals of memory, then a tenant to
+-- which none was refused gets exactly those without refusals, whatever was refused to others.
 abbrev pub UnrefusedAreToldAlone : Type 0
 UnrefusedAreToldAlone =
     (before after : List TenantState) (frames replies : List (List ℕ))
@@ -67,7 +67,7 @@ EachStretchIsToldAlone =
 
 -- Two streams that agree on a tenant's state at the start and on its frames give it the same
 -- replies, if neither refuses memory to it: it can observe neither the frames of others nor how
--- they interleave with its own.
+-- they interleave with its own. Names with `_too` are of the second stream.
 abbrev pub SameFramesSameReplies : Type 0
 SameFramesSameReplies =
     (t : ℕ) (before after before_too after_too : List TenantState)
@@ -87,7 +87,8 @@ pub record BeginsAlike (old new old_too new_too : List TenantState) (t : ℕ) : 
   pub unrefused_too : IsUnrefused (slice_get new_too t)
 
 -- Two streams with the same frames have the same replies, and the same bytes are written, whatever
--- hosts serve them, if each tenant of these frames has the same state at the beginning of both.
+-- hosts serve them, if each tenant of these frames has the same state at the beginning of both, and
+-- neither refuses memory to it. Names with `_too` are of the second stream.
 abbrev pub SameFramesSameOutput : Type 0
 SameFramesSameOutput =
     (old new old_too new_too : StreamState) (count count_too : ℕ) (rest rest_too : List ℕ)
@@ -104,8 +105,8 @@ SameFramesSameOutput =
 
 -- ---- how a stream ends
 
--- the end of a call that allows `limit` frames, on a stream of so many frames and a rest that is no
--- whole frame
+-- The result of a call that allows `limit` frames, on a stream of so many frames and a rest that is
+-- no whole frame: any byte after `limit` frames is too many; before that a rest is a cut frame.
 abbrev pub stream_result : ℕ → ℕ → List ℕ → Result ℕ ServeFault
 stream_result limit many rest =
     if nat_lt limit many then Err (record { kind = TooManyFrames; frames = limit }) else

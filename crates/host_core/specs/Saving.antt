@@ -59,17 +59,18 @@ RunsPackets before after =
 abbrev pub Call : HostState → HostState → Type 0
 Call before after = HandlesFrame before after ⊎ (RunsPackets before after ⊎ (after ≡ before))
 
--- calls, each with the host after it
+-- calls one after another, from the first host to the last; the list has the host after each call
 abbrev pub Calls : HostState → List HostState → HostState → Type 0
 Calls before [] after = after ≡ before
 Calls before (next ∷ later) after = Call before next × Calls next later after
 
--- the bytes of all parts of a tenant, from part 0 on
+-- these are the bytes of all parts of a tenant, from part 0 on, and it has no more parts
 abbrev pub AreParts : HostState → ℕ → List (List ℕ) → Type 0
 AreParts host tenant saved = (part : ℕ) → saved_part host tenant part ≡ slice_get saved part
 
 -- The parts of each tenant, one after another, are frames with their lengths, each the tenant's
--- own, and they restore it.
+-- own, and they restore it: a new tenant that gets them replies as it does. A frame has 16 bits for
+-- the number of its tenant.
 abbrev pub AreRestored : HostState → Type 0
 AreRestored host =
     (tenant : ℕ) (s : TenantState) → tenant < 2 ^ 16 → slice_get host.states tenant ≡ Some s

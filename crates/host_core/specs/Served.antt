@@ -22,15 +22,15 @@ IsUnrefused None = Unit {0}
 IsUnrefused (Some s) = s.refused ≡ false
 
 -- Each tenant to which no memory was refused gets exactly the replies that its own machine, which
--- has no other tenants, gives to its own frames without refusals of memory. The same holds for each
--- number that is not served.
+-- has no other tenants, gives to its own frames without refusals of memory. For a number that is
+-- not served, each frame gets an error that depends only on the frame.
 abbrev pub Noninterference :
     List TenantState → List (List ℕ) → List (List ℕ) → List TenantState → Type 0
 Noninterference before frames replies after =
     (t : ℕ) → IsUnrefused (slice_get after t) → IsToldAlone (slice_get before t)
     (frames_of t frames) (replies_of t frames replies) (slice_get after t)
 
--- no test run faulted
+-- none of these replies has the status of a test run that faulted
 abbrev pub NoneFaults : List (List ℕ) → Type 0
 NoneFaults replies = AllByRecursion (λ reply. ¬ IsFault reply) replies
 
@@ -80,7 +80,7 @@ pub record Serves (old new : StreamState) (turns : List Turn) (rest out : List �
 abbrev pub joined_replies : List (List ℕ) → List ℕ
 joined_replies replies = flat_map (λ reply. reply) replies
 
--- `count` frames got replies, and each reply was written whole
+-- `count` frames got replies, each was written whole, and then the bytes `rest` were read
 abbrev pub AnswersFrames : StreamState → StreamState → ℕ → List ℕ → Type 0
 AnswersFrames old new count rest =
     (turns : List Turn)
@@ -101,8 +101,8 @@ pub record ServesAlone (old new : StreamState) (count : ℕ) (rest : List ℕ) :
   pub alone : Noninterference old.states frames replies new.states
   pub no_fault : NoneFaults replies
 
--- `count` replies were written whole, and then the one to one more frame, in part, or whole and not
--- flushed
+-- `count` replies were written whole, and of the reply to one more frame the first n bytes: a part
+-- of it, or all if only the flush failed; nothing after that frame was read
 abbrev pub CutsLastReply : StreamState → StreamState → ℕ → Type 0
 CutsLastReply old new count =
     (turns : List Turn) × (last : Turn) × (n : ℕ) × (length turns ≡ count)
@@ -114,7 +114,8 @@ abbrev pub ServesToEnd : StreamState → StreamState → ℕ → Type 0
 ServesToEnd old new count =
     AnswersFrames old new count [] × IsAtEnd new.input × NoCallFailed old new
 
--- the end of a call with a fault, after `count` replies were written whole
+-- the end of a call with a fault, after `count` replies were written whole; at TooManyFrames one
+-- more byte was read, and at Memory nothing was done
 abbrev pub StopsWithFault : StreamState → StreamState → ServeFaultKind → ℕ → Type 0
 StopsWithFault old new Read count =
     (rest : List ℕ)
@@ -134,7 +135,8 @@ StopsWithFault old new TooManyFrames count =
     (byte : ℕ) × AnswersFrames old new count (byte ∷ []) × NoCallFailed old new
 StopsWithFault old new Memory count = (count ≡ 0) × (new ≡ old)
 
--- at any fault but Write, the frames before it are served like those of a whole stream
+-- at any fault but Write, which cuts a reply, the frames before it are served like those of a whole
+-- stream
 abbrev pub StopsAlone : StreamState → StreamState → ServeFaultKind → ℕ → Type 0
 StopsAlone old new kind count = kind ≢ Write → (rest : List ℕ) × ServesAlone old new count rest
 

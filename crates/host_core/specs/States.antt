@@ -5,8 +5,8 @@ use Rattle.saving.specs.Recorded.{RecordedTenant, tenant_state}
 use Rattle.saving.specs.declared.birth.Birth.{Birth}
 use Rattle.tenant.specs.State.{TenantState, new_tenant}
 
--- the states of the tenants from number t on; the values of a tenant's maps lie in its part of the
--- memory
+-- the states of these tenants, the first of which has number t; the values of the maps of tenant t
+-- lie in part t of the memory
 unfoldable pub states_from : Memory → ℕ → List RecordedTenant → List TenantState
 states_from m t [] = []
 states_from m t (k ∷ ks) = tenant_state (part_bytes m t) k ∷ states_from m (t + 1) ks
@@ -28,6 +28,6 @@ births_in tenants = map (λ t. t.births) tenants
 abbrev pub host_state : Memory → List RecordedTenant → HostState
 host_state m tenants = record { states = states_in m tenants; births = births_in tenants }
 
--- a host of new tenants
+-- a host of so many new tenants, which have no objects and no births
 abbrev pub new_host : ℕ → HostState
 new_host count = record { states = replicate count new_tenant; births = replicate count [] }

@@ -4,7 +4,8 @@ use Rattle.std.specs.Io.KnownBytes.{Consumes}
 use Rattle.std.specs.declared.result.Result.{Result}
 use Rattle.std.specs.declared.result.Result.TheVariants.{Ok, Err}
 
--- exactly these bytes were read from a reader, if its bytes are known
+-- exactly these bytes were read between two states of a reader, whose bytes `remaining` gives, if
+-- they are known
 abbrev pub Takes : {R : Type 0} → (R → Option (List ℕ)) → R → R → List ℕ → Type 0
 Takes remaining old new bytes = Consumes (remaining old) (remaining new) bytes
 

@@ -19,7 +19,7 @@ use seeded_hash::HashSeed;
 use std::alloc::Global;
 
 /// If a new host serves a stream to its end, each tenant to which no memory was refused gets exactly the replies that the machine
-/// of a new tenant gives.
+/// of a new tenant gives. Returns the number of replies; `None` at a fault, of which nothing is promised here.
 fn serve_from_the_beginning<R: Source, W: Sink>(
     alloc: Global,
     tenants: usize,
@@ -53,8 +53,9 @@ fn serve_and_save<R: Source, W: Sink>(
     host.tenants_are_restored();
 }
 
-/// After a frame that may be refused memory, the next one, if the status of its reply is not `NoMemory`, gets exactly the reply of its
-/// tenant's own machine from the state between the two, even if the flag is set there.
+/// Two frames are handled: `refused`, which may be refused memory, and `next`. If the status of the second reply, the one that `reply` has
+/// at the end, is not `NoMemory`, it is exactly the reply of its tenant's own machine from the state between the two, even if memory was
+/// refused to the tenant by then.
 fn handle_after_a_refusal(host: &mut Host, refused: &[u8], next: &[u8], reply: &mut ReplyBuf)
     ensures { (first : List ℕ) × (between : List TenantState)
         × Handles host.old.states refused.now first between

@@ -22,7 +22,7 @@ use std::alloc::{AllocError, Global};
 use std::marker::Model;
 use tenant::{Batch, Errno, WorkingMemory, laws};
 
-/// The head of a reply to a frame of fewer than four bytes, which has none: 65535 for tenant and command.
+/// What replaces the head in the reply to a frame of fewer than four bytes, which has no head to repeat: 65535 for tenant and command.
 const NO_HEAD: Head = Head {
     tenant: u16::MAX,
     command: u16::MAX,
@@ -31,8 +31,9 @@ const NO_HEAD: Head = Head {
 /// The most tenants of a host.
 pub const MOST_TENANTS: usize = 64;
 
-/// A host of 1 to `MOST_TENANTS` tenants. Contracts see the list of their states, and that of the births of their objects, both
-/// by tenant number.
+/// A host of 1 to `MOST_TENANTS` tenants. Contracts see the list of their states, and the list of the births of their objects, both
+/// by tenant number. The invariant: the arena has a part of `PART` bytes for each tenant, and some commands lead a new tenant to each
+/// state with its births.
 #[derive(Drop)]
 pub struct Host {
     pub(crate) tenants: Vec<SavableTenant>,
@@ -59,7 +60,8 @@ impl Model for Host {
         × AreReached (host_state h.arena h.tenants.items) };
 }
 
-/// `count` new tenants, the keys of whose hash maps will be hashed with this seed.
+/// Creates `count` tenants with nothing open. The keys of their hash maps will be hashed with `seed`. Each is in the state of a new tenant
+/// whatever the memory has (`m`) and whichever number it gets (`first`), since it has no map there. `AllocError`: out of memory.
 fn new_tenants(
     alloc: Global,
     count: usize,
@@ -109,8 +111,8 @@ impl Host {
     }
 
     /// Handles a frame (what follows the length field) of any length: writes its reply to `reply` and updates the state of
-    /// its tenant. The states of all other tenants are unchanged. The reply is EINVAL if the frame has no head, and EPERM if its
-    /// tenant is not served.
+    /// its tenant. The states of all other tenants are unchanged. The status of the reply is that of EINVAL if the frame has fewer than
+    /// the four bytes of a head, and that of EPERM if its tenant is not served.
     pub fn handle(&mut self, frame: &[u8], reply: &mut ReplyBuf)
         ensures own { MayReply frame.now reply.new
             (slice_get self.old.states (owner frame.now))
@@ -121,6 +123,7 @@ impl Host {
         ensures recorded { Records frame.now reply.new self.old self.new }
         ensures no_fault { ¬ IsFault reply.new }
     {
+        // For the proof of `no_fault`: a law, which does nothing.
         laws::faults_have_no_payload();
         let served = self.tenants.len();
         let Some(head) = head(frame) else {
@@ -136,12 +139,12 @@ impl Host {
         self.tenants[tenant].handle(head, frame, tenant, arena, working, reply);
     }
 
-    /// The frames of part `part` of a save of `tenant`, from 0, each with its length before it; `None` after the last part, and for a
-    /// tenant that is not served.
+    /// The frames of one part of a save of `tenant`, each with its length before it. Parts are counted from 0; `None` after the last one,
+    /// and for a tenant that is not served.
     ///
     /// A new tenant of this number that is given the frames of all parts in their order, on this host or another one, then replies
     /// as this one does. Between two parts the tenant must not change; others may be served. A part creates one map or program, puts at
-    /// most 1,024 keys into a map, or opens or closes descriptors, and is all that is held at once.
+    /// most 1,024 keys into a map, or opens or closes descriptors. So a save of any size takes the memory of one part at a time.
     ///
     /// # Errors
     ///
@@ -156,8 +159,9 @@ impl Host {
         kept.save_part(self.alloc, tenant as u16, part, self.arena.part(tenant))
     }
 
-    /// A law: the parts of each tenant are frames, and a new tenant to which no memory is refused succeeds at each of them and then
-    /// replies as this one does, whatever calls this host had, and whatever memory was refused.
+    /// A law, which does nothing when it runs: what `save` returns restores a tenant. The parts of each tenant are frames. A new tenant to
+    /// which no memory is refused succeeds at each of them and then replies as this one does, whatever calls this host had, and
+    /// whatever memory was refused.
     pub fn tenants_are_restored(&self)
         ensures { AreRestored self.now }
     {
@@ -177,7 +181,7 @@ impl Host {
     ///
     /// # Errors
     ///
-    /// `NotPermitted` if the tenant is not served; else those of `Tenant::run_packets`, which the frames would get. Then
+    /// `NotPermitted` if the tenant is not served; else those of `Tenant::run_packets`: the errors that the test-run frames would get. Then
     /// no packet was run, and nothing has changed.
     pub fn run_packets(
         &mut self,

@@ -15,7 +15,7 @@ use tagged_model::Named;
 use tenant::{Cost, Counts, Described};
 
 impl Host {
-    /// The tenant of this number; `None` if it is not served.
+    /// The tenant of this number; `None` if it is not served. Its state is made of it and of `part`, the bytes of its part of the arena.
     fn kept(&self, tenant: usize) -> Option<&SavableTenant>
         ensures { (part : List ℕ) × (slice_get self.now.states tenant
             ≡ option_map (λ kept. tenant_state part kept.now) result) }
@@ -46,7 +46,7 @@ impl Host {
     }
 
     /// The cost of the program that the descriptor `fd` of `tenant` names, the most instructions and the most calls on its paths; `None` if
-    /// it names none, and for a number that is not served.
+    /// it names no program, and for a number that is not served.
     pub fn program_cost(&self, tenant: usize, fd: u32) -> Option<Cost>
         ensures { HasCostAt (slice_get self.now.states tenant) fd result }
     {
@@ -56,9 +56,10 @@ impl Host {
         }
     }
 
-    /// The number of packets that a batch of `packets` may have, of the program at a descriptor of `tenant`, so that its runs execute at
-    /// most `bound` instructions by the cost of the program, in which a call of a helper counts for more (`Tenant::allowed_packets`): at
-    /// least one, and all if the bound is 0. All if the tenant is not served or the descriptor names no program: such a batch is rejected.
+    /// How many of `packets` packets a batch may have, for the program at a descriptor of `tenant`, so that its runs execute at most
+    /// `bound` instructions by the cost of the program; a call of a helper counts as `CALL_WEIGHT` of `tenant` more. A bound below one run
+    /// still allows one packet; 0 is no bound, and allows all. If the tenant is not served or the descriptor names no program, all are
+    /// allowed: such a batch is rejected as a whole.
     #[tactic(auto, using(crate::proofs::Allowed::no_bound_allows_all))]
     pub fn allowed_packets(&self, tenant: usize, fd: u32, bound: u64, packets: usize) -> usize
         ensures allowed { IsAllowedFor (slice_get self.now.states tenant) fd bound packets result }
@@ -74,8 +75,8 @@ impl Host {
         }
     }
 
-    /// The open descriptors of `tenant` and their objects, as the verifier sees them: those with which a load of it is verified. None
-    /// for a number that is not served. `AllocError`: out of memory.
+    /// The open descriptors of `tenant` and their objects, as the verifier sees them: those with which a load of it is verified. An
+    /// empty list for a number that is not served. `AllocError`: out of memory.
     pub fn targets(&self, tenant: usize) -> Result<Vec<Named>, AllocError>
         ensures { IfOk result (λ named. named.items
             ≡ targets_if_served (slice_get self.now.states tenant)) }

@@ -12,7 +12,8 @@ impl Host {
     /// verified again.
     ///
     /// With which objects it was accepted does not matter, if each descriptor of its maps names a map of the same shape. If one does not,
-    /// the program is given back, and nothing has changed: then its slots have to be loaded by a frame.
+    /// the program is given back, and nothing has changed: then its slots have to be loaded by a frame. For a tenant that is not served
+    /// the program is dropped, and the status is that of `NotPermitted`, as in the reply to a frame.
     pub fn install(&mut self, tenant: u16, program: Box<Verified>) -> Result<i32, Box<Verified>>
         ensures loaded { IfOk result (λ status.
             Installs tenant program.value.code status self.old self.new) }
@@ -21,6 +22,7 @@ impl Host {
         ensures stale { IfErr result (λ kept. (kept.value ≡ program.value) × (self.new ≡ self.old)
             × ¬ FitsTenant program.value (slice_get self.old.states tenant)) }
     {
+        // For the proof: laws, which do nothing.
         laws::faults_have_no_payload();
         command_frames::laws::frames_have_owners();
         let number = usize::from(tenant);

@@ -1,36 +1,39 @@
-//! Laws of streams. Each is the contract of a function that does nothing.
+//! Laws of streams. Each is the contract of a function that does nothing when it runs. The calls in a body are laws that its proof uses.
 
 ghost use Rattle.host_core.specs.Batch.{BatchIsItsCalls};
 ghost use Rattle.host_core.specs.Saving.{TenantsAreRestored};
 ghost use Rattle.host_core.specs.Laws.{UnrefusedAreToldAlone, CallsAreToldAlone, EachIsToldAloneUntilRefused};
 ghost use Rattle.host_core.specs.Laws.{EachStretchIsToldAlone, SameFramesSameReplies, SameFramesSameOutput, NoContentEndsAStream};
 
-/// Each tenant to which no memory was refused gets exactly the replies of its own machine, whatever was refused to others.
+/// A law, for a stream whose contract allows refused memory (`done`, `fault` of `serve`): each tenant to which no memory was refused gets
+/// exactly the replies of its own machine, whatever was refused to others.
 pub fn unrefused_are_told_alone()
     ensures { UnrefusedAreToldAlone }
 {
     tenant::laws::clear_flag_means_alone();
 }
 
-/// Over a sequence of calls of `Host::handle`, each tenant gets replies that its machine may give to its own frames, and if
-/// no memory was refused to it, exactly those of its machine without refusals; and no test run faults.
+/// A law, for a caller of `Host::handle`, whose contract is about one call. Over a sequence of calls, each tenant gets replies that its
+/// machine may give to its own frames, and if no memory was refused to it, exactly those of its machine without refusals; and no test
+/// run faults.
 pub fn calls_are_told_alone()
     ensures { CallsAreToldAlone }
 {
     unrefused_are_told_alone();
 }
 
-/// After each number of calls of `Host::handle`, each tenant whose flag of refused memory is then clear got exactly the replies of its own
-/// machine, whatever is refused to it later, and to others.
+/// A law, by which a later refusal changes nothing in earlier replies. After each number of calls of `Host::handle`, each tenant to which
+/// no memory was refused until then got exactly the replies of its own machine, whatever is refused to it later, and to others.
 pub fn each_is_told_alone_until_refused()
     ensures { EachIsToldAloneUntilRefused }
 {
     calls_are_told_alone();
 }
 
-/// In each stretch of calls of `Host::handle` in which none of a tenant's replies has the status `NoMemory`, these replies are exactly
-/// those of its own machine from the state that it has at the beginning, whatever was refused to it before, and to others. Only its own
-/// creations and loads can have that status: `tenant::laws::only_creations_and_loads_are_refused`.
+/// A law, for tenants to which memory was refused before. In each stretch of calls of `Host::handle` in which none of a tenant's replies
+/// has the status `NoMemory`, these replies are exactly those of its own machine from the state that it has at the stretch's beginning,
+/// whatever is refused to others. Only its own creations and loads can have that status:
+/// `tenant::laws::only_creations_and_loads_are_refused`.
 pub fn each_stretch_is_told_alone()
     ensures { EachStretchIsToldAlone }
 {
@@ -38,15 +41,15 @@ pub fn each_stretch_is_told_alone()
     tenant::laws::unrefused_replies_mean_alone();
 }
 
-/// Two streams that agree on a tenant's state at the start and on its frames give it the same replies, if neither refuses
-/// memory to it.
+/// A law: two streams that agree on a tenant's state at the start and on its frames give it the same replies, if neither refuses memory to
+/// it, whatever frames of others lie between them.
 pub fn same_frames_same_replies()
     ensures { SameFramesSameReplies }
 {
     tenant::laws::one_alone();
 }
 
-/// Two streams with the same frames have the same output, whatever hosts serve them, if each tenant of these frames has the same
+/// A law: two streams with the same frames have the same output, whatever hosts serve them, if each tenant of these frames has the same
 /// state at the beginning of both, and neither refuses memory to it. Replaying a recorded stream relies on this.
 pub fn same_frames_same_output()
     ensures { SameFramesSameOutput }
@@ -54,23 +57,23 @@ pub fn same_frames_same_output()
     same_frames_same_replies();
 }
 
-/// No content of a frame ends a stream: `serve` ends early only by a fault of the reader or the writer, an input that is cut inside a
-/// frame, no memory for its buffers, or the limit of frames.
+/// A law, by which no tenant can end the stream of the others with the content of a frame: `serve` ends early only by a fault of the reader
+/// or the writer, an input that is cut inside a frame, no memory for its buffers, or the limit of frames.
 pub fn no_content_ends_a_stream()
     ensures { NoContentEndsAStream }
 {
     command_frames::laws::frames_in_front();
 }
 
-/// The runs of a batch are the calls of `Host::handle` on the test-run frames of its packets, one after another. So what follows for
+/// A law: the runs of a batch are the calls of `Host::handle` on the test-run frames of its packets, one after another. So what follows for
 /// the tenants over a sequence of calls also follows if some of them are batches.
 pub fn batch_is_its_calls()
     ensures { BatchIsItsCalls }
 {}
 
-/// After any calls of `Host::handle` and `Host::run_packets` on a new host, the parts of a tenant are frames, and a new tenant to which no
-/// memory is refused succeeds at each of them and then replies as this one does. `Host::tenants_are_restored` promises it of any host,
-/// whatever served it.
+/// A law: after any calls of `Host::handle` and `Host::run_packets` on a new host, the saved parts of a tenant are frames, and a new tenant
+/// to which no memory is refused succeeds at each of them and then replies as the saved one does. `Host::tenants_are_restored` promises
+/// this of any host, whatever calls it had.
 pub fn tenants_are_restored()
     ensures { TenantsAreRestored }
 {

@@ -17,11 +17,12 @@ use byteorder::{ByteOrder, LittleEndian};
 use command_frames::LONGEST_FRAME;
 use std::alloc::{AllocError, Global};
 
-/// The length of the buffer for a frame: one byte more than the longest valid frame has, by which a longer one is rejected.
+/// The length of the buffer for a frame: that of the longest valid frame and one byte more, so that the front that is kept of a frame
+/// that is too long is too long itself, and is rejected.
 pub(crate) const FRAME_BUFFER: usize = LONGEST_FRAME + 1;
 
-/// Reads until `buffer` is full or the input ends, and returns how many bytes were read. Fewer than 2^64 - 1 calls of the
-/// reader have failed before.
+/// Reads until `buffer` is full or the input ends, and returns how many bytes were read. The input ends when a read into the rest of
+/// the buffer, which is not empty, gives 0 bytes. Fewer than 2^64 - 1 calls of the reader have failed before.
 ///
 /// # Errors
 ///
@@ -56,7 +57,7 @@ fn number_in(bytes: &[u8]) -> u32
     LittleEndian::read_u32(bytes)
 }
 
-/// Reads the length of a frame; `None` if the input ends before it.
+/// Reads the length of a frame, four bytes; `None` if the input ends before them, `Truncated` if it ends after one to three of them.
 fn read_length<S: Source>(reader: &mut S) -> Result<Option<u32>, ServeFaultKind>
     requires { S.failures reader.old < 2 ^ 64 - 1 }
     ensures some { IfOk result (λ found.
@@ -81,7 +82,8 @@ fn read_length<S: Source>(reader: &mut S) -> Result<Option<u32>, ServeFaultKind>
     Ok(Some(number_in(&bytes)))
 }
 
-/// Reads and discards `count` bytes. Each read overwrites the front of `scratch`, which is not empty.
+/// Reads and discards `count` bytes, of a frame that is too long. Each read overwrites the front of `scratch`, which is not empty.
+/// `Truncated` if the input ends before all are read.
 fn skip<S: Source>(reader: &mut S, scratch: &mut [u8], count: usize) -> Result<(), ServeFaultKind>
     requires failures { S.failures reader.old < 2 ^ 64 - 1 }
     requires scratch { 0 < length scratch.old }
@@ -102,7 +104,7 @@ fn skip<S: Source>(reader: &mut S, scratch: &mut [u8], count: usize) -> Result<(
     Ok(())
 }
 
-/// Reads `count` bytes into the front of `buffer`, which has room for them. `Truncated` if the input ends before.
+/// Reads `count` bytes into the front of `buffer`, which has room for them. `Truncated` if the input ends before all are read.
 fn read_whole<S: Source>(
     reader: &mut S,
     buffer: &mut [u8],
@@ -124,8 +126,8 @@ fn read_whole<S: Source>(
     Ok(())
 }
 
-/// Reads a frame of `total` bytes that is longer than `buffer`, and keeps only its head, the first four bytes of `buffer`: what is skipped
-/// may overwrite the others, since the reply depends only on the head.
+/// Reads a frame of `total` bytes, which is longer than `buffer`, and keeps only its head, in the first four bytes of `buffer`. The bytes
+/// that are skipped are read over the rest of the buffer, since the reply depends only on the head.
 fn read_long<S: Source>(
     reader: &mut S,
     buffer: &mut [u8],
@@ -147,8 +149,8 @@ fn read_long<S: Source>(
     Ok(())
 }
 
-/// Reads a frame of `total` bytes, and returns how long its front in `buffer` is: of a frame that is longer than the buffer, the length of
-/// the buffer, in which only the head is promised to be that of the frame.
+/// Reads a frame of `total` bytes, and returns how many bytes of `buffer` have to be handled: the frame, which is at the front of the
+/// buffer. For a frame that is longer they are the whole buffer, and only the first four, the head, are sure to be those of the frame.
 fn read_body<S: Source>(
     reader: &mut S,
     buffer: &mut [u8],
@@ -175,8 +177,9 @@ fn read_body<S: Source>(
     }
 }
 
-/// Reads a frame, with its length before it, and returns how long its front in `buffer` is; `None` if the input ends before a frame. In a
-/// buffer that a longer frame fills, only the head is promised to be that of the frame.
+/// Reads a frame, with its length before it, and returns how many bytes of `buffer` have to be handled: the frame, which is at the front
+/// of the buffer. For a frame that is longer they are the whole buffer, and only the first four, the head, are sure to be those of the
+/// frame. `None` if the input ends before a frame.
 pub(crate) fn read_frame<S: Source>(
     reader: &mut S,
     buffer: &mut [u8],

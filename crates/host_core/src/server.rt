@@ -48,7 +48,7 @@ pub struct ServeFault {
     pub frames: u32,
 }
 
-/// The buffers for a frame and for a reply.
+/// The buffers for a frame, of `FRAME_BUFFER` bytes, and for a reply.
 #[derive(Drop)]
 struct Buffers {
     frame: Vec<u8>,
@@ -66,7 +66,8 @@ impl Buffers {
     }
 }
 
-/// Reads a frame, handles it, and writes its reply; false if the input ends before a frame.
+/// Reads a frame, handles it, and writes and flushes its reply; false if the input ends before a frame. `Err`: why the stream ends.
+/// Of a frame that is longer than the buffer only the front is handled, since its reply depends only on its head.
 fn serve_frame<R: Source, W: Sink>(
     host: &mut Host,
     reader: &mut R,
@@ -90,7 +91,7 @@ fn serve_frame<R: Source, W: Sink>(
     Ok(true)
 }
 
-/// Whether the input is at its end; if not, one more byte of it is read.
+/// Whether the input is at its end, after the last frame that the limit allows. If not, one more byte of it is read and lost.
 fn is_at_end<R: Source>(reader: &mut R) -> Result<bool, ServeFaultKind>
     requires { R.failures reader.old < 2 ^ 64 - 1 }
     ensures end { IfOk result (λ end. end ≡ true → Takes R.remaining reader.old reader.new []
@@ -136,6 +137,7 @@ pub fn serve<R: Source, W: Sink>(
             frames: 0,
         });
     };
+    // For the proof of what each tenant gets: a law, which does nothing.
     laws::calls_are_told_alone();
     for frames in 0..limit {
         match serve_frame(host, reader, writer, &mut buffers) {

@@ -1,4 +1,6 @@
 //! What `serve` reads from and writes to.
+//!
+//! Contracts require that fewer than 2^64 - 1 calls have failed before: `Counted` counts them in 64 bits.
 
 ghost use Rattle.std.specs.Prelude.{◌≡◌, ℕ, ◌+◌, ◌-◌, ◌<◌, ◌^◌, Bool, true, List, None, Option, OnOk};
 ghost use Rattle.std.specs.Io.{ReadsAtMost, WritesAtMost};
@@ -9,7 +11,7 @@ use std::io::{self, Read, Write};
 
 /// A reader of frames. Contracts see the bytes that come, if they are known, and how many calls failed.
 pub trait Source {
-    // The bytes that are still to be read, if they are known.
+    // The bytes that are still to be read, if they are known; by default they are not (`None`).
     ghost remaining: { Self → Option (List ℕ) } = { λ _. None };
 
     // How many calls failed so far.
@@ -27,7 +29,7 @@ pub trait Source {
 /// A writer of replies. Contracts see the bytes that were written, if they are known, whether they are flushed, and how many
 /// calls failed; a write that takes none of at least one byte counts as failed.
 pub trait Sink {
-    // The bytes written so far, if they are known.
+    // The bytes written so far, if they are known; by default they are not (`None`).
     ghost contents: { Self → Option (List ℕ) } = { λ _. None };
 
     // Whether all that was written is flushed.
@@ -36,7 +38,7 @@ pub trait Sink {
     // How many calls failed so far.
     ghost failures: { Self → ℕ };
 
-    /// Writes bytes from the front of `bytes`, and returns how many.
+    /// Writes bytes from the front of `bytes`, and returns how many. If that is 0 although there are some, the call counts as failed.
     fn write(&mut self, bytes: &[u8]) -> io::Result<usize>
         requires { failures self.old < 2 ^ 64 - 1 }
         ensures bound { WritesAtMost result bytes.now }
@@ -57,12 +59,12 @@ pub trait Sink {
 pub struct Counted<T> {
     inner: T,
     failures: u64,
-    /// Of a writer: whether nothing was written since the last flush.
+    /// Of a writer: true at first and after each flush that succeeds, false from the next write on. Of a reader it has no meaning.
     is_flushed: bool,
 }
 
 impl<T> Counted<T> {
-    /// Wraps `inner`. No call has failed yet.
+    /// Wraps `inner`. No call has failed yet, and what was written to a writer before counts as flushed.
     pub fn new(inner: T) -> Counted<T>
         ensures inner { result.inner ≡ inner }
         ensures failures { result.failures ≡ 0 }
@@ -117,7 +119,8 @@ impl<W: Write> Sink for Counted<W> {
 
     ghost failures = { λ c. c.failures };
 
-    /// Writes to the writer of std, and counts the call if it fails, or accepts none of at least one byte, which ends a stream too.
+    /// Writes to the writer of std, and counts the call if it fails, or accepts none of at least one byte, which ends a stream too. After
+    /// the call not everything counts as flushed, even if it failed.
     fn write(&mut self, bytes: &[u8]) -> io::Result<usize> {
         self.is_flushed = false;
         let outcome = self.inner.write(bytes);

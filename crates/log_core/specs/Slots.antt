@@ -11,18 +11,21 @@ use Rattle.tagged_model.specs.declared.shape.Named.{Named}
 use Rattle.verifier.specs.Judgement.{refusal_of_slots, refusal_text}
 use Rattle.verifier.specs.Verdict.{IsAccepted}
 
--- whether a program is accepted, and a text with the verdict at its end, unless it is a graph
+-- `accepted` is whether the program is accepted, and unless the style is a graph, `text` has the
+-- verdict at its end
 abbrev pub IsLogOfProgram : List Insn → List Named → LogStyle → Bool → List ℕ → Type 0
 IsLogOfProgram code named style accepted text =
     (IsTrue accepted ↔ IsAccepted code named)
     × (style ≢ Graph → SaysVerdict code named accepted text)
 
--- the line of the refusal of slots that are no program
+-- slots with this fault are no program: `accepted` is false, and `text` is the line of the refusal,
+-- with its line feed, 10
 abbrev pub SaysNoProgram : CodecFault → Bool → List ℕ → Type 0
 SaysNoProgram fault accepted text =
     (accepted ≡ false) × (text ≡ refusal_text (refusal_of_slots fault) ++ 10 ∷ [])
 
--- the log of the program that slots spell, or the line of their refusal
+-- `slots` are the bytes of a program, and this is its log; or they have a fault of the codec, and
+-- `text` is the line of their refusal
 abbrev pub IsLogOfSlots : List ℕ → List Named → LogStyle → Bool → List ℕ → Type 0
 IsLogOfSlots slots named style accepted text =
     ((code : List Insn)

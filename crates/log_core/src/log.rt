@@ -20,7 +20,7 @@ fn separator(style: LogStyle) -> &'static str {
     }
 }
 
-/// The log of a program, if descriptors name these objects. As lines it ends with the verdict: a line with the cost and the line
+/// The log of a program, if descriptors name the objects of `named`. As lines it ends with the verdict: a line with the cost and the line
 /// `accepted`, or the line of the refusal and another that says why. As a graph it has the lines of a refusal in the block of the
 /// rejected instruction.
 ///

@@ -19,7 +19,7 @@ pub struct SlotsLog {
     pub is_accepted: bool,
 }
 
-/// The log of slots that are no program: the line of their refusal.
+/// The log of slots that are no program, for this fault of the codec: the line of their refusal.
 fn refused(alloc: Global, fault: CodecFault) -> Result<SlotsLog, AllocError>
     ensures { IfOk result (λ log. SaysNoProgram fault log.is_accepted (string_bytes log.text)) }
 {
@@ -30,7 +30,7 @@ fn refused(alloc: Global, fault: CodecFault) -> Result<SlotsLog, AllocError>
     })
 }
 
-/// The log of slots that are a program.
+/// The log of slots that are this program, without the facts of `log_of`.
 fn logged(
     alloc: Global,
     program: &Program,
@@ -48,8 +48,8 @@ fn logged(
     Ok(SlotsLog { text, is_accepted })
 }
 
-/// The log of the program that the bytes of slots spell, if descriptors name these objects. If they spell none, it is the line of
-/// their refusal.
+/// The log of the program that the bytes of slots spell, if descriptors name the objects of `named`. If the bytes spell no program, the log
+/// is the line of their refusal. The fault `Memory` is none of the bytes, so it is returned as an error.
 ///
 /// # Errors
 ///

@@ -14,42 +14,48 @@ use Rattle.verifier.specs.Shape.{structure_fault}
 use Rattle.verifier.specs.Told.{reached}
 use Rattle.verifier.specs.Verdict.{HasNoFault, IsAccepted, IsFirstFault, safety_fault}
 
--- slots, each with the facts before it
+-- the facts that were kept, as pairs: a slot, and the facts before the instruction at this slot
 abbrev pub facts_by_slot : List KnownFacts → List (ℕ × Facts)
 facts_by_slot known = map (λ here. (here.slot, here.facts)) known
 
--- the definition's facts before the slots below n that a run may reach, in order, and nothing else
+-- `known` has the definition's facts before the slots below n that a run may reach, in order, and
+-- nothing else
 abbrev pub IsKnownBelow : ℕ → List Insn → List Named → List KnownFacts → Type 0
 IsKnownBelow n code named known = facts_by_slot known ≡ reached (shapes_of code named) code n
 
--- an accepted program, and what is known before all its slots
+-- the program is accepted, and `known` has the facts before all slots that a run may reach
 abbrev pub IsAcceptedWith : List Insn → List Named → List KnownFacts → Type 0
 IsAcceptedWith code named known =
     IsAccepted code named × IsKnownBelow (slot_count code) code named known
 
--- a program rejected for its shape, so that no pass over its slots began, and nothing is known
+-- the program is rejected for its shape, with this fault: no facts were computed, and `known` is
+-- empty
 abbrev pub IsMisshapen : List Insn → List Named → List KnownFacts → VerifyFault → Type 0
 IsMisshapen code named known fault =
     IsFirstFault (structure_fault code named) fault.slot fault.reason × (known ≡ [])
 
--- a program rejected for its safety, and what is known before the slots up to that of the fault
+-- the program is rejected for its safety, with this fault, and `known` has the facts before the
+-- slots up to that of the fault, this one included
 abbrev pub IsUnsafe : List Insn → List Named → List KnownFacts → VerifyFault → Type 0
 IsUnsafe code named known fault =
     HasNoFault (structure_fault code named)
     × IsFirstFault (safety_fault (shapes_of code named) code) fault.slot fault.reason
     × IsKnownBelow (fault.slot + 1) code named known
 
--- a program rejected with this fault, for its shape or for its safety, and what is known of it
+-- the program is rejected with this fault, for its shape or for its safety, and `known` has the
+-- facts that go with it: none, or those up to the fault
 abbrev pub IsRefusedWith : List Insn → List Named → List KnownFacts → VerifyFault → Type 0
 IsRefusedWith code named known fault =
     IsMisshapen code named known fault ⊎ IsUnsafe code named known fault
 
--- the verdict: what the program costs if it is accepted, or the fault for which it is rejected
+-- the verdict is that of the program, its cost or the fault for which it is rejected, and `known`
+-- has the facts that go with it
 abbrev pub IsJudged : List Insn → List Named → List KnownFacts → Result Cost VerifyFault → Type 0
 IsJudged code named known (Ok cost) = IsAcceptedWith code named known × IsCostOf cost code
 IsJudged code named known (Err fault) = IsRefusedWith code named known fault
 
--- the facts of a log, which says whether the program is accepted
+-- the Boolean, which a log has, is whether the program is accepted, and `known` has the facts that
+-- go with this verdict; of a rejected program, with its fault, which the log does not have
 abbrev pub IsLogged : List Insn → List Named → Bool → List KnownFacts → Type 0
 IsLogged code named true known = IsAcceptedWith code named known
 IsLogged code named false known = (fault : VerifyFault) × IsRefusedWith code named known fault

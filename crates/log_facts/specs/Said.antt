@@ -9,15 +9,15 @@ use Rattle.verifier.specs.Cost.{IsCostOf}
 use Rattle.verifier.specs.Judgement.{refusal_of_program, refusal_text}
 use Rattle.verifier.specs.Verdict.{IsRefused}
 
--- no bytes, or bytes that end with a line feed
+-- whole lines: no bytes, or bytes that end with a line feed, 10
 abbrev pub AreLines : List ℕ → Type 0
 AreLines bytes = (bytes ≡ []) ⊎ ((before : List ℕ) × (bytes ≡ before ++ 10 ∷ []))
 
--- the line of an acceptance
+-- the line `accepted`, with its line feed
 abbrev pub accepted_line : List ℕ
 accepted_line = codes "accepted" ++ 10 ∷ []
 
--- the line of what a program costs
+-- the line of what a program costs: `cost: instructions I, calls C`, in decimal
 abbrev pub cost_line : Cost → List ℕ
 cost_line cost =
     codes "cost: instructions "
@@ -27,18 +27,18 @@ cost_line cost =
 abbrev pub refusal_line : VerifyFault → List ℕ
 refusal_line fault = refusal_text (refusal_of_program fault) ++ 10 ∷ []
 
--- the verdict is added: the lines of the cost and of an acceptance, or that of a refusal with more
--- text after it
+-- the text `new` is the text `old` and then the verdict: the line of the cost and the line
+-- `accepted`, or the line of a refusal and any text after it
 abbrev pub AddsVerdict : Result Cost VerifyFault → List ℕ → List ℕ → Type 0
 AddsVerdict (Ok cost) old new = new ≡ old ++ cost_line cost ++ accepted_line
 AddsVerdict (Err fault) old new = (more : List ℕ) × (new ≡ old ++ refusal_line fault ++ more)
 
--- lines, and then the verdict
+-- the text is whole lines, and then this verdict
 abbrev pub EndsInVerdict : Result Cost VerifyFault → List ℕ → Type 0
 EndsInVerdict verdict text = (lines : List ℕ) × AreLines lines × AddsVerdict verdict lines text
 
--- the text says whether the program is accepted, and if so, what it costs; if not, at which slot
--- and for which reason it is rejected
+-- the text ends in the verdict on the program: if the Boolean is true, with what the program costs;
+-- if false, with the slot and the reason for which it is rejected
 abbrev pub SaysVerdict : List Insn → List Named → Bool → List ℕ → Type 0
 SaysVerdict code named true text = (cost : Cost) × IsCostOf cost code × EndsInVerdict (Ok cost) text
 SaysVerdict code named false text =

@@ -19,8 +19,8 @@ pub struct Edges {
     pub jumping: Facts,
 }
 
-/// Sets the ranges of both operands of a comparison in the facts on one of its edges; `None` if no run takes the edge. Returns whether
-/// one may.
+/// Sets the ranges of both operands of a comparison, that of `dst` first, in the facts on one of its edges; `None` if no run takes the
+/// edge. Returns whether a run may take it.
 fn refine(facts: &mut Facts, dst: Reg, src: &Operand, ranges: Option<(Range, Range)>) -> bool {
     match ranges {
         Some(ranges) => {
@@ -32,7 +32,7 @@ fn refine(facts: &mut Facts, dst: Reg, src: &Operand, ranges: Option<(Range, Ran
 }
 
 impl Edges {
-    /// No edge; the facts are a filler.
+    /// No edges. Both fields of facts are `filler`, which says nothing, since both flags are false.
     pub fn none(filler: &Facts) -> Edges {
         Edges {
             falls: false,
@@ -42,8 +42,8 @@ impl Edges {
         }
     }
 
-    /// Sets which edges out of an instruction a run may take, by its flow, and refines the facts on them: both buffers have those after
-    /// the instruction.
+    /// Sets which edges out of an instruction a run may take, by the result of its transfer function, and refines the facts on them. Before
+    /// this, `falling` and `jumping` both are the facts after the instruction, without what only one edge has.
     fn take(&mut self, flow: &Flow) {
         (self.falls, self.jumps) = match *flow {
             Flow::Ends => (false, false),
@@ -70,7 +70,8 @@ impl Edges {
         };
     }
 
-    /// Computes the edges out of the instruction at `slot` from the facts before it: none if it is rejected.
+    /// Computes the edges out of the instruction at `slot` from the facts before it, if descriptors name the objects of `named`: no edges
+    /// if it is rejected.
     pub fn leave(&mut self, facts: &Facts, named: &[Named], slot: usize, insn: &Insn) {
         self.falling = *facts;
         match apply(&mut self.falling, named, slot, insn) {

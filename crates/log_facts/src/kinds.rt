@@ -15,7 +15,7 @@ fn write_number(text: &mut String, number: u64) -> Result<(), AllocError> {
     }
 }
 
-/// Writes a range: its one number, or the least and the greatest.
+/// Writes a range: its one number, `any number` for all of 64 bits, or the least and the greatest number.
 ///
 /// # Errors
 ///
@@ -31,7 +31,7 @@ pub fn write_range(text: &mut String, range: Range) -> Result<(), AllocError> {
     }
 }
 
-/// Writes an offset from a named base.
+/// Writes an offset in bytes from what has this name, as `stack - 8`; an offset of 0 as the name only.
 fn write_offset_from(text: &mut String, name: &str, offset: i32) -> Result<(), AllocError> {
     let distance = offset.unsigned_abs();
     if offset == 0 {
@@ -43,7 +43,7 @@ fn write_offset_from(text: &mut String, name: &str, offset: i32) -> Result<(), A
     }
 }
 
-/// Writes a pointer into a map's value.
+/// Writes a pointer into a map's value: the map's descriptor, and the offset, or the least and the greatest that it may have.
 fn write_value_pointer(text: &mut String, pointer: ValuePointer) -> Result<(), AllocError> {
     let (map, lo, hi) = (pointer.map, pointer.lo, pointer.hi);
     write!(text, "value of map {map}, offset {lo}")?;
@@ -54,7 +54,7 @@ fn write_value_pointer(text: &mut String, pointer: ValuePointer) -> Result<(), A
     }
 }
 
-/// Writes a kind: what a value is that has it.
+/// Writes a kind, by what its values are, as `any number` or `stack - 8`.
 ///
 /// # Errors
 ///

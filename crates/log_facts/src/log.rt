@@ -34,8 +34,8 @@ pub struct Log {
 }
 
 impl Judged {
-    /// The log with this text. For each program of which this is the verdict, the log has its facts and says whether it is
-    /// accepted; and so does the text, if the verdict is at its end.
+    /// The log with this text, and with the facts and the verdict of `self`. For each program with this verdict and these
+    /// facts (`IsJudged`), `is_accepted` is whether it is accepted, and the log has its facts; a text that ends in `verdict` has it too.
     pub fn into_log(self, text: String) -> Log
         ensures text { result.text ≡ text }
         ensures verdict { (code : List Insn) (named : List Named)
@@ -49,6 +49,7 @@ impl Judged {
             → EndsInVerdict self.verdict (string_bytes text)
             → SaysVerdict code named result.is_accepted (string_bytes result.text) }
     {
+        // A law, which does nothing when it runs: an accepted program is not rejected.
         laws::accepted_is_not_refused();
         let Judged { known, verdict } = self;
         Log {

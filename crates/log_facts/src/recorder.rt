@@ -19,7 +19,7 @@ pub struct KnownFacts {
     pub facts: Facts,
 }
 
-/// Facts that say nothing.
+/// Facts in which nothing is known: no register is readable, and no byte of the stack is written.
 pub fn nothing_known() -> Facts {
     Facts {
         registers: [Kind::Unreadable; REGISTERS],
@@ -27,7 +27,7 @@ pub fn nothing_known() -> Facts {
     }
 }
 
-/// Keeps what the pass knows before each instruction that it reaches, in order.
+/// A watcher of the pass, which keeps the facts before each instruction that the pass reaches, in order.
 #[derive(Drop)]
 struct Recorder {
     known: Vec<KnownFacts>,
@@ -37,6 +37,7 @@ impl Watcher for Recorder {
     ghost use Rattle.std.specs.Prelude.{Some};
     ghost use Rattle.log_facts.specs.Known.{facts_by_slot};
 
+    // What contracts see of it: the slots and facts that it keeps.
     ghost told = { λ r. Some (facts_by_slot r.known.items) };
 
     /// Appends the facts before the instruction at `slot`.
@@ -56,7 +57,7 @@ pub struct Judged {
     pub verdict: Result<Cost, VerifyFault>,
 }
 
-/// Verifies a program, if descriptors name these objects, and keeps what is known before each instruction that the pass reaches.
+/// Verifies a program, if descriptors name the objects of `named`, and keeps what is known before each instruction that the pass reaches.
 ///
 /// # Errors
 ///

@@ -8,12 +8,12 @@ use std::alloc::AllocError;
 use std::fmt::Write;
 use verifier::{Cost, Refusal, VerifyFault};
 
-/// Whether a reason concerns a program's shape, and not its safety: these are the numbers 1 to 9.
+/// Whether a reason concerns a program's shape: these have the numbers 1 to 9. Those of safety, and `Memory`, are numbered from 20 on.
 pub fn is_of_shape(reason: Reason) -> bool {
     reason.number() < 20
 }
 
-/// Writes the first line of a refusal: its slot and the number of its reason.
+/// Writes the first line of a refusal, with its slot and the number of its reason.
 fn write_fault(text: &mut String, fault: VerifyFault) -> Result<(), AllocError>
     ensures { OnOk result (string_bytes text.new ≡ string_bytes text.old ++ refusal_line fault) }
 {
@@ -49,7 +49,7 @@ fn write_acceptance(text: &mut String, cost: Cost) -> Result<(), AllocError>
     text.push_str("accepted\n")
 }
 
-/// Writes the verdict: what the program costs and the line `accepted`, or the line of the refusal, and `why` after it.
+/// Writes the verdict: the line of what the program costs and the line `accepted`, or the line of the refusal and then `why`.
 ///
 /// # Errors
 ///

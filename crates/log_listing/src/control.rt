@@ -11,7 +11,8 @@ pub(crate) struct JumpEdge {
     pub from: usize,
 }
 
-/// The target of the jump at a slot; `None` if no jump begins there, or its target is below slot 0.
+/// The target of the jump at a slot; `None` if no jump begins there, or its target is below slot 0. The test of `MAX_SLOTS` never fails for
+/// an instruction of a program; the contract of `target` needs it.
 pub(crate) fn target_at(program: &Program, slot: usize) -> Option<usize> {
     let insn = program.get(slot)?;
     if slot > MAX_SLOTS {
@@ -20,7 +21,7 @@ pub(crate) fn target_at(program: &Program, slot: usize) -> Option<usize> {
     insn.profile().successors.target(slot)
 }
 
-/// The jumps that a run may take, as far as is known, by their targets.
+/// The jumping edges of these steps that a run may take, in the order of their targets.
 pub(crate) fn live_jumps(
     alloc: Global,
     program: &Program,
@@ -44,7 +45,7 @@ fn ends_block(insn: &Insn) -> bool {
     insn.profile().successors != Successors::Next
 }
 
-/// Marks a slot, if it is in range.
+/// Sets the flag of a slot. A slot past the end, as after the last instruction, has none.
 fn mark(flags: &mut [bool], slot: usize) {
     if let Some(flag) = flags.get_mut(slot) {
         *flag = true;

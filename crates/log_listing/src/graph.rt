@@ -20,7 +20,7 @@ const HEAD: &str =
 /// What is known of an edge.
 #[derive(Clone, Copy)]
 enum Edge<'a> {
-    /// Nothing: there was no pass.
+    /// Nothing: there was no pass, since the program's shape has a fault.
     Untold,
     /// A run may take it; the text is what is new on it.
     Taken(&'a str),
@@ -28,7 +28,8 @@ enum Edge<'a> {
     Dead,
 }
 
-/// What is known of an edge. `told` is what is new on it, or `None` if the pass has not found that a run may take it.
+/// What is known of an edge: `told` is the text of what is new on it, `None` if no run takes it, as far as the pass went, or if there was
+/// no pass.
 fn edge_of<'a>(story: &Story<'_>, told: Option<&'a String>) -> Edge<'a> {
     match told {
         Some(text) => Edge::Taken(text.as_str()),
@@ -48,7 +49,8 @@ struct Block {
     is_refused: bool,
 }
 
-/// Writes the style of an edge and its label: `name`, which is `taken`, `not taken` or empty, and what is new on it.
+/// Writes the style of an edge and its label: `name`, and what is new on the edge. `name` is `taken` or `not taken` after a conditional
+/// jump, else empty, and then nothing is new.
 fn write_style(text: &mut String, name: &str, edge: Edge<'_>) -> Result<(), AllocError> {
     match edge {
         Edge::Dead => write!(text, " [{UNREACHED}]"),
@@ -58,7 +60,7 @@ fn write_style(text: &mut String, name: &str, edge: Edge<'_>) -> Result<(), Allo
     }
 }
 
-/// Writes the edge between the blocks whose first slots are `from` and `to`.
+/// Writes the edge between the blocks whose first slots are `from` and `to`, with its style and its label, which begins with `name`.
 fn write_edge(
     text: &mut String,
     from: usize,
@@ -72,7 +74,8 @@ fn write_edge(
 }
 
 /// Writes the edges out of the block with the first slot `first`: those of its last instruction, which is at `slot`. `step` is `None` if
-/// the pass did not reach this instruction, or an instruction of the block is rejected.
+/// the pass did not reach this instruction, or an instruction of the block is rejected. No edge is written to a slot at which no
+/// instruction begins: only a program whose shape has a fault has such edges.
 fn write_edges(
     text: &mut String,
     story: &Story<'_>,
@@ -114,9 +117,9 @@ fn write_label(text: &mut String, lines: &str) -> Result<(), AllocError> {
 struct Graph<'a> {
     alloc: Global,
     story: &'a Story<'a>,
-    /// Why the program is rejected, if it is.
+    /// The slot and the reason of the rejection; `None` if the program is accepted.
     fault: Option<VerifyFault>,
-    /// The fault in words.
+    /// The fault in words, as lines; empty if there is none.
     why: &'a str,
     /// For each slot whether a block begins there.
     starts: &'a [bool],
@@ -126,12 +129,13 @@ struct Graph<'a> {
 }
 
 impl<'a> Graph<'a> {
-    /// Whether a block begins at a slot. True past the last slot.
+    /// Whether a block begins at a slot. True past the last slot, since the last block ends there.
     fn is_start(&self, slot: usize) -> bool {
         self.starts.get(slot).copied().unwrap_or(true)
     }
 
-    /// The step of the instruction at a slot, if the pass reached it; advances to the step after it.
+    /// The step of the instruction at a slot, and advances to the next step; `None` if the pass did not reach the instruction. Slots are
+    /// asked for in ascending order, which is also that of the steps.
     fn step_at(&mut self, slot: usize) -> Option<&'a Step> {
         let step = self.story.steps.get(self.next)?;
         if step.slot != slot {
@@ -156,7 +160,7 @@ impl<'a> Graph<'a> {
         write!(text, "    block_{slot} [label=\"")
     }
 
-    /// Writes the verdict into the label, if this is the instruction that is rejected.
+    /// Writes the verdict into the label and marks the block as rejected, if the rejected instruction is at `slot`; else does nothing.
     fn write_fault(&mut self, text: &mut String, slot: usize) -> Result<(), AllocError> {
         match self.fault {
             Some(fault) if fault.slot == slot => {

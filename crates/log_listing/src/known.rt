@@ -10,7 +10,7 @@ use std::alloc::AllocError;
 use std::fmt::Write;
 use words::{REGISTERS, STACK_SLOTS};
 
-/// Writes a semicolon before a note, if there is text from `start` on.
+/// Writes the semicolon that parts a note from the one before it. The first note, with no text from `start` on, has none.
 pub(crate) fn part(text: &mut String, start: usize) -> Result<(), AllocError> {
     if text.len() > start {
         text.push_str("; ")
@@ -19,7 +19,7 @@ pub(crate) fn part(text: &mut String, start: usize) -> Result<(), AllocError> {
     }
 }
 
-/// Writes the registers whose kind is new, and readable.
+/// Writes each register that is readable in `new` and had another kind in `old`, with its kind.
 fn write_registers(
     text: &mut String,
     start: usize,
@@ -37,7 +37,7 @@ fn write_registers(
     Ok(())
 }
 
-/// Writes the registers that are not readable any more.
+/// Writes the registers that are readable in `old` and not in `new`, as one note.
 fn write_lost_registers(
     text: &mut String,
     start: usize,
@@ -63,7 +63,8 @@ fn write_lost_registers(
     }
 }
 
-/// The mask of the bytes of a stack slot that are newly written; bit 0 is the lowest.
+/// The mask of the bytes of a stack slot that are newly written; bit 0 is the lowest. Of an overwritten spill these are all that are
+/// written; 0 for a new spill, which has a note of its own (`write_spills`).
 fn written(old: Slot, new: Slot) -> u8 {
     match (old, new) {
         (Slot::Bytes(before), Slot::Bytes(after)) => after & !before,
@@ -72,7 +73,8 @@ fn written(old: Slot, new: Slot) -> u8 {
     }
 }
 
-/// The mask of the bytes of a stack slot that are not readable any more; bit 0 is the lowest.
+/// The mask of the bytes of a stack slot that are not readable any more; bit 0 is the lowest. A spill was readable in all bytes; 0 if there
+/// is a spill now.
 fn lost(old: Slot, new: Slot) -> u8 {
     match (old, new) {
         (Slot::Bytes(before), Slot::Bytes(after)) => before & !after,
@@ -100,7 +102,7 @@ struct Row {
 }
 
 impl Row {
-    /// Writes the bytes as a note, and `what` is new of them: that they are `written` or `lost`.
+    /// Writes the bytes as a note, and `what` is new of them: that they are `written` or `lost`. Nothing if there is no byte.
     fn write(&self, text: &mut String, what: &str) -> Result<(), AllocError> {
         if self.first == self.end {
             return Ok(());
@@ -114,7 +116,8 @@ impl Row {
         }
     }
 
-    /// Adds one more byte. If it does not follow the others, they are written first, with `what` is new of them.
+    /// Adds one more byte. If it does not follow the bytes that the row has, these are first written as a note with `what`, and it begins
+    /// a new row.
     fn take(&mut self, text: &mut String, what: &str, byte: i64) -> Result<(), AllocError> {
         if byte != self.end {
             self.write(text, what)?;
@@ -144,7 +147,8 @@ impl Row {
     }
 }
 
-/// Writes the stack bytes that are newly written, or if `are_lost`, not readable any more.
+/// Writes the stack bytes that are newly written, or if `are_lost`, those that are not readable any more, with a note for each row of
+/// consecutive bytes.
 fn write_stack_bytes(
     text: &mut String,
     start: usize,
@@ -172,7 +176,7 @@ fn write_stack_bytes(
     row.write(text, what)
 }
 
-/// Writes the spills that are new.
+/// Writes each spill of `new` that `old` does not have in this stack slot, with the kind of its pointer.
 fn write_spills(
     text: &mut String,
     start: usize,

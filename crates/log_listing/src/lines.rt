@@ -36,7 +36,7 @@ struct Cursor {
     falls_from: Option<usize>,
 }
 
-/// A line: the offsets in the text of its beginning and of the end of its instruction.
+/// A line: the offsets in the text of its beginning and of the end of its instruction, after which its notes begin.
 #[derive(Clone, Copy)]
 struct Line {
     begin: usize,
@@ -63,7 +63,8 @@ fn write_note(text: &mut String, line: Line, note: &str) -> Result<(), AllocErro
     text.push_str(note)
 }
 
-/// Writes the slots of the instructions from which control comes to `slot`, if one of them is a jump. Moves the cursor past these jumps.
+/// Writes the slots of the instructions from which control comes to `slot`, if one of them is a jump; nothing if control only falls
+/// through to it. Moves the cursor past these jumps.
 fn write_sources(
     text: &mut String,
     line: Line,
@@ -92,7 +93,8 @@ fn write_sources(
     }
 }
 
-/// Writes which edges of a conditional jump can be taken, and what is new on the jumping one. A rejected one has no edges.
+/// Writes which edge of a conditional jump is always taken; if both may be, what is new on the jumping edge, if anything. What is new on
+/// the falling edge is left to the next line. A rejected jump has no edges, and nothing is written.
 fn write_edges(
     text: &mut String,
     line: Line,
@@ -115,7 +117,8 @@ fn write_edges(
     }
 }
 
-/// Writes the notes on an instruction that a run may reach, and sets in the cursor whether a run may fall through from it.
+/// Writes the notes on an instruction that a run may reach, and sets in the cursor whether a run may fall through from it. Only a
+/// conditional jump has notes on its edges.
 fn write_step(
     text: &mut String,
     line: Line,
@@ -178,7 +181,8 @@ fn write_line(
     text.push_str("\n")
 }
 
-/// Writes the lines of the instructions from slot 0 to slot `last`.
+/// Writes the lines of the instructions from slot 0 to slot `last`, or to the end if `last` is past it. The second slot of a wide
+/// instruction has no line.
 pub(crate) fn write_lines(
     text: &mut String,
     story: &Story<'_>,

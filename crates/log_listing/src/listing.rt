@@ -13,7 +13,7 @@ use std::alloc::{AllocError, Global};
 use tagged_model::Named;
 use verifier::{Cost, VerifyFault};
 
-/// The lines of the instructions, up to the rejected one if there is one, and the verdict with `why` after it.
+/// The lines of the instructions, of a rejected program up to the rejected one, and then the verdict, after a rejection with `why`.
 fn lines_of(
     alloc: Global,
     story: &Story<'_>,
@@ -29,8 +29,9 @@ fn lines_of(
     Ok(text)
 }
 
-/// The listing of a program with this verdict, or its graph, if descriptors name these objects; `why` says why it is rejected, and
-/// ends with a line feed. Lines end with the verdict and `why`; in a graph both are in the block of the rejected instruction.
+/// The listing of a program with the verdict of `judged`, or its graph, if descriptors name the objects of `named`. `why` has the reason of
+/// a rejection in words and a line feed, and is empty for an accepted program. Lines end with the verdict and `why`; in a graph both are in
+/// the block of the rejected instruction.
 ///
 /// # Errors
 ///

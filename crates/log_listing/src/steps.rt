@@ -30,14 +30,14 @@ struct StepMaker<'a> {
 }
 
 impl StepMaker<'_> {
-    /// What is known by `new` and not by `old`, and what is not known any more, as text.
+    /// What is known in `new` and not in `old`, and what is not known any more, as text. Empty if both are equal.
     fn news(&self, old: &Facts, new: &Facts) -> Result<String, AllocError> {
         let mut text = String::new(self.alloc);
         write_known(&mut text, 0, old, new)?;
         Ok(text)
     }
 
-    /// What is new in the facts on an edge; `None` if no run takes it (`taken`).
+    /// What is new in the facts `new` on an edge against the facts `old` before the instruction; `None` if no run takes it (not `taken`).
     fn edge(&self, old: &Facts, taken: bool, new: &Facts) -> Result<Option<String>, AllocError> {
         if taken {
             Ok(Some(self.news(old, new)?))
@@ -60,7 +60,8 @@ impl StepMaker<'_> {
         Ok(())
     }
 
-    /// Adds to `step` the edges out of its instruction. Only on those of a conditional jump something is new; others have the empty text.
+    /// Adds to `step` the edges out of its instruction; an exit has none. Only those of a conditional jump have a text, others the empty
+    /// one: what another instruction changes is new before the next one.
     fn leave(&mut self, step: &mut Step, insn: &Insn, facts: &Facts) -> Result<(), AllocError> {
         match insn.profile().successors {
             Successors::Next => step.falling = Some(String::new(self.alloc)),
@@ -71,7 +72,8 @@ impl StepMaker<'_> {
         Ok(())
     }
 
-    /// The step of an instruction, with what is new against `shown` before it.
+    /// The step of the instruction before which `known` has the facts, with what is new in them against `shown`. There is an instruction at
+    /// each slot with facts.
     fn step(&mut self, shown: &Facts, known: &KnownFacts) -> Result<Step, AllocError> {
         let KnownFacts { slot, facts } = known;
         let mut step = Step {

@@ -26,7 +26,8 @@ pub(crate) struct RefusedProgram<'a> {
     pub facts: &'a Facts,
 }
 
-/// Writes what was known at the rejected instruction, against what it needs.
+/// Writes what was known at the rejected instruction, against what it needs. Faults of the shape and unreadable registers come first, since
+/// instructions of many kinds can have them. The last arm has the accesses to memory; its other instructions break no rule of safety.
 fn write_need(
     text: &mut String,
     refusal: &RefusedProgram<'_>,
@@ -55,8 +56,8 @@ fn write_need(
     }
 }
 
-/// The line that says why a program is rejected: the text of the reason, and what is known and what is required, with `between`
-/// between the two.
+/// The line with the reason for which a program is rejected: its text, and after `between` what is known and what is required. Each line
+/// has these, since a fault is at a slot at which an instruction begins.
 fn reason_line(refusal: &RefusedProgram<'_>, between: &str) -> Result<String, AllocError> {
     let mut line = String::from_str(refusal.alloc, reason_words(refusal.fault.reason))?;
     if let Some(insn) = refusal.program.get(refusal.fault.slot) {
@@ -67,7 +68,8 @@ fn reason_line(refusal: &RefusedProgram<'_>, between: &str) -> Result<String, Al
     Ok(line)
 }
 
-/// The facts before the last instruction that the pass reached. They say nothing if it reached none.
+/// The facts before the last instruction that the pass reached. If it reached none, as of a program that is rejected for its shape, they
+/// are those in which nothing is known.
 fn last_facts(known: &[KnownFacts]) -> Facts {
     match known.last() {
         Some(last) => last.facts,

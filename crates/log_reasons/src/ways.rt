@@ -19,7 +19,7 @@ pub(crate) enum Wanted {
     Stack { first: i64, last: i64 },
 }
 
-/// Whether a byte of the stack is written, by its offset from the upper end. False outside the stack.
+/// Whether a byte of the stack is written on each path, by its offset from the upper end. False outside the stack.
 pub(crate) fn is_written(facts: &Facts, byte: i64) -> bool {
     let Ok(byte_index) = usize::try_from(byte.saturating_add(8 * STACK_SLOTS as i64)) else {
         return false;
@@ -50,12 +50,12 @@ impl Wanted {
     }
 }
 
-/// Why the value that an instruction needs is missing before it or an earlier one.
+/// Why the value that the rejected instruction needs is missing before an instruction, this one or an earlier one.
 #[derive(Clone, Copy)]
 enum Cause {
     /// It was never written.
     Never,
-    /// It is missing on the edge from this slot, and present on another.
+    /// It is missing on the edge from this slot, and present on another edge to the same instruction.
     Way(usize),
     /// The instruction at this slot destroys it.
     Taken(usize),
@@ -63,7 +63,7 @@ enum Cause {
     Joined(usize),
 }
 
-/// Whether the value is present on the edges to a slot, as far as they are known.
+/// Whether the value is present on the edges to a slot, of those that have been followed so far.
 #[derive(Clone, Copy)]
 struct Arrival {
     /// Whether the value is present on some edge.
@@ -85,7 +85,8 @@ struct Finder<'a> {
 }
 
 impl Finder<'_> {
-    /// Why the value is missing before the instruction at `slot`, by the edges to it; `None` if it is present.
+    /// Why the value is missing before the instruction at `slot`, before which these are the facts; `None` if it is present. If it is
+    /// missing on some edges only, the first of these is the cause; if on all, the cause of the first; if on none (last arm), their join.
     fn cause_at(&self, slot: usize, facts: &Facts) -> Option<Cause> {
         if self.wanted.is_in(facts) {
             return None;
@@ -107,8 +108,8 @@ impl Finder<'_> {
         }
     }
 
-    /// Notes whether the value is present on an edge, on which these are the facts. If it is missing there and was present before the
-    /// instruction at `from`, this one destroys it.
+    /// Notes whether the value is present on the edge between two slots, on which these are the facts. If it is missing there and present
+    /// before the instruction at `from`, this one destroys it. Of the edges to a slot without the value, the first one noted is kept.
     fn arrive(&mut self, from: usize, to: usize, facts: &Facts) {
         let is_there = self.wanted.is_in(facts);
         let cause = self.cause.unwrap_or(Cause::Taken(from));
@@ -121,7 +122,8 @@ impl Finder<'_> {
         }
     }
 
-    /// Notes whether the value is present on the edges out of an instruction, before which these are the facts.
+    /// Notes whether the value is present on the edges out of the instruction at `slot`, before which these are the facts. The test of
+    /// `slot` against `MAX_SLOTS` always holds; the contract of `target` needs it.
     fn leave(&mut self, slot: usize, insn: &Insn, facts: &Facts) {
         let mut edges = Edges::none(facts);
         edges.leave(facts, self.named, slot, insn);
@@ -136,7 +138,7 @@ impl Finder<'_> {
         }
     }
 
-    /// Follows the value through the instruction at `slot`, before which these are the facts.
+    /// Follows the value through the instruction at `slot`, before which these are the facts. There is one at each slot with facts.
     fn follow(&mut self, slot: usize, facts: &Facts) {
         self.cause = self.cause_at(slot, facts);
         if let Some(insn) = self.program.get(slot) {
@@ -145,7 +147,8 @@ impl Finder<'_> {
     }
 }
 
-/// The arrivals before the pass, by slot: the value is missing at program entry, and no edge is known yet.
+/// The arrivals before the pass, by slot: no edge is known yet, and the value is missing at program entry. The slot 0 in this lack is never
+/// used: no edge leads to slot 0.
 fn first_arrivals(alloc: Global, slots: usize) -> Result<Vec<Arrival>, AllocError> {
     let nothing = Arrival {
         is_there: false,
@@ -158,7 +161,7 @@ fn first_arrivals(alloc: Global, slots: usize) -> Result<Vec<Arrival>, AllocErro
     Ok(arrivals)
 }
 
-/// Why a value is missing before the rejected instruction, the last that the pass reached; `None` if it is not.
+/// Why a value is missing before the rejected instruction, the last that the pass reached; `None` if it is present there.
 fn cause_of(refusal: &RefusedProgram<'_>, wanted: Wanted) -> Result<Option<Cause>, AllocError> {
     let (alloc, program, named) = (refusal.alloc, refusal.program, refusal.named);
     let mut finder = Finder {
@@ -182,7 +185,7 @@ struct Verbs {
     holds: &'static str,
 }
 
-/// The verbs for what is missing: a register is one, stack bytes are several.
+/// The verbs for what is missing: in the singular for a register, in the plural for stack bytes.
 fn verbs_of(wanted: Wanted) -> Verbs {
     match wanted {
         Wanted::Register(_) => Verbs {
@@ -198,7 +201,8 @@ fn verbs_of(wanted: Wanted) -> Verbs {
     }
 }
 
-/// Writes why a register or stack bytes may not be read before the rejected instruction, as a sentence without its subject.
+/// Writes why a register or stack bytes may not be read before the rejected instruction, as a sentence without its subject. The value is
+/// missing there, so a cause is found, and the default is never written.
 pub(crate) fn write_way(
     text: &mut String,
     refusal: &RefusedProgram<'_>,

@@ -31,7 +31,7 @@ fn program<'a>(alloc: Global) -> Command<'a> {
         .no_binary_name(true)
 }
 
-/// Adds the options for what is written.
+/// Adds `--all` and `--dot`, the options for what is written, of which at most one may be given.
 fn with_styles<'a>(alloc: Global, program: Command<'a>) -> Result<Command<'a>, AllocError> {
     let all = flag(
         alloc,
@@ -47,7 +47,7 @@ fn with_styles<'a>(alloc: Global, program: Command<'a>) -> Result<Command<'a>, A
     program.arg(dot.conflicts_with("all")?)
 }
 
-/// Adds the options for the form of the input.
+/// Adds `--hex` and `--text`, the options for the form of the input, of which at most one may be given.
 fn with_forms<'a>(alloc: Global, program: Command<'a>) -> Result<Command<'a>, AllocError> {
     let hex = flag(alloc, "hex", "Read hex lines, whatever the first line is");
     let program = program.arg(hex.conflicts_with("text")?)?;
@@ -58,7 +58,7 @@ fn with_forms<'a>(alloc: Global, program: Command<'a>) -> Result<Command<'a>, Al
     ))
 }
 
-/// Adds the arguments that name maps.
+/// Adds any number of positional arguments, each of which names a map.
 fn with_maps<'a>(alloc: Global, program: Command<'a>) -> Result<Command<'a>, AllocError> {
     let maps = Arg::new(alloc, "map")
         .value_name("MAP")
@@ -67,7 +67,7 @@ fn with_maps<'a>(alloc: Global, program: Command<'a>) -> Result<Command<'a>, All
     program.arg(maps)
 }
 
-/// Parses the arguments, those after the program's name, with clap.
+/// Parses the arguments, those after the program's name, with clap. Help and the version are errors of clap too.
 pub(crate) fn parse_arguments<'a>(
     alloc: Global,
     arguments: &'a [&'a str],
@@ -77,7 +77,7 @@ pub(crate) fn parse_arguments<'a>(
     with_maps(alloc, program)?.try_get_matches_from(arguments)
 }
 
-/// The style of the log that the options ask for.
+/// The style of the log that the options ask for; without one it is what is new before each instruction.
 pub(crate) fn style_of(matches: &ArgMatches<'_>) -> LogStyle {
     if matches.get_flag("dot") {
         LogStyle::Graph
@@ -93,7 +93,8 @@ fn is_hex(line: &str) -> bool {
     !line.is_empty() && line.bytes().all(|byte| byte.is_ascii_hexdigit())
 }
 
-/// Whether the first line that is not blank consists of hex digits. True if there is no such line or the input is not UTF-8.
+/// Whether the first line that is not blank consists of hex digits. True if there is no such line or the input is not
+/// UTF-8: then it is read as hex lines, and rejected as such.
 fn begins_with_hex(input: &[u8]) -> bool {
     let Ok(text) = str::from_utf8(input) else {
         return true;
@@ -107,7 +108,7 @@ fn begins_with_hex(input: &[u8]) -> bool {
     true
 }
 
-/// The form of the input's program: the one that an option asks for, or else that of its first line.
+/// The form of the input's program: the one that an option asks for, or else that of its first line that is not blank.
 pub(crate) fn form_of(matches: &ArgMatches<'_>, input: &[u8]) -> ProgramForm {
     if matches.get_flag("hex") {
         ProgramForm::Hex

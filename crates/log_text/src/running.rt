@@ -15,7 +15,7 @@ struct Answer {
     status: u8,
 }
 
-/// The maps that the arguments name.
+/// The maps that the map arguments name; an empty list if there are none (`None`).
 fn maps_given(alloc: Global, matches: &ArgMatches<'_>) -> Result<Vec<Named>, Failure> {
     match matches.get_strs("map") {
         Some(arguments) => maps_named(alloc, arguments),
@@ -31,7 +31,7 @@ impl Answer {
     }
 }
 
-/// The output for an input: the log of its program, or the refusal of its slots if they are no program.
+/// The output for an input: the log of its program, or the refusal of its slots if they are no program, which only hex lines can have.
 fn log_answer<I: Read + Drop>(
     alloc: Global,
     matches: &ArgMatches<'_>,
@@ -51,6 +51,7 @@ fn log_answer<I: Read + Drop>(
             let Log {
                 text,
                 is_accepted,
+                // The text is written from these.
                 facts: _,
             } = log_of(alloc, &program, &maps, style)?;
             Ok(Answer::of_log(text, is_accepted))
@@ -66,6 +67,7 @@ fn answer_of<I: Read + Drop>(
 ) -> Result<Answer, Failure> {
     match parse_arguments(alloc, arguments) {
         Ok(matches) => log_answer(alloc, &matches, input),
+        // An error proper, and not help or the version.
         Err(error) if error.use_stderr() => Err(Failure::from(error)),
         Err(error) => Ok(Answer {
             text: error.to_string(alloc)?,
@@ -82,7 +84,7 @@ fn write_out<O: Write>(output: &mut O, text: &str) -> Result<(), Failure> {
     Ok(())
 }
 
-/// Writes the output for the arguments, and returns the exit status.
+/// Writes the output for the arguments, and returns the exit status. Nothing is written if the output can't be made.
 fn run<I: Read + Drop, O: Write + Drop>(
     alloc: Global,
     arguments: &[&str],
@@ -97,7 +99,7 @@ fn run<I: Read + Drop, O: Write + Drop>(
 /// Runs the program on its arguments, those after its name, and returns its exit status: 0 if the input's program is accepted,
 /// or help or the version is asked for, 1 if it or the input is rejected, 2 if arguments are wrong, 3 if input or output failed,
 /// 4 if out of memory. A fault is one line on `faults`, that of `bpfhost verify`; if that line can't be written, the status is
-/// the same. The log is written only once it is complete.
+/// still the fault's. The log is written only once it is complete.
 pub fn run_log_words<I: Read + Drop, O: Write + Drop, F: Write + Drop>(
     alloc: Global,
     arguments: &[&str],

@@ -10,11 +10,11 @@ use Rattle.tenant.specs.Machine.{Answer}
 
 -- ---- a renaming of handles
 
--- a map of a program, its descriptor and its handle, with the handle renamed
+-- a map of a program, which is a pair of its descriptor and its handle, with the handle renamed
 abbrev pub moved_map : (ℕ → ℕ) → ℕ × ℕ → ℕ × ℕ
 moved_map move m = (m.0, move m.1)
 
--- the maps of a program, with their handles renamed
+-- the maps of a program, pairs of a descriptor and a handle, with their handles renamed
 abbrev pub moved_maps : (ℕ → ℕ) → List (ℕ × ℕ) → List (ℕ × ℕ)
 moved_maps move ms = map (moved_map move) ms
 
@@ -23,25 +23,27 @@ abbrev pub moved_object : (ℕ → ℕ) → OpenObject → OpenObject
 moved_object move (object.Map handle) = object.Map (move handle)
 moved_object move (object.Program l) = object.Program (record l { maps = moved_maps move l.maps })
 
--- the objects of a table of descriptors, with their handles renamed
+-- the objects by descriptors, None if a descriptor is free, with the handles of maps renamed
 abbrev pub moved_objects : (ℕ → ℕ) → List (Option OpenObject) → List (Option OpenObject)
 moved_objects move objects = map (option_map (moved_object move)) objects
 
 -- ---- alike states
 
--- the second state has the objects of the first, with their handles renamed, and exactly its live
--- maps, no two of them with one handle
+-- t is s with its handles renamed by `move`: the objects of t are those of s, renamed (`objects`);
+-- a live map of s is live in t at the new handle (`same`); no two live maps get one handle
+-- (`apart`); and each live map of t is one of s (`only`)
 pub record IsMovedBy (move : ℕ → ℕ) (s t : TenantState) : Type 0 where
   pub objects : t.objects ≡ moved_objects move s.objects
   pub same : (handle : ℕ) → IsSome (live s handle) → live t (move handle) ≡ live s handle
   pub apart : (p q : ℕ) → IsSome (live s p) → IsSome (live s q) → move p ≡ move q → p ≡ q
   pub only : (q : ℕ) → IsSome (live t q) → (p : ℕ) × IsSome (live s p) × (move p ≡ q)
 
--- the states are equal up to the handles of maps and the flag of refused memory
+-- s and t are equal up to the handles of maps, by some renaming, and up to the flag of refused
+-- memory
 abbrev pub IsAlike : TenantState → TenantState → Type 0
 IsAlike s t = (move : ℕ → ℕ) × IsMovedBy move s t
 
--- the same status and the same payload, and states after them that are alike
+-- two results with equal status and payload, and with states after them that are alike
 pub record IsAlikeAnswer (a b : Answer) : Type 0 where
   pub status : b.status ≡ a.status
   pub payload : b.payload ≡ a.payload
@@ -49,7 +51,8 @@ pub record IsAlikeAnswer (a b : Answer) : Type 0 where
 
 -- ---- the invariant of the machine's states
 
--- exactly the maps that an open object names are live
+-- the lists have 64 descriptors and 16 handles, and exactly the maps that an open object names are
+-- live
 pub record HoldsItsMaps (s : TenantState) : Type 0 where
   pub descriptors : length s.objects ≡ most
   pub handles : length s.maps ≡ most_maps

@@ -14,7 +14,7 @@ use Rattle.tenant.specs.Machine.{Answer}
 pub use Rattle.saving.specs.declared.birth.Birth.{Birth}
 pub use Rattle.saving.specs.declared.birth.Birth.TheVariants.{OfMap, OfProgram}
 
--- the descriptor of a birth
+-- the descriptor at which the object of a birth was opened
 abbrev pub number : Birth → ℕ
 number (OfMap handle fd) = fd
 number (OfProgram fd) = fd
@@ -26,27 +26,28 @@ birth_of fd (object.Program l) = OfProgram fd
 
 -- ---- lists of births, the latest first
 
--- the latest birth at a descriptor
+-- the latest birth at a descriptor; None if the list has none there
 abbrev pub latest_at : List Birth → ℕ → Option Birth
 latest_at [] fd = None
 latest_at (b ∷ older) fd = if number b == fd then Some b else latest_at older fd
 
--- it is a birth of the map with this handle
+-- whether a birth is that of the map with this handle
 abbrev pub is_of_map : ℕ → Birth → Bool
 is_of_map handle (OfMap p fd) = p == handle
 is_of_map handle (OfProgram fd) = false
 
--- it is a birth of a program at descriptor fd
+-- whether a birth is that of a program at descriptor fd
 abbrev pub is_of_program : ℕ → Birth → Bool
 is_of_program fd (OfMap p n) = false
 is_of_program fd (OfProgram n) = n == fd
 
--- the map is live and has no older birth
+-- what the birth of a map requires: the map is live, and no older birth is of this map
 abbrev pub IsMapBorn : TenantState → List Birth → ℕ → Type 0
 IsMapBorn s older handle = IsSome (live s handle) × (list_any (is_of_map handle) older ≡ false)
 
--- the program is open, and the latest older birth at each descriptor by which it names a map is the
--- birth of this map
+-- what the birth of a program requires: descriptor fd names the program, which names each of its
+-- maps by another descriptor, m.0, and the latest older birth there is that of the map. So if
+-- objects are created in this order, a load finds the maps of its program
 abbrev pub IsProgramBorn : TenantState → List Birth → ℕ → Type 0
 IsProgramBorn s older fd =
     (l : LoadedProgram) × (named s.objects fd ≡ Some (object.Program l))
@@ -58,7 +59,8 @@ IsBorn s older (OfMap handle fd) = IsMapBorn s older handle
 IsBorn s older (OfProgram fd) = IsProgramBorn s older fd
 
 -- a list of births in order: each descriptor is one of 3 to 66, no older birth at it is of a
--- program, and the births of a program's maps are older than its own
+-- program, since a program that was closed has no birth, and the births of a program's maps are
+-- older than its own
 abbrev pub AreInOrder : TenantState → List Birth → Type 0
 AreInOrder s [] = Unit {0}
 AreInOrder s (b ∷ older) =
@@ -68,8 +70,8 @@ AreInOrder s (b ∷ older) =
     × IsBorn s older b
     × AreInOrder s older
 
--- the births of the live maps and the open programs of a state; the latest at an open descriptor is
--- that of its object
+-- the births of the live maps and the open programs of a state, with the latest first; the latest
+-- at an open descriptor is that of its object
 pub record AreBirths (s : TenantState) (births : List Birth) : Type 0 where
   pub order : AreInOrder s births
   pub latest : (fd : ℕ) (o : OpenObject)
@@ -78,30 +80,30 @@ pub record AreBirths (s : TenantState) (births : List Birth) : Type 0 where
 
 -- ---- the births after a command
 
--- the object of a descriptor is a program
+-- whether the object of a descriptor is a program; false for None, if the descriptor is free
 abbrev pub is_open_program : Option OpenObject → Bool
 is_open_program None = false
 is_open_program (Some (object.Map handle)) = false
 is_open_program (Some (object.Program l)) = true
 
--- the object of a birth is live: its map, or a program that its descriptor names
+-- whether the object of a birth is live: the map is, or the descriptor of the birth names a program
 abbrev pub lives : TenantState → Birth → Bool
 lives s (OfMap handle fd) = is_some (live s handle)
 lives s (OfProgram fd) = is_open_program (named s.objects fd)
 
--- these births, and that of the object at descriptor fd, if there is one, as the latest
+-- the births after `births`: if fd names an object, its birth is added in front, as the latest
 abbrev pub with_birth : ℕ → Option OpenObject → List Birth → List Birth
 with_birth fd None births = births
 with_birth fd (Some o) births = birth_of fd o ∷ births
 
--- the births after a command that may open an object, whose descriptor is the status of the answer;
--- a negative status is an error
+-- the births after a command that may open an object, by its status: the descriptor of the object,
+-- whose birth is added, or a negative number, an error. s is the state after the command
 abbrev pub with_opened : ℤ → TenantState → List Birth → List Birth
 with_opened (pos fd) s births = with_birth fd (named s.objects fd) births
 with_opened (negsuc n) s births = births
 
--- the births after a command: with that of the object that it opened, or, after a close, without
--- those of objects that are no longer live
+-- the births after a command with result a: MAP_CREATE and PROG_LOAD add that of the object that
+-- they opened, CLOSE removes those of objects that are no longer live, and others change none
 abbrev pub births_after : Command → Answer → List Birth → List Birth
 births_after (map_create kind key value max flags) a births = with_opened a.status a.after births
 births_after (prog_load kind slots) a births = with_opened a.status a.after births

@@ -6,6 +6,6 @@ use Rattle.insn_set.specs.declared.insn.Insn.{Insn}
 use Rattle.insn_set.specs.declared.insn.Insn.TheVariants.{Alu, Exit}
 use Rattle.insn_set.specs.declared.insn.Operand.TheVariants.{Imm}
 
--- r0 = 0, of 64 bits, and exit
+-- r0 = 0, on 64 bits (`true`), and exit
 abbrev pub filler : List Insn
 filler = Alu true alu.Mov 0 (Imm (pos 0)) ∷ Exit ∷ []

@@ -2,11 +2,11 @@
 use Rattle.std.specs.Prelude.{◌≡◌, ℕ, pos, List, [], ◌∷◌}
 use Rattle.command_frames.specs.Frame.{reply_to}
 
--- a reply without an error: its status is not negative
+-- the reply to this frame is no error: its status is not negative, and its payload is any
 abbrev pub IsGoodReply : List ℕ → List ℕ → Type 0
 IsGoodReply frame reply = (n : ℕ) × (payload : List ℕ) × (reply ≡ reply_to frame (pos n) payload)
 
--- each frame has a reply, and none is an error
+-- each frame has its reply, in order, and none is an error; false if the lengths differ
 abbrev pub AreGood : List (List ℕ) → List (List ℕ) → Type 0
 AreGood [] [] = Unit {0}
 AreGood (frame ∷ frames) (reply ∷ replies) = IsGoodReply frame reply × AreGood frames replies

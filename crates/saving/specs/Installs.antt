@@ -5,10 +5,10 @@ use Rattle.insn_set.specs.declared.insn.Insn.{Insn}
 use Rattle.command_frames.specs.Encoded.{frame_of}
 use Rattle.saving.specs.Restored.{load_of}
 
--- the frame of a tenant that loads the program, with the slots that spell it
+-- the frame of tenant number `tenant` that loads these instructions, with the slots that spell them
 abbrev pub load_frame : ℕ → List Insn → List ℕ
 load_frame tenant code = frame_of tenant (load_of code)
 
--- the reply to the frame that loads the program, with this status and without a payload
+-- the reply to the frame that loads these instructions, with this status and without a payload
 abbrev pub load_reply : ℕ → List Insn → ℤ → List ℕ
 load_reply tenant code status = reply_to (load_frame tenant code) status []

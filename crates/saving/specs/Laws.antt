@@ -17,20 +17,25 @@ use Rattle.command_frames.specs.Encoded.{frame_of}
 use Rattle.saving.specs.Frames.{AreGood}
 use Rattle.saving.specs.Restorable.{IsRestorable}
 
--- a new tenant holds its maps, and each command preserves this
+-- exactly the maps that an open object names are live (`HoldsItsMaps`): in a new tenant, and after
+-- each command if before it, whether memory is refused to it (`refused`) or not
 pub record MapsAreHeld : Type 0 where
   pub new : HoldsItsMaps new_tenant
   pub kept : (refused : Bool) (s : TenantState) (command : Command) (a : Answer)
       → HoldsItsMaps s → Answers refused s command a → HoldsItsMaps a.after
 
--- a bisimulation: states that are alike give each command the same reply, and are alike after it
+-- a bisimulation: if s and t are alike and s gives a command the result a, t can give it one with
+-- equal status and payload, and the states after them are alike. `refused` is whether memory
+-- is refused to the command
 abbrev pub AlikeIsBisimulation : Type 0
 AlikeIsBisimulation =
     (refused : Bool) (s t : TenantState) (command : Command) (a : Answer)
     → HoldsItsMaps s → HoldsItsMaps t → IsAlike s t → Answers refused s command a
     → (b : Answer) × Answers refused t command b × IsAlikeAnswer a b
 
--- states that are alike give each list of frames the same replies, whether memory is refused or not
+-- if s and t are alike, t can give a list of frames each list of replies that s can give: if no
+-- memory is refused (the first law), and if it may be (`refused`). If none is refused, t can give
+-- no other replies (`same`)
 pub record AlikeStatesReplyAlike : Type 0 where
   pub alone : (s t : TenantState) (frames replies : List (List ℕ)) (after : Option TenantState)
       → HoldsItsMaps s
@@ -53,8 +58,9 @@ pub record AlikeStatesReplyAlike : Type 0 where
       → IsToldAlone (Some t) frames others end
       → others ≡ replies
 
--- the births of a tenant's objects: a new tenant has none, each command preserves the invariant,
--- and there is a bound on their number
+-- the births of a tenant's objects: a new tenant has none; if a list is that of the births before a
+-- command, `births_after` is that after it; and there are at most 80, one for each descriptor and
+-- one for each map
 pub record BirthsAreKept : Type 0 where
   pub new : AreBirths new_tenant []
   pub kept : (refused : Bool) (s : TenantState) (command : Command) (a : Answer)
@@ -65,8 +71,8 @@ pub record BirthsAreKept : Type 0 where
       → AreBirths s births
       → length births ≤ most + most_maps
 
--- a new tenant to which no memory is refused succeeds at each command of a save, and is then alike
--- to the saved state
+-- a new tenant to which no memory is refused succeeds at each of the commands that restore a state
+-- s, and the state t after them is alike to s
 abbrev pub RestoredIsAlike : Type 0
 RestoredIsAlike =
     (s : TenantState) (births : List Birth)
@@ -81,18 +87,19 @@ FitsFrame input =
     (length input.words ≡ given_words) × AllByRecursion (λ word. word < 2 ^ 32) input.words
     × (length input.packet ≤ longest_packet)
 
--- the frame of a test run of a program
+-- the frame by which `tenant` runs the program at descriptor fd on these words and this packet
 abbrev pub test_run_frame : ℕ → ℕ → BatchInput → List ℕ
 test_run_frame tenant fd input = frame_of tenant (prog_test_run fd input.words input.packet)
 
--- test runs that fit into frames have frames, which are parsed as these test runs
+-- test runs that fit into frames have frames, which are parsed as these test runs: so the runs of a
+-- batch, which has no frames, are those of some frames
 abbrev pub TestRunsHaveFrames : Type 0
 TestRunsHaveFrames =
     (tenant fd : ℕ) (inputs : List BatchInput) → fd < 2 ^ 32 → AllByRecursion FitsFrame inputs
     → AreTestRuns fd (map (test_run_frame tenant fd) inputs) inputs
 
--- a new tenant to which no memory is refused succeeds at each frame of a save, and is then alike to
--- the saved state
+-- a new tenant to which no memory is refused succeeds at each of the frames that restore a state s,
+-- and the state t after them is alike to s
 abbrev pub RestoredByFrames : Type 0
 RestoredByFrames =
     (tenant : ℕ) (s : TenantState) (births : List Birth) → IsRestorable s → AreBirths s births
@@ -101,7 +108,8 @@ RestoredByFrames =
     × IsToldAlone (Some new_tenant) (map (frame_of tenant) (restored s births)) replies (Some t)
     × AreGood (map (frame_of tenant) (restored s births)) replies × IsAlike s t × HoldsItsMaps t
 
--- the precondition of restoring holds for a new tenant, and each command preserves it
+-- the precondition of restoring a state (`IsRestorable`) holds for a new tenant, and each command
+-- preserves it, whether memory is refused to it or not
 pub record RestorableIsKept : Type 0 where
   pub new : IsRestorable new_tenant
   pub kept : (refused : Bool) (s : TenantState) (command : Command) (a : Answer)
@@ -109,16 +117,16 @@ pub record RestorableIsKept : Type 0 where
 
 -- ---- histories
 
--- a list of commands, whether memory is refused to them or not, and the state and the births before
--- and after it
+-- a list of commands, to each of which memory may be refused, with the state and the births before
+-- it, s and `births`, and after it, t and `later`
 abbrev pub IsHistory : TenantState → List Birth → List Command → TenantState → List Birth → Type 0
 IsHistory s births [] t later = (t ≡ s) × (later ≡ births)
 IsHistory s births (c ∷ cs) t later =
     (refused : Bool) × (a : Answer) × Answers refused s c a
     × IsHistory a.after (births_after c a births) cs t later
 
--- A new tenant succeeds at each of these frames, and from then on it gives each list of frames the
--- replies that this state gives, if no memory is refused.
+-- A new tenant succeeds at each of the frames `saved`. From then on, if no memory is refused, it
+-- can give each list of frames the replies that s gives, and no others.
 abbrev pub IsRestoredBy : TenantState → List (List ℕ) → Type 0
 IsRestoredBy s saved =
     (t : TenantState)

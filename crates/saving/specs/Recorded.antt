@@ -15,23 +15,23 @@ pub record RecordedTenant : Type 0 where
   pub kept : KeptTenant
   pub births : List Birth
 
--- the state that a tenant represents, with the bytes of its part
+-- the state that a tenant represents, with the bytes of its part, in which the values of maps lie
 abbrev pub tenant_state : List ℕ → RecordedTenant → TenantState
 tenant_state part t = state_in part t.kept
 
--- the invariant: exactly the maps that an open object names are live, and the births are those of
--- the state
+-- the invariant, whatever bytes the part has: exactly the maps that an open object names are live,
+-- and the births are those of the state
 abbrev pub IsRecorded : RecordedTenant → Type 0
 IsRecorded t =
     (part : List ℕ) → HoldsItsMaps (tenant_state part t) × AreBirths (tenant_state part t) t.births
 
--- the births after a frame, by its command; a frame that carries none changes no births
+-- the births after a frame with result a, by its command; a frame without a command changes none
 abbrev pub births_after_frame : Result Command BadFrame → Answer → List Birth → List Birth
 births_after_frame (Err fault) a births = births
 births_after_frame (Ok command) a births = births_after command a births
 
--- a frame, its reply, and the state and the births of its tenant before and after it; memory may be
--- refused
+-- a frame and its reply, with the state and the births of its tenant before it, `before` and
+-- `births`, and after it, `after` and `later`; memory may be refused
 pub record RecordsFrame (frame reply : List ℕ) (before after : TenantState)
     (births later : List Birth) : Type 0 where
   pub refused : Bool

@@ -19,13 +19,14 @@ use Rattle.tenant.specs.State.{Map, TenantState, live, maps_area}
 use Rattle.tenant.specs.Machine.{entry_of}
 use Rattle.saving.specs.Alike.{HoldsItsMaps}
 
--- no key occurs twice
+-- no key occurs twice in the list
 abbrev pub AreDistinct : List (List ℕ) → Type 0
 AreDistinct [] = Unit {0}
 AreDistinct (key ∷ keys) = (list_any (is_key key) keys ≡ false) × AreDistinct keys
 
--- keys have the map's key size and none occurs twice; at most `max_entries` are present or deleted,
--- and an array has its indices
+-- a table of keys can be created again: its keys have the map's key size and none occurs twice;
+-- with those deleted in this run there are at most `max_entries`; the keys of an array are its
+-- indices, in order
 pub record IsWholeTable {A : Type 0} (t : Table A) : Type 0 where
   pub keys : AllByRecursion (λ e. length e.0 ≡ t.shape.key_size) t.entries
   pub distinct : AreDistinct (keys_of t.entries)
@@ -33,14 +34,15 @@ pub record IsWholeTable {A : Type 0} (t : Table A) : Type 0 where
   pub indices : t.shape.kind ≡ Array
       → keys_of t.entries ≡ keys_of (indexed (λ i. i) 0 t.shape.max_entries)
 
--- a map with a whole table of keys, whose values have its value size, and no run is in progress
+-- a map can be created again: its table of keys can, each value has the map's value size, and no
+-- run is in progress, so that no deleted key counts
 pub record IsWholeMap (t : Map) : Type 0 where
   pub table : IsWholeTable t
   pub values : AllByRecursion (λ e. length e.1 ≡ t.shape.value_size) t.entries
   pub ended : t.deleted ≡ 0
 
--- the maps of this list of descriptors and handles, as the verifier reads them: those at the n
--- descriptors from fd on
+-- the maps of a program, pairs of a descriptor and a handle, as the verifier reads them, with their
+-- shapes in s: those of the n descriptors from fd on. A descriptor without a map has no entry
 unfoldable pub shapes_from : TenantState → List (ℕ × ℕ) → ℕ → ℕ → List Named
 shapes_from s maps fd zero = []
 shapes_from s maps fd (suc n) =
@@ -48,8 +50,9 @@ shapes_from s maps fd (suc n) =
     (option_map (λ t. target.Map t.shape) (and_then (lookup (λ m. m == fd) maps) (live s)))
     ++ shapes_from s maps (fd + 1) n
 
--- a program was accepted with the shapes that its maps have, and has a handle for each map that it
--- loads
+-- a program can be loaded again: it was accepted when descriptors named the objects `named`, of
+-- which l.named are those that it loads (`picked`); its maps have these shapes in s (`shaped`); and
+-- it has a handle for each map that it loads (`bound`)
 pub record IsWholeProgram (s : TenantState) (l : LoadedProgram) : Type 0 where
   pub program : IsProgram l.insns
   pub named : List Named

@@ -17,7 +17,7 @@ use Rattle.saving.specs.Births.{Birth, OfMap, OfProgram, number}
 
 -- ---- the commands that create an object
 
--- the command that loads a program, of type 1, a socket filter
+-- the command that loads a program, of type 1, a socket filter: no other type can be loaded
 abbrev pub load_of : List Insn → Command
 load_of insns = prog_load 1 (program_bytes insns)
 
@@ -26,45 +26,51 @@ abbrev pub create_of : MapShape → Command
 create_of shape =
     map_create (type_number shape.kind) shape.key_size shape.value_size shape.max_entries 0
 
--- the command that puts a key, e.0, and its value into the map at fd, with flags 0 (BPF_ANY)
+-- the command that puts a key, e.0, and its value, e.1, into the map at fd, with flags 0 (BPF_ANY)
 abbrev pub put_of : ℕ → List ℕ × List ℕ → Command
 put_of fd e = map_update fd 0 (e.0 ++ e.1)
 
--- the commands that create this map and put its keys at descriptor fd; none without a map
+-- the commands that create this map and put its keys at descriptor fd; none for a map that is not
+-- live (None), of which there is no birth
 abbrev pub made_map : ℕ → Option Map → List Command
 made_map fd None = []
 made_map fd (Some t) = create_of t.shape ∷ map (put_of fd) t.entries
 
--- the command that loads this object; none if it is no program
+-- the command that loads what a descriptor names, if it is a program; else none, which does not
+-- happen for the birth of a program
 abbrev pub made_program : Option OpenObject → List Command
 made_program None = []
 made_program (Some (object.Map handle)) = []
 made_program (Some (object.Program l)) = load_of l.insns ∷ []
 
--- the commands that create the object of a birth, a map with its keys
+-- the commands that create the object of a birth: a map and then its keys, or a program
 abbrev pub made : TenantState → Birth → List Command
 made s (OfMap handle fd) = made_map fd (live s handle)
 made s (OfProgram fd) = made_program (named s.objects fd)
 
 -- ---- the walk
 
--- n loads of the filler, which open so many descriptors of a new tenant
+-- n loads of the filler, a program that returns 0: in a new tenant they open n descriptors, and
+-- after all 64 the next object gets the one that is closed
 unfoldable pub filled : ℕ → List Command
 filled zero = []
 filled (suc n) = load_of filler ∷ filled n
 
--- for each birth, the oldest first, its descriptor is closed and its object created there
+-- for each birth, the oldest first, its descriptor is closed and its object created there, since
+-- no other is free; the list has the latest first
 abbrev pub born : TenantState → List Birth → List Command
 born s [] = []
 born s (b ∷ older) = born s older ++ (close (number b) ∷ made s b)
 
--- the commands that close those of the n descriptors from fd on that are not open in the state
+-- the commands that close, of the n descriptors from fd on, those that are not open in the state
+-- with these objects; the commands before them leave all descriptors open
 unfoldable pub closings : List (Option OpenObject) → ℕ → ℕ → List Command
 closings objects fd zero = []
 closings objects fd (suc n) =
     (if is_none (named objects fd) then close fd ∷ [] else []) ++ closings objects (fd + 1) n
 
--- all commands that restore a state with these births, the latest first
+-- all commands that restore a state with these births, the latest first: each descriptor is opened,
+-- each object is created, and the descriptors that are not open in s are closed
 abbrev pub restored : TenantState → List Birth → List Command
 restored s births = filled most ++ (born s births ++ closings s.objects first_descriptor most)
 

@@ -13,17 +13,18 @@ use Rattle.saving.specs.Restored.{create_of, put_of, made_program, filled, closi
 use Rattle.command_frames.specs.Encoded.{frame_of}
 use Rattle.saving.specs.Pieces.{pieces}
 
--- the command that creates a live map without its keys
+-- the command that creates a map of the shape of this one, without its keys; none if it is not live
 abbrev pub made_empty : Option Map → List Command
 made_empty None = []
 made_empty (Some t) = create_of t.shape ∷ []
 
--- the commands that put the keys of a live map, with their values, at descriptor fd
+-- the commands that put a map's keys and values at descriptor fd; none if it is not live (None)
 abbrev pub puts_of : ℕ → Option Map → List Command
 puts_of fd None = []
 puts_of fd (Some t) = map (put_of fd) t.entries
 
--- the commands that close the descriptor of a birth and create its object, a map without its keys
+-- the commands that close the descriptor of a birth and create its object: a program, or a map,
+-- whose keys are put by other parts
 abbrev pub creation : TenantState → Birth → List Command
 creation s (OfMap handle fd) = close fd ∷ made_empty (live s handle)
 creation s (OfProgram fd) = close fd ∷ made_program (named s.objects fd)
@@ -37,7 +38,8 @@ key_commands s (OfProgram fd) = []
 abbrev pub birth_parts : TenantState → Birth → List (List Command)
 birth_parts s b = creation s b ∷ pieces KEYS_OF_PART (key_commands s b)
 
--- all parts of a save, in which the oldest birth is the first; `births` has the latest first
+-- all parts of a save: the loads that open all descriptors, the parts of each birth, the oldest
+-- first, and the closes of free descriptors; `births` has the latest first
 abbrev pub parts : TenantState → List Birth → List (List Command)
 parts s births =
     filled most
@@ -48,7 +50,7 @@ parts s births =
 abbrev pub frames_of : ℕ → List Command → List ℕ
 frames_of tenant commands = flat_map (λ c. framed (frame_of tenant c)) commands
 
--- all parts together are the commands that restore the tenant
+-- all parts of a save, one after another, are the commands that restore the state
 abbrev pub PartsAreWhole : Type 0
 PartsAreWhole =
     (s : TenantState) (births : List Birth)

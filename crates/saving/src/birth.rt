@@ -11,7 +11,7 @@ use std::alloc::{AllocError, Global};
 use std::marker::Model;
 use tenant::{Errno, OpenObject, Reply, Tenant};
 
-/// The most births, 80: one for each descriptor, and one for each map.
+/// The most births that a tenant's objects have, 80: one for each descriptor, and one for each map.
 const MOST_BIRTHS: usize = MOST + MAPS;
 
 /// A map was created, or a program was loaded, and opened at a descriptor.
@@ -76,7 +76,8 @@ impl Births {
         self.oldest_first.push_reserved(birth);
     }
 
-    /// Adds the birth of the object that a command opened, if its reply has a descriptor. There is room for it.
+    /// Adds the birth of the object that a command opened, if its reply has the new descriptor; after any other reply or an error, none.
+    /// There is room for it. `tenant` is the tenant after the command.
     pub(crate) fn note(&mut self, tenant: &Tenant, answer: &Result<Reply<'_>, Errno>)
         requires { length (with_told answer.now tenant.now.objects self.old) ≤ MOST_BIRTHS }
         ensures { self.new ≡ with_told answer.now tenant.now.objects self.old }
@@ -85,12 +86,13 @@ impl Births {
             match tenant.object(*fd) {
                 Some(OpenObject::Map(map)) => self.push(Birth::OfMap(*map, *fd)),
                 Some(OpenObject::Program(_)) => self.push(Birth::OfProgram(*fd)),
+                // Does not happen: the descriptor of such a reply names the new object.
                 None => {}
             }
         }
     }
 
-    /// Removes the births of objects that are no longer live.
+    /// Removes the births of objects that are no longer live, after a close.
     pub(crate) fn keep_living(&mut self, tenant: &Tenant)
         ensures { (part : List ℕ)
             → self.new ≡ filter (lives_in (state_in part tenant.now)) self.old }

@@ -25,7 +25,7 @@ use std::alloc::{AllocError, Global};
 use tagged_model::MapShape;
 use tenant::{OpenObject, Tenant, type_number};
 
-/// The type of socket filters (BPF_PROG_TYPE_SOCKET_FILTER).
+/// The type of socket filters (BPF_PROG_TYPE_SOCKET_FILTER): no other type can be loaded, so each saved program has it.
 const SOCKET_FILTER: u32 = 1;
 
 /// The two slots of the program that keeps a descriptor open: `r0 = 0` (opcode 0xb7) and `exit` (0x95).
@@ -41,7 +41,7 @@ pub(crate) struct FrameWriter {
     pub(crate) number: u16,
 }
 
-/// Appends a frame with its length before it, four bytes, little-endian.
+/// Appends a frame with its length before it, in four bytes, little-endian. `AllocError`: out of memory.
 fn append_framed(frames: &mut Vec<u8>, frame: &[u8]) -> Result<(), AllocError>
     ensures { OnOk result (frames.new.items ≡ frames.old.items ++ framed frame.now) }
 {
@@ -65,8 +65,8 @@ fn bytes_of_puts(shape: MapShape, keys: usize) -> usize {
     each.saturating_mul(keys)
 }
 
-/// The element of the last of the first `count` keys of a map, in their order, or of its last key if it has fewer; `None` if `count` is 0
-/// or the map has no key. The part has `PART` bytes.
+/// The element after which the keys from index `count` on follow, in the order of a map: that of key `count` - 1, or of the last key if the
+/// map has fewer. `None` if `count` is 0 or the map has no key: then all keys follow. The part has `PART` bytes.
 fn element_before(tenant: &Tenant, map: MapKey, count: usize, part: &[u8]) -> Option<u32>
     requires whole { length part.now ≡ PART }
     ensures { rest_after result (numbered_entries part.now tenant.now.live map)
@@ -129,7 +129,7 @@ impl FrameWriter {
             ++ framed (frame_of self.old.number (put_of fd (key.now, value.now)))) }
         ensures number { self.new.number ≡ self.old.number }
     {
-        // The value follows the key.
+        // The key and the value are not one slice, so the frame is written with the key only, and the value is appended.
         let command = Command::MapUpdate {
             fd,
             flags: 0,
@@ -167,7 +167,8 @@ impl FrameWriter {
         Ok(())
     }
 
-    /// Appends the frame that closes a descriptor, if it is not open in the saved tenant. A restored one has it open until then.
+    /// Appends the frame that closes a descriptor, if it is not open in the saved tenant; none if it is. A restored tenant has each
+    /// descriptor open until then.
     fn close_unless_open(&mut self, tenant: &Tenant, fd: u32) -> Result<(), AllocError>
         ensures written { OnOk result (self.new.frames.items
             ≡ self.old.frames.items ++ frames_of self.old.number
@@ -186,6 +187,7 @@ impl FrameWriter {
             ≡ self.old.frames.items ++ frames_of self.old.number
             (closings tenant.now.objects first_descriptor most)) }
     {
+        // Room for all at once, even if fewer are closed, so that the frames are not moved while they grow.
         self.frames.reserve(BYTES_OF_CLOSES)?;
         for fd in FIRST..FIRST + MOST as u32 {
             self.close_unless_open(tenant, fd)?;
@@ -193,8 +195,9 @@ impl FrameWriter {
         Ok(())
     }
 
-    /// Appends the frames that put keys of a map, with their values, into the map at descriptor `fd`: those after the key of element
-    /// `before`, or the first ones if it is `None`, in their order and at most `KEYS_OF_PART`. The part has `PART` bytes.
+    /// Appends the frames that put keys of a map, with their values, into the map at descriptor `fd`: in their order, those after the key
+    /// of element `before`, or from the first on if it is `None`; at most `KEYS_OF_PART`, fewer if no more follow. The part has `PART`
+    /// bytes.
     fn put_after(
         &mut self,
         tenant: &Tenant,
@@ -221,7 +224,7 @@ impl FrameWriter {
     }
 
     /// Appends the frames that put the keys of a map from index `first` on, with their values, into the map at descriptor `fd`, in their
-    /// order and at most `KEYS_OF_PART`; none if the map is not live. The part has `PART` bytes.
+    /// order and at most `KEYS_OF_PART`; none if the map is not live, of which there is no birth. The part has `PART` bytes.
     fn put_keys(
         &mut self,
         tenant: &Tenant,
@@ -247,7 +250,7 @@ impl FrameWriter {
         self.put_after(tenant, map, fd, before, part)
     }
 
-    /// Appends the frame that creates a map of the shape of this one; none if it is not live.
+    /// Appends the frame that creates a map of the shape of this one; none if it is not live, of which there is no birth.
     fn make_map(&mut self, tenant: &Tenant, map: MapKey) -> Result<(), AllocError>
         ensures written { (part : List ℕ) → OnOk result (self.new.frames.items
             ≡ self.old.frames.items ++ frames_of self.old.number
@@ -259,7 +262,8 @@ impl FrameWriter {
         }
     }
 
-    /// Appends the frame that loads the program that a descriptor names; none if it names none.
+    /// Appends the frame that loads the program that a descriptor names; none if it names none, which does not happen
+    /// for the birth of a program.
     fn make_program(&mut self, tenant: &Tenant, alloc: Global, fd: u32) -> Result<(), AllocError>
         ensures written { OnOk result (self.new.frames.items
             ≡ self.old.frames.items ++ frames_of self.old.number

@@ -20,7 +20,7 @@ use arena::{Arena, laws};
 use command_frames::{BadFrame, Command, Head, ReplyBuf, parse};
 use tenant::{Errno, Tenant, WorkingMemory, write_answer};
 
-/// The error for a frame that carries no command.
+/// The error for a frame that carries no command. It is never EFAULT (`BadAddress`), which only a run that faults would have.
 fn frame_error(fault: BadFrame) -> Errno
     ensures errno { result ≡ frame_errno fault }
     ensures no_fault { result ≢ BadAddress }
@@ -38,8 +38,9 @@ struct HeadedCommand<'a> {
     command: Command<'a>,
 }
 
-/// Executes the command of a frame of tenant `number`, and writes the reply. MAP_CREATE and PROG_LOAD add the birth of what they open, and
-/// CLOSE removes the births of what is no longer live. A load is verified in `working`.
+/// Executes the command of a frame and writes the reply. `number` is that of the tenant's part in the arena. MAP_CREATE and PROG_LOAD add
+/// the birth of the object that they open, CLOSE removes the births of objects that are no longer live, and the other commands change no
+/// births. A load is verified in `working`.
 fn reply_to_command(
     tenant: &mut Tenant,
     births: &mut Births,
@@ -113,9 +114,9 @@ fn reply_to_command(
 }
 
 impl SavableTenant {
-    /// Executes a frame of this tenant, which is what follows the length field and has this head, and writes the reply to
-    /// `reply`. `tenant` is the number of its part in the arena. A load is verified in `working`, the memory for the loads of all tenants,
-    /// whose contents mean nothing.
+    /// Executes the command of a frame of this tenant, and writes the reply to `reply`; a frame without a command gets an error and changes
+    /// nothing. `frame` is what follows the length field, and `head` its head. `tenant` is the number of the tenant's part in the arena. A
+    /// load is verified in `working`, the memory for the loads of all tenants, whose contents mean nothing.
     pub fn handle(
         &mut self,
         head: Head,

@@ -17,7 +17,8 @@ use crate::savable::SavableTenant;
 use std::alloc::Global;
 use tenant::{Errno, Reply, Verified};
 
-/// The status of the reply to a command: a new descriptor, the negated number of an error, else 0.
+/// The status of the reply to a command: a new descriptor, the negated number of an error, else 0. By the precondition a descriptor is at
+/// most 66. The status does not depend on the state `s` of the contract.
 fn status_of(reply: &Result<Reply<'_>, Errno>) -> i32
     requires { IsWritable reply.now }
     ensures { (s : TenantState) → result ≡ (shown_answer reply.now s).status }
@@ -31,9 +32,12 @@ fn status_of(reply: &Result<Reply<'_>, Errno>) -> i32
 }
 
 impl SavableTenant {
-    /// Opens a program that was verified elsewhere, as the frame that loads it does, and returns the status of the reply, which has no
-    /// payload. If a descriptor of its maps names no map of the shape with which it was accepted, it is given back, and nothing has
-    /// changed.
+    /// Opens a program that was verified elsewhere, as the frame that loads it does. Returns the status of the reply to that frame, which
+    /// has no payload: the new descriptor, or a negative one if no descriptor is free or memory is refused.
+    ///
+    /// # Errors
+    ///
+    /// The program itself, if a descriptor of its maps names no map of the shape with which it was accepted. Then nothing has changed.
     pub fn install(&mut self, alloc: Global, program: Box<Verified>) -> Result<i32, Box<Verified>>
         ensures replied { IfOk result (λ status. (number : ℕ) (part : List ℕ) → MayReply
             (load_frame number program.value.code) (load_reply number program.value.code status)
@@ -53,7 +57,7 @@ impl SavableTenant {
         command_frames::laws::encoding_inverts_parsing();
         maps_are_held();
         births_are_kept();
-        // For its contract only: the instructions are a program.
+        // Called only for its contract: the instructions are a program.
         program.program().code();
         match self.tenant.install(alloc, program) {
             Ok(reply) => {

@@ -5,17 +5,20 @@ ghost use Rattle.saving.specs.SaveParts.{PartsAreWhole};
 ghost use Rattle.saving.specs.Laws.{MapsAreHeld, AlikeIsBisimulation, AlikeStatesReplyAlike, BirthsAreKept, RestorableIsKept};
 ghost use Rattle.saving.specs.Laws.{RestoredIsAlike, TestRunsHaveFrames, RestoredByFrames, HistoriesAreRestored};
 
-/// Exactly the maps that an open object names are live, in a new tenant and after each command.
+/// A law, one half of the invariant of `SavableTenant`: exactly the maps that an open object names are live, in a new tenant and after
+/// each command.
 pub fn maps_are_held()
     ensures { MapsAreHeld }
 {}
 
-/// States that are alike give each command the same reply, and are alike after it.
+/// A law: states that are alike give each command replies with equal status and payload, and are alike after it. So no command
+/// distinguishes them.
 pub fn alike_is_bisimulation()
     ensures { AlikeIsBisimulation }
 {}
 
-/// States that are alike give each list of frames the same replies.
+/// A law: states that are alike give each list of frames the same replies. So a tenant whose state is alike to a saved one replies as the
+/// saved one would.
 pub fn alike_states_reply_alike()
     ensures { AlikeStatesReplyAlike }
 {
@@ -24,14 +27,16 @@ pub fn alike_states_reply_alike()
     alike_is_bisimulation();
 }
 
-/// A new tenant has no births; after each command they are those of its live maps and open programs; there are at most 80.
+/// A law, the other half of the invariant of `SavableTenant`: a new tenant has no births; after each command they are those of its live
+/// maps and open programs; and there are at most 80, so the room that `Births::new` allocates is enough.
 pub fn births_are_kept()
     ensures { BirthsAreKept }
 {
     maps_are_held();
 }
 
-/// The precondition of restoring a state (`IsRestorable`) holds for a new tenant, and each command preserves it.
+/// A law: the precondition of restoring a state (`IsRestorable`) holds for a new tenant, and each command preserves it. So each state that
+/// a tenant gets to can be restored.
 pub fn restorable_is_kept()
     ensures { RestorableIsKept }
 {
@@ -39,7 +44,7 @@ pub fn restorable_is_kept()
     verifier::laws::loaded_maps_have_shapes();
 }
 
-/// A new tenant to which no memory is refused succeeds at each command of a save, and is then alike to the saved one.
+/// A law: a new tenant to which no memory is refused succeeds at each of the commands that restore a state, and is then alike to it.
 pub fn restored_is_alike()
     ensures { RestoredIsAlike }
 {
@@ -48,14 +53,15 @@ pub fn restored_is_alike()
     verifier::laws::maps_are_listed();
 }
 
-/// Each test run with ten words of context and a packet that is not too long has a frame, which is parsed as this test run.
+/// A law: each test run with ten words of context and a packet that is not too long has a frame, which is parsed as this test run. So the
+/// runs of a batch, which has no frames, are those of some frames.
 pub fn test_runs_have_frames()
     ensures { TestRunsHaveFrames }
 {
     command_frames::laws::encoding_inverts_parsing();
 }
 
-/// A new tenant to which no memory is refused succeeds at each frame of a save, and is then alike to the saved one.
+/// A law: a new tenant to which no memory is refused succeeds at each of the frames that restore a state, and is then alike to it.
 pub fn restored_by_frames()
     ensures { RestoredByFrames }
 {
@@ -63,7 +69,8 @@ pub fn restored_by_frames()
     restored_is_alike();
 }
 
-/// After any history of a tenant, the frames of its save make a new tenant that replies as it does.
+/// A law, what a save is for: after any commands to a tenant, even if memory was refused to some, the frames that restore its state make a
+/// new tenant that replies as it does, while no memory is refused.
 pub fn histories_are_restored()
     ensures { HistoriesAreRestored }
 {
@@ -73,7 +80,7 @@ pub fn histories_are_restored()
     alike_states_reply_alike();
 }
 
-/// All parts of a save together are the commands that restore the tenant.
+/// A law: all parts of a save, one after another, are the commands that restore the tenant. So a save may be made part by part.
 pub fn parts_are_whole()
     ensures { PartsAreWhole }
 {}

@@ -41,8 +41,8 @@
 //!   `births_are_kept`.
 //! - The precondition of restoring a state holds for a new tenant, and after each command, whatever memory is refused:
 //!   `restorable_is_kept`.
-//! - If no memory is refused, a new tenant carries out the commands that restore a state, and is then alike; likewise by
-//!   frames: `restored_is_alike`, `restored_by_frames`.
+//! - If no memory is refused, a new tenant carries out the commands that restore a state, and is then alike to it; so it does
+//!   by frames: `restored_is_alike`, `restored_by_frames`.
 //! - Each test run that fits into a frame has one: `test_runs_have_frames`.
 //! - Whatever frames a tenant had, and whatever memory was refused to it: a new tenant to which no memory is refused carries
 //!   out the frames that restore its state, and then gives each list of frames exactly the replies of the old one, while no

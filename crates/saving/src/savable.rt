@@ -40,8 +40,8 @@ impl Model for SavableTenant {
 }
 
 impl SavableTenant {
-    /// A tenant without open objects or maps; the keys of its maps will be hashed with this seed. Allocates its tables, and room for
-    /// its births. `AllocError`: out of memory.
+    /// A tenant without open objects, maps and births; the keys of its maps will be hashed with this seed. Allocates its tables, and room
+    /// for its births. `AllocError`: out of memory. It is a new tenant whatever bytes its part has (`part`).
     pub fn new(alloc: Global, seed: HashSeed) -> Result<SavableTenant, AllocError>
         ensures new { IfOk result (λ tenant. (part : List ℕ) →
             tenant_state part tenant ≡ new_tenant) }
@@ -96,8 +96,8 @@ impl SavableTenant {
     }
 
     /// The number of packets that a batch of `packets` may have, of the program at a descriptor, so that its runs execute at most `bound`
-    /// instructions by the cost of the program, in which a call of a helper counts for more (`Tenant::allowed_packets`): at least one. All
-    /// if the bound is 0, and if the descriptor names no program: such a batch is rejected.
+    /// instructions by the cost of the program, in which a call of a helper counts for more (`Tenant::allowed_packets`): at least one, if
+    /// `packets` is not 0. All if the bound is 0, which is no bound, and if the descriptor names no program: such a batch is rejected.
     pub fn allowed_packets(&self, fd: u32, bound: u64, packets: usize) -> usize
         ensures allowed { IsAllowed (named self.now.kept.objects fd) bound packets result }
         ensures few { result ≤ packets }

@@ -9,15 +9,15 @@ use crate::birth::Birth;
 use bpf_maps::MapKey;
 use tenant::Tenant;
 
-/// The most keys that one part of a save puts into a map.
+/// The most keys that one part of a save puts into a map, so that a part takes less time than a frame may.
 pub(crate) const KEYS_OF_PART: usize = 1_024;
 
 /// What the frames of a part of a save do.
 #[derive(Clone, Copy)]
 pub(crate) enum SavePart {
-    /// Opens a program at each descriptor.
+    /// Opens a program at each descriptor of a new tenant.
     Filling,
-    /// Closes the descriptor of a birth and creates its object there, a map without keys.
+    /// Closes the descriptor of a birth and creates its object there: a program, or a map, whose keys are put by other parts.
     Creation(Birth),
     /// Puts keys of this map into the map at this descriptor: at most `KEYS_OF_PART`, from the key with this index on.
     Keys(MapKey, u32, usize),
@@ -25,7 +25,7 @@ pub(crate) enum SavePart {
     Closing,
 }
 
-/// The number of keys that the object of a birth has; a program has none.
+/// The number of keys that the object of a birth has: 0 for a program, and for a map that is not live, of which no birth is recorded.
 fn key_count(tenant: &Tenant, birth: Birth) -> usize
     ensures count { (part : List ℕ)
         → result ≡ length (key_commands (state_in part tenant.now) birth) }
@@ -47,7 +47,8 @@ fn count_of_parts(tenant: &Tenant, birth: Birth) -> usize
     1 + key_count(tenant, birth).div_ceil(KEYS_OF_PART)
 }
 
-/// The part of a birth at an index among the parts of this birth: part 0 creates its object, the others put keys. `None` if it has no more.
+/// The part of a birth at an index among the parts of this birth: part 0 creates its object, the others put keys. `None` after the last; a
+/// program has only part 0.
 fn part_of_birth(tenant: &Tenant, birth: Birth, index: usize) -> Option<SavePart>
     ensures { (part : List ℕ) → option_map (part_commands (state_in part tenant.now)) result
         ≡ slice_get (birth_parts (state_in part tenant.now) birth) index }
@@ -58,7 +59,7 @@ fn part_of_birth(tenant: &Tenant, birth: Birth, index: usize) -> Option<SavePart
     let Birth::OfMap(map, fd) = birth else {
         return None;
     };
-    // If it saturates, no map has so many keys.
+    // If this saturates, no map has so many keys, and there is no such part.
     let first = piece.saturating_mul(KEYS_OF_PART);
     if first < key_count(tenant, birth) {
         Some(SavePart::Keys(map, fd, first))
@@ -67,7 +68,8 @@ fn part_of_birth(tenant: &Tenant, birth: Birth, index: usize) -> Option<SavePart
     }
 }
 
-/// The part of a save with an index, of a tenant with these births, the oldest first; `None` after the last part.
+/// The part of a save at an index, of a tenant with these births, the oldest first: part 0 opens all descriptors, then each birth has its
+/// parts, and the last one closes free descriptors; `None` after it.
 pub(crate) fn part_at(tenant: &Tenant, births: &[Birth], index: usize) -> Option<SavePart>
     ensures { (part : List ℕ) → option_map (part_commands (state_in part tenant.now)) result
         ≡ slice_get (ordered_parts (state_in part tenant.now) births.now) index }
@@ -78,6 +80,7 @@ pub(crate) fn part_at(tenant: &Tenant, births: &[Birth], index: usize) -> Option
     for birth in births {
         match part_of_birth(tenant, *birth, left) {
             Some(part) => return Some(part),
+            // This birth has at most `left` parts, and the part comes after them.
             None => left -= count_of_parts(tenant, *birth),
         }
     }

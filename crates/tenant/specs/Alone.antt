@@ -60,15 +60,16 @@ IsRefusedMemory reply = HasErrno NoMemory reply
 abbrev pub frames_of : ℕ → List (List ℕ) → List (List ℕ)
 frames_of t frames = filter (λ frame. owner frame == t) frames
 
--- the replies to the frames of tenant t, among the replies to all frames
+-- the replies to the frames of tenant t, among the replies to all frames, one for each; if one list
+-- is longer, its rest is left out
 abbrev pub replies_of : ℕ → List (List ℕ) → List (List ℕ) → List (List ℕ)
 replies_of t [] replies = []
 replies_of t (frame ∷ frames) [] = []
 replies_of t (frame ∷ frames) (reply ∷ replies) =
     if owner frame == t then reply ∷ replies_of t frames replies else replies_of t frames replies
 
--- a tenant's frames in order, each with its reply in this relation, and the states before and after
--- them
+-- a tenant's frames in order, with as many replies, and the states before and after them: `tells`
+-- relates each frame, its reply, and the states before and after it
 abbrev pub RepliesInOrder : (List ℕ → List ℕ → Option TenantState → Option TenantState → Type 0)
     → Option TenantState → List (List ℕ) → List (List ℕ) → Option TenantState → Type 0
 RepliesInOrder tells before [] [] after = after ≡ before

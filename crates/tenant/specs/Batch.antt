@@ -23,8 +23,8 @@ use Rattle.tenant.specs.State.{TenantState}
 
 -- ---- the runs
 
--- The test-run commands of packets, one after another, each on the words of context that are given
--- with it: each succeeds with its result, and the states before and after them.
+-- The test runs of a program on these inputs, one after another, succeed with these results, one
+-- for each input, and lead from the state `before` to the state `after`.
 unfoldable pub RunsInOrder : ℕ → TenantState → List BatchInput → List ℕ → TenantState → Type 0
 RunsInOrder fd before [] [] after = after ≡ before
 RunsInOrder fd before (input ∷ inputs) (result ∷ results) after =
@@ -34,7 +34,8 @@ RunsInOrder fd before (input ∷ inputs) (result ∷ results) after =
 RunsInOrder fd before [] (result ∷ results) after = ⊥
 RunsInOrder fd before (input ∷ inputs) [] after = ⊥
 
--- the results of the runs are written to the front of a room, whose rest is unchanged
+-- the runs lead from `before` to `after`, and `written` is the room with their results at its front
+-- and the rest unchanged
 abbrev pub RunsBatch : ℕ → TenantState → List BatchInput → List ℕ → List ℕ → TenantState → Type 0
 RunsBatch fd before inputs room written after =
     (results : List ℕ)
@@ -49,7 +50,7 @@ object_refusal None = Some BadDescriptor
 object_refusal (Some (object.Map handle)) = Some Invalid
 object_refusal (Some (object.Program l)) = None
 
--- why a program is not run on a packet of this length, in bytes
+-- why a program is not run on a packet of this length, in bytes; None if it is
 abbrev pub length_refusal : ℕ → Option Errno
 length_refusal size = if nat_lt longest_packet size then Some TooBig else None
 
@@ -58,7 +59,8 @@ abbrev pub else_refusal : Option Errno → Option Errno → Option Errno
 else_refusal None later = later
 else_refusal (Some errno) later = Some errno
 
--- the error of the test run, on a packet of this length, of what a descriptor names
+-- the error of the test run, on a packet of this length, of what a descriptor names; None if it is
+-- a program and the packet is not too long
 abbrev pub run_refusal : Option OpenObject → ℕ → Option Errno
 run_refusal o size = else_refusal (object_refusal o) (length_refusal size)
 
@@ -68,9 +70,10 @@ packet_errno Contexts = Invalid
 packet_errno Outside = Invalid
 packet_errno TooLong = TooBig
 
--- Why packets with these ends in `many` bytes and so many arrays of words are refused: there is
--- room for fewer results, or words for neither all packets together nor each of them, or the first
--- packet that is outside or too long.
+-- Why packets with these ends in `many` bytes are refused, with so many arrays of words
+-- (`contexts`) and room for so many results: there is room for fewer results than packets; there is
+-- neither one array of words nor one for each packet; or a packet is outside, or too long. None if
+-- they are not.
 abbrev pub packets_refusal : ℕ → ℕ → List ℕ → ℕ → Option Errno
 packets_refusal contexts many ends room =
     if nat_lt room (length ends)
@@ -79,7 +82,8 @@ packets_refusal contexts many ends room =
 
 -- Why a batch is rejected, before the first packet: what is named is no program; there is room for
 -- fewer results than packets; there is neither one context nor one for each packet; or a packet is
--- outside, or too long.
+-- outside, or too long. None if it is run. `contexts`: how many arrays of words; `many`: how many
+-- bytes.
 abbrev pub batch_refusal : Option OpenObject → ℕ → ℕ → List ℕ → ℕ → Option Errno
 batch_refusal o contexts many ends room =
     else_refusal (object_refusal o) (packets_refusal contexts many ends room)
@@ -120,14 +124,15 @@ AreTestRuns fd [] (input ∷ inputs) = ⊥
 AreTestRuns fd (frame ∷ frames) [] = ⊥
 
 -- the replies to test-run frames with these results, one each: status 0, and the result in four
--- bytes
+-- bytes; if one list is longer, its rest is left out
 abbrev pub result_replies : List (List ℕ) → List ℕ → List (List ℕ)
 result_replies [] results = []
 result_replies (frame ∷ frames) [] = []
 result_replies (frame ∷ frames) (result ∷ results) =
     reply_to frame (pos 0) (little_bytes 4 result) ∷ result_replies frames results
 
--- the runs of a batch are the test-run frames of its packets, one after another
+-- if frames are the test runs of the inputs of a batch, the machine may reply to them with the
+-- batch's results, one after another, and they lead to the state after the batch
 abbrev pub BatchIsItsFrames : Type 0
 BatchIsItsFrames =
     (fd : ℕ) (frames : List (List ℕ)) (inputs : List BatchInput) (results : List ℕ)

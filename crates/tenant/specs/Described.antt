@@ -53,7 +53,8 @@ described_program insns = record {
   slots = slot_count insns;
 }
 
--- the description of what a descriptor names: nothing, a map by its handle, or a program
+-- the description of what a descriptor names: nothing, a map by its handle, or a program; no tenant
+-- has a descriptor of a handle without a map
 abbrev pub described_object : TenantState → Option OpenObject → Described
 described_object s None = nothing_there
 described_object s (Some (object.Map handle)) =
@@ -64,7 +65,8 @@ described_object s (Some (object.Program l)) = described_program l.insns
 abbrev pub described : TenantState → ℕ → Described
 described s fd = described_object s (named s.objects fd)
 
--- the description of what a descriptor of a tenant names; one that is not served has nothing open
+-- the description of what a descriptor of a tenant names; a tenant that is not served has nothing
+-- open
 abbrev pub described_if_served : Option TenantState → ℕ → Described
 described_if_served (Some s) fd = described s fd
 described_if_served None fd = nothing_there

@@ -15,13 +15,14 @@ use Rattle.bpf_maps.specs.Limits.{most_maps}
 use Rattle.tenant.specs.State.{Map, TenantState}
 
 -- the open objects by descriptors, the live maps by handles, and whether memory was refused to a
--- load
+-- load; `live` has whether it was refused to a new map
 pub record KeptTenant : Type 0 where
   pub objects : List (Option OpenObject)
   pub live : LiveMaps
   pub refused : Bool
 
--- the live map of a handle, with its values as these bytes of the part have them
+-- the live map of a handle, with the values that lie in these bytes of the part; None if there is
+-- no live map
 abbrev pub map_at : List ℕ → LiveMaps → ℕ → Option Map
 map_at part t handle = option_map (λ l. map_in part t handle) (live_at t handle)
 
@@ -29,7 +30,8 @@ map_at part t handle = option_map (λ l. map_in part t handle) (live_at t handle
 unfoldable pub at_handles : (ℕ → Option Map) → List (Option Map)
 at_handles f = map f (range_with_len 0 most_maps)
 
--- the state that a tenant represents, with the bytes of its part
+-- the state that a tenant represents, with the bytes of its part; memory was refused to it if it
+-- was refused to a load or to a new map
 abbrev pub state_in : List ℕ → KeptTenant → TenantState
 state_in part k = record {
   objects = k.objects;
@@ -39,7 +41,7 @@ state_in part k = record {
 
 -- ---- the references to the map of a handle
 
--- what is open at index n of a tenant's table, at descriptor n + 3
+-- what is open at index n of a tenant's table, which is descriptor n + 3; None if it is free
 abbrev pub object_at : KeptTenant → ℕ → Option OpenObject
 object_at k n = slice_index_or k.objects n None
 
@@ -68,22 +70,23 @@ descriptors handle objects = total (by_descriptor handle) objects
 
 -- ---- the invariant
 
--- each live map has one of the `most_maps` handles and has a reference, and no run is in progress
+-- each live map has one of the `most_maps` handles and at least one reference; no element is kept
+-- apart, since no run is in progress
 pub record AreHeld (t : LiveMaps) : Type 0 where
   pub within : (handle : ℕ) → IsSome (live_at t handle) → handle < most_maps
   pub some : (handle : ℕ) → IsSome (live_at t handle) → 1 ≤ holds_at t handle
   pub ended : (handle : ℕ) → (keys_at t handle).kept ≡ []
 
--- a program has a handle for each map that it loads, no handle twice, and the maps there have the
--- shapes with which it was verified
+-- a program has a handle for each map that it loads, and no handle twice; the maps of these handles
+-- are live and have the shapes with which the program was verified
 pub record IsBound (t : LiveMaps) (l : LoadedProgram) : Type 0 where
   pub each : keys_of l.maps ≡ maps_of l.insns
   pub once : (handle : ℕ) → times_listed handle (map_handles l) ≤ 1
   pub shaped : (fd handle : ℕ) → lookup (λ m. m == fd) l.maps ≡ Some handle
       → IsSome (live_at t handle) × (shapes_named l.named fd ≡ Some (shape_at t handle))
 
--- each map has as many references as there are names of its handle, and no two descriptors name the
--- same map
+-- the table has all descriptors; each map has as many references as descriptors and loaded programs
+-- name it; no two descriptors name the same map; each loaded program has live maps of its shapes
 pub record IsWellFormedTenant (k : KeptTenant) : Type 0 where
   pub all : length k.objects ≡ most
   pub maps : AreHeld k.live

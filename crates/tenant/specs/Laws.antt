@@ -45,13 +45,13 @@ ClearFlagMeansAlone =
 
 -- ---- the status of refused memory
 
--- a creation of a map and a load of a program take memory, which may be refused
+-- whether a command takes memory, which may be refused: a creation of a map and a load of a program
 abbrev pub takes_memory : Command → Bool
 takes_memory (map_create kind key value max flags) = true
 takes_memory (prog_load kind slots) = true
 takes_memory other = false
 
--- the status is not that memory was refused, and the flag is as before
+-- a result in the state s: its status is not that memory was refused, and the flag is that of s
 abbrev pub IsNoRefusal : TenantState → Answer → Type 0
 IsNoRefusal s a = (a.status ≢ status_of NoMemory) × (a.after.refused ≡ s.refused)
 

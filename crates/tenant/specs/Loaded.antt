@@ -3,14 +3,14 @@ use Rattle.std.specs.Prelude.{ℕ, List, map}
 use Rattle.insn_set.specs.declared.insn.Insn.{Insn}
 use Rattle.tagged_model.specs.declared.shape.Named.{Named}
 
--- Its instructions; the objects that the descriptors in their text named when it was loaded; and
--- for each of these descriptors the handle of its map, in the order of first use. It keeps its maps
--- when their descriptors are closed.
+-- A loaded program: its instructions; the objects that the descriptors in their text named when it
+-- was loaded; and pairs of each of these descriptors with the handle of its map, in the order of
+-- first use. It keeps its maps when their descriptors are closed.
 pub record LoadedProgram : Type 0 where
   pub insns : List Insn
   pub named : List Named
   pub maps : List (ℕ × ℕ)
 
--- the handles of its maps
+-- the handles of a loaded program's maps
 abbrev pub map_handles : LoadedProgram → List ℕ
 map_handles l = map (λ m. m.1) l.maps

@@ -71,11 +71,13 @@ opens fd s = record { status = pos fd; payload = []; after = s }
 
 -- ---- MAP_CREATE
 
--- the types of maps (bpf(2), BPF_MAP_TYPE_HASH and BPF_MAP_TYPE_ARRAY)
+-- the kind of the maps of a type, by its number in bpf(2) (BPF_MAP_TYPE_HASH, BPF_MAP_TYPE_ARRAY);
+-- None for any other number
 abbrev pub kind_of : ℕ → Option MapKind
 kind_of n = if n == 1 then Some Hash else (if n == 2 then Some Array else None)
 
--- the shape of fields within their limits, or the error if their area is too large
+-- the shape that fields within their limits have, by a proof that the area fits; or the error if
+-- the area is too large
 abbrev pub shape_where : (fits : Bool) → (fits ≡ true → MapShape) → Result MapShape Errno
 shape_where true shape = Ok (shape refl)
 shape_where false shape = Err TooBig
@@ -102,11 +104,12 @@ asked_shape (Some kind) key value max flags =
 abbrev pub new_map : MapShape → Map
 new_map shape = new_table (λ i. replicate shape.value_size 0) shape
 
--- the handle for a new map with an area of this size, if there is room
+-- the handle for a new map with an area of this size; None if no handle is free, or if the values
+-- of all maps would take too many bytes
 abbrev pub room_for : TenantState → ℕ → Option ℕ
 room_for s size = if nat_lt most_bytes (maps_area s.maps + size) then None else free_handle s
 
--- a new map of this shape at a free descriptor and a free handle, unless memory is refused
+-- the result of MAP_CREATE at a free descriptor and a free handle, by whether memory is refused
 abbrev pub created_at : Bool → TenantState → MapShape → ℕ → ℕ → Answer
 created_at true s shape fd handle = refuses_for_memory s
 created_at false s shape fd handle =
@@ -117,12 +120,12 @@ created_at false s shape fd handle =
           (Some (new_map shape));
     })
 
--- a new map of this shape at a free descriptor, if there is a handle for it
+-- the result of MAP_CREATE at a free descriptor, if there is a handle for the map, or the error
 abbrev pub created_as : Bool → TenantState → MapShape → ℕ → Option ℕ → Answer
 created_as refused s shape fd None = refuses NoSpace s
 created_as refused s shape fd (Some handle) = created_at refused s shape fd handle
 
--- a new map of this shape, if a descriptor is free
+-- the result of MAP_CREATE of this shape, if a descriptor is free, or the error
 abbrev pub created_under : Bool → TenantState → MapShape → Option ℕ → Answer
 created_under refused s shape None = refuses TooManyOpen s
 created_under refused s shape (Some fd) =
@@ -135,12 +138,13 @@ created refused s (Ok shape) = created_under refused s shape (table.lowest s.obj
 
 -- ---- the calls of a map
 
--- the result f of a command on the map of a handle; no tenant has a descriptor of one without a map
+-- the result of a command on the map of a handle, which f gives. Without a map it would be an
+-- error, but no tenant has a descriptor of such a handle
 abbrev pub of_handle : TenantState → ℕ → (ℕ → Map → Answer) → Option Map → Answer
 of_handle s handle f None = refuses BadDescriptor s
 of_handle s handle f (Some t) = f handle t
 
--- the result f of a command on what a descriptor names, if it is a map
+-- the result of a command on what a descriptor names: f gives it for a map; all else is an error
 abbrev pub of_object : TenantState → (ℕ → Map → Answer) → Option OpenObject → Answer
 of_object s f None = refuses BadDescriptor s
 of_object s f (Some (object.Program l)) = refuses Invalid s
@@ -179,7 +183,8 @@ element_updated s fd flags bytes =
     (verdict t (take t.shape.key_size bytes) flags)
     else refuses Invalid s)
 
--- a deletion, by its refusal or the value to delete: no run is in progress, so the value is gone
+-- the result of a deletion, which is refused or deletes a value. No run is in progress, so the
+-- value no longer counts in the map
 abbrev pub element_taken_out : TenantState → ℕ → Map → List ℕ → Result (List ℕ) MapFault → Answer
 element_taken_out s handle t key (Err fault) = refuses (map_errno fault) s
 element_taken_out s handle t key (Ok value) =
@@ -205,7 +210,8 @@ given_next s fd key =
 
 -- ---- PROG_LOAD
 
--- the error of slots that are no program: a wrong number of slots has another one than a wrong slot
+-- the error of slots that are no program: TooBig if there are none or too many, Invalid for another
+-- fault. No slots have the fault Memory
 abbrev pub codec_errno : FaultKind → Errno
 codec_errno kind.Opcode = Invalid
 codec_errno kind.Reserved = Invalid
@@ -217,7 +223,8 @@ codec_errno kind.TooLong = TooBig
 codec_errno kind.Memory = NoMemory
 
 -- the error of a program that is not accepted: one of a wrong shape is invalid, or names a
--- descriptor that is not open; access is denied to one that is unsafe, or writes the frame pointer
+-- descriptor that is not open; access is denied to one that is unsafe, or writes the frame pointer.
+-- No rule has the reason Memory
 abbrev pub verdict_errno : Reason → Errno
 verdict_errno reason.JumpOutside = Invalid
 verdict_errno reason.JumpBackward = Invalid
@@ -262,7 +269,8 @@ refuses_load refusal s = record {
   after = s;
 }
 
--- an open object as the verifier sees it: a map of its shape, or a program
+-- an open object as the verifier sees it: a map of its shape, or a program. None if a handle has no
+-- map, but no tenant has a descriptor of such a handle
 abbrev pub object_target : TenantState → OpenObject → Option Target
 object_target s (object.Map handle) = option_map (λ t. target.Map t.shape) (live s handle)
 object_target s (object.Program l) = Some target.Program
@@ -340,13 +348,14 @@ Loads refused s kind slots answer =
 abbrev pub maps_given : TenantState → LoadedProgram → MapsByDescriptor
 maps_given s l fd = and_then (lookup (λ m. m == fd) l.maps) (λ handle. live s handle)
 
--- the maps under their handles after a run, which leaves those of its program as `left` has them by
--- descriptor
+-- the maps by handle after a run. The list of pairs has the descriptors and handles of the
+-- program's maps; the handle of each gets the map that the run leaves at its descriptor (`left`)
 unfoldable pub maps_left : MapsByDescriptor → List (ℕ × ℕ) → List (Option Map) → List (Option Map)
 maps_left left [] maps = maps
 maps_left left (m ∷ ms) maps = maps_left left ms (slice_set maps m.1 (left m.0))
 
--- the result of a test run: a number in four bytes, or the error of a fault
+-- the result of a test run: a number in four bytes, or the error of a fault, which no accepted
+-- program has
 abbrev pub outcome_answer : Outcome → TenantState → Answer
 outcome_answer (Value n) s = gives (little_bytes 4 n) s
 outcome_answer Fault s = refuses BadAddress s

@@ -34,6 +34,6 @@ IsWritable (Ok (reply.Number number)) = Unit {0}
 IsWritable (Ok (reply.Refused refusal)) = refusal.slot < 2 ^ 32
 IsWritable (Err errno) = errno ≢ BadAddress
 
--- the reply to a frame with this head is that of an answer
+-- the reply has the tenant and command number of a frame's head, and a result's status and payload
 abbrev pub Writes : Head → List ℕ → Answer → Type 0
 Writes head reply a = reply ≡ reply_bytes head.tenant head.command a.status a.payload

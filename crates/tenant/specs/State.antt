@@ -17,8 +17,8 @@ use Rattle.fd_table.specs.Table.{nothing_open}
 abbrev pub Map : Type 0
 Map = Table (List ℕ)
 
--- the open objects by descriptors, and the live maps by their handles; while a map is live, no
--- other gets its handle
+-- the open objects by descriptors, the live maps by their handles, and whether memory was ever
+-- refused to the tenant; while a map is live, no other map gets its handle
 pub record TenantState : Type 0 where
   pub objects : List (Option OpenObject)
   pub maps : List (Option Map)
@@ -50,14 +50,14 @@ map_area t = shape_area t.shape
 abbrev pub maps_area : List (Option Map) → ℕ
 maps_area maps = total map_area maps
 
--- the state with this map at a handle, instead of the one before
+-- the state with this map at a handle, instead of the map that the handle had
 abbrev pub with_map_at : TenantState → ℕ → Map → TenantState
 with_map_at s handle t = record s { maps = slice_set s.maps handle (Some t) }
 
 -- ---- the names of a map
 
--- an object names the map of a handle: it is a descriptor of the map, or a program that was loaded
--- with it
+-- whether an open object names the map of a handle: it is this map, or a program that was loaded
+-- with the map
 abbrev pub names : ℕ → OpenObject → Bool
 names handle (object.Map p) = p == handle
 names handle (object.Program l) = list_any (λ m. m.1 == handle) l.maps
@@ -66,8 +66,8 @@ names handle (object.Program l) = list_any (λ m. m.1 == handle) l.maps
 abbrev pub is_named : List (Option OpenObject) → ℕ → Bool
 is_named objects handle = list_any (λ o. option_map_or (names handle) o false) objects
 
--- of these maps, which are those of `handle` and later ones, those that an open object names; the
--- others are gone
+-- a list of maps by handle, which begins with that of `handle`: a map that no open object names is
+-- gone, None, and the others are unchanged
 unfoldable pub named_from : List (Option OpenObject) → ℕ → List (Option Map) → List (Option Map)
 named_from objects handle [] = []
 named_from objects handle (m ∷ ms) =

@@ -18,11 +18,12 @@ use verifier::{Cost, laws};
 /// The packets of a batch, and the words of context that their runs are given.
 #[derive(Clone, Copy)]
 pub struct Batch<'a> {
-    /// The ten words of context that all packets get, or those of each packet, in the order of the packets.
+    /// The ten words of context after the packet's length: one array for all packets, or one for each, in the order of the packets.
     pub contexts: &'a [[u32; GIVEN_WORDS]],
     /// The bytes of the packets, one packet after another.
     pub bytes: &'a [u8],
-    /// For each packet, how many of these bytes are before its end. It begins at the end of the packet before it, and the first at 0.
+    /// For each packet, how many of these bytes are before its end. The first packet begins at 0, each other
+    /// packet at the end of the packet before it.
     pub ends: &'a [usize],
 }
 
@@ -30,15 +31,16 @@ pub struct Batch<'a> {
 /// bytes or add a key of 512, and take as long as some 128 instructions.
 pub const CALL_WEIGHT: u32 = 128;
 
-/// What a run counts for in the bound of a batch: the most instructions, and `CALL_WEIGHT` more for each of the most calls of helpers.
+/// What a run counts for in the bound of a batch, in instructions, by the cost of its program: the most that it executes, and `CALL_WEIGHT`
+/// more for each of the most calls of helpers.
 fn run_weight(cost: Cost) -> u64
     ensures { result ≡ run_weight cost }
 {
     u64::from(cost.instructions) + u64::from(CALL_WEIGHT) * u64::from(cost.calls)
 }
 
-/// The number of packets that a bound other than 0 allows a batch of `packets`, if a run counts for `cost`: as many runs as fit, but at
-/// least one.
+/// The number of packets that a bound other than 0 allows a batch of `packets`, if a run counts for `cost` instructions: as many runs as
+/// fit, but at least one. `cost` is not 0, since each run executes its exit.
 fn allowed(bound: u64, cost: u64, packets: usize) -> usize
     requires { 1 ≤ cost }
     ensures allowed { result ≡ allowed bound cost packets }
@@ -49,9 +51,9 @@ fn allowed(bound: u64, cost: u64, packets: usize) -> usize
 }
 
 impl Tenant {
-    /// The number of packets that a batch of `packets` may have, of the program at a descriptor, so that its runs execute at most `bound`
-    /// instructions by the cost of the program, if a call of a helper counts as `CALL_WEIGHT` more: at least one, and all if the bound is
-    /// 0. All if the descriptor names no program: such a batch is rejected.
+    /// How many of the `packets` of a batch a bound allows. By its cost, each run of the program at the descriptor counts for its most
+    /// instructions, and `CALL_WEIGHT` more for each call of a helper. As many packets are allowed as count for at most `bound` together,
+    /// but at least one. All are if `bound` is 0, or if the descriptor names no program: such a batch is rejected.
     #[tactic(auto, using(crate::proofs::Bounds::weights_are_positive, crate::proofs::Bounds::all_allowed, crate::proofs::Bounds::allowed_of_program, crate::proofs::Bounds::allowed_otherwise))]
     pub fn allowed_packets(&self, fd: u32, bound: u64, packets: usize) -> usize
         ensures allowed { IsAllowed (named self.now.objects fd) bound packets result }
@@ -66,8 +68,8 @@ impl Tenant {
         }
     }
 
-    /// Runs the program at a descriptor on the packets of a batch, one after another. The result of each is written to `results`, whose
-    /// rest is unchanged.
+    /// Runs the program at a descriptor on the packets of a batch, one after another, in the part of `tenant`, the number of this tenant.
+    /// The result of each is written to `results`, from its front on; the rest of it is unchanged.
     ///
     /// Results, maps and state afterwards are those of the test runs of these packets in this order.
     ///
@@ -112,6 +114,7 @@ impl Tenant {
             return Err(Errno::Invalid);
         }
         match Packets::new(contexts, bytes, ends) {
+            // Without packets there is nothing to run.
             Ok(_) if ends.is_empty() => Ok(()),
             Ok(packets) => {
                 packets.packets_are_short();

@@ -14,15 +14,15 @@ use fd_table::{FIRST, MOST};
 #[derive(Clone, Copy, Debug, PartialEq, Eq)]
 #[repr(C)]
 pub struct Counts {
-    /// Its live maps, those that an open descriptor or a loaded program names: 0 to 16.
+    /// How many live maps it has, which an open descriptor or a loaded program names: 0 to 16.
     pub maps: u32,
-    /// The keys of all its live maps. An array has all its indices.
+    /// How many keys all its live maps have. An array has all its indices.
     pub entries: u32,
     /// The bytes that the values of its live maps take, each rounded up to a multiple of eight; at most 262,144 are allowed.
     pub value_bytes: u32,
-    /// The open descriptors that name a program.
+    /// How many open descriptors name a program.
     pub programs: u32,
-    /// The open descriptors: 0 to 64.
+    /// How many descriptors are open: 0 to 64.
     pub descriptors: u32,
     /// Whether memory was ever refused to a load or a new map.
     pub memory_refused: bool,
@@ -50,7 +50,7 @@ impl Tenant {
         ensures count { result ≡ total (λ o. 1) self.now.objects }
         ensures few { result ≤ most }
     {
-        // The table has as many entries as there are descriptors.
+        // For the proof: the table has as many entries as there are descriptors. Nothing is done when it runs.
         let _ = &self.objects;
         let mut count = 0;
         for fd in FIRST..FIRST + MOST as u32 {
@@ -66,6 +66,7 @@ impl Tenant {
         ensures count { result ≡ total one_program self.now.objects }
         ensures few { result ≤ most }
     {
+        // For the proof: the table has as many entries as there are descriptors. Nothing is done when it runs.
         let _ = &self.objects;
         let mut count = 0;
         for fd in FIRST..FIRST + MOST as u32 {
@@ -81,6 +82,7 @@ impl Tenant {
     pub fn counts(&self) -> Counts
         ensures { (part : List ℕ) → result ≡ counts_of (state_in part self.now) }
     {
+        // A law: the values take so few bytes that the cast below loses nothing.
         self.maps.maps_are_laid();
         Counts {
             maps: self.maps.live_count(),

@@ -10,13 +10,13 @@ use crate::tenant::Tenant;
 use bpf_maps::MapKey;
 use tagged_model::MapKind;
 
-/// The kind of a descriptor at which nothing is open.
+/// The `kind` of a `Described` whose descriptor is not open.
 pub const NOTHING_THERE: u32 = 0;
 
-/// The kind of a descriptor that names a map.
+/// The `kind` of a `Described` whose descriptor names a map.
 pub const MAP_THERE: u32 = 1;
 
-/// The kind of a descriptor that names a program.
+/// The `kind` of a `Described` whose descriptor names a program.
 pub const PROGRAM_THERE: u32 = 2;
 
 /// What a descriptor names. Fields that do not belong to its kind are 0. A C struct with the same fields has this layout.
@@ -33,9 +33,9 @@ pub struct Described {
     pub value_size: u32,
     /// The most keys that a map may have.
     pub max_entries: u32,
-    /// The keys that a map has. An array has all its indices.
+    /// How many keys a map has. An array has all its indices.
     pub entries: u32,
-    /// The slots of a program.
+    /// How many slots a program has.
     pub slots: u32,
 }
 

@@ -36,7 +36,8 @@ pub enum Errno {
     NoSpace,
 }
 
-/// The error of a load whose slots are no program: `TooBig` if there are none or too many of them.
+/// The error of a load whose slots are no program: `TooBig` if there are none or too many of them. No slots have the fault `Memory`: a load
+/// that is out of memory is not rejected for its slots.
 fn errno_of_codec(kind: FaultKind) -> Errno
     ensures { result ≡ codec_errno kind }
 {
@@ -52,7 +53,7 @@ fn errno_of_codec(kind: FaultKind) -> Errno
 }
 
 /// The error of a load whose program is not accepted, by the rule that it breaks: `Invalid` or `BadDescriptor` for its shape, and
-/// `AccessDenied` if it is unsafe or writes the frame pointer.
+/// `AccessDenied` if it is unsafe or writes the frame pointer. No rule has the reason `Memory`, which `verify` gives if out of memory.
 fn errno_of_verdict(reason: Reason) -> Errno
     ensures { result ≡ verdict_errno reason }
 {
@@ -90,7 +91,7 @@ impl Errno {
     ghost use Rattle.tenant.specs.Batch.{packet_errno};
     ghost use Rattle.tenant.specs.declared.errno.Errno.TheVariants.{BadAddress};
 
-    /// The error of a command whose call of a map fails for this fault.
+    /// The error of a command whose call of a map fails for this fault; `no_fault`: never the error of a run that faults.
     pub(crate) fn of_map(fault: MapFault) -> Errno
         ensures errno { result ≡ map_errno fault }
         ensures no_fault { result ≢ BadAddress }

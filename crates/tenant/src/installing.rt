@@ -33,8 +33,8 @@ impl Tenant {
         }
     }
 
-    /// Whether each descriptor of the program's maps names a map of the shape with which the program was accepted. It ends at the first
-    /// that does not.
+    /// Whether each descriptor of the program's maps names a map of the shape with which the program was accepted. The test
+    /// ends at the first descriptor that does not.
     fn fits(&self, program: &Verified) -> bool
         ensures { (part : List ℕ) →
             IsTrue result ↔ Fits program.now (targets (state_in part self.now)) }
@@ -47,7 +47,8 @@ impl Tenant {
         true
     }
 
-    /// The program as it is accepted with the open descriptors, with the handles of its maps. `AllocError`: out of memory.
+    /// The program as it is accepted with the open descriptors, with the handles of its maps. It fits, so `OtherShapes` can't
+    /// occur. `AllocError`: out of memory.
     fn program_here(
         &self,
         alloc: Global,
@@ -69,8 +70,9 @@ impl Tenant {
         }
     }
 
-    /// Opens a program that was verified elsewhere, as PROG_LOAD of its slots does. With which objects it was accepted does not matter,
-    /// if each descriptor of its maps names a map of the same shape here. It is neither copied nor verified again.
+    /// Opens a program that was verified elsewhere, as PROG_LOAD of its slots does (type 1, a socket filter). With which objects it was
+    /// accepted does not matter, if each descriptor of its maps names a map of the same shape here. It is neither copied nor verified
+    /// again.
     ///
     /// If it does not fit, it is given back, and nothing has changed. Else the result is that of `load`; with an error the program is
     /// dropped.

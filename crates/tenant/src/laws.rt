@@ -4,33 +4,34 @@ ghost use Rattle.tenant.specs.Batch.{BatchIsItsFrames, RefusedAsItsFrame, OneRes
 ghost use Rattle.tenant.specs.Laws.{OneAnswer, OneReply, OneAlone, ClearFlagMeansNoRefusal, ClearFlagMeansAlone};
 ghost use Rattle.tenant.specs.Laws.{RefusalsAreTold, OnlyCreationsAndLoadsAreRefused, UnrefusedRepliesMeanAlone, FaultsHaveNoPayload};
 
-/// The result of a command is unique, whether memory is refused to it or not.
+/// A law: in a state, a command has one result (status, payload and next state) if memory is refused to it, and one if it is not.
 pub fn one_answer()
     ensures { OneAnswer }
 {
     verifier::laws::one_judgement();
 }
 
-/// The reply to a frame is unique, whether memory is refused to it or not.
+/// A law: in a state, a frame has one reply and one next state if memory is refused to it, and one of each if it is not.
 pub fn one_reply()
     ensures { OneReply }
 {
     one_answer();
 }
 
-/// The replies to a tenant's frames are unique, if no memory is refused.
+/// A law: from a state on, a tenant's frames have one list of replies and lead to one state, if no memory is refused: they depend on
+/// nothing else.
 pub fn one_alone()
     ensures { OneAlone }
 {
     one_reply();
 }
 
-/// If a tenant's flag is clear after a command, its result is that without refusals of memory.
+/// A law: if a tenant's flag of refused memory is clear after a command, the command's result is that without a refusal of memory.
 pub fn clear_flag_means_no_refusal()
     ensures { ClearFlagMeansNoRefusal }
 {}
 
-/// If a tenant's flag is clear at the end, its replies are those of its machine without refusals.
+/// A law: if a tenant's flag of refused memory is clear after its last frame, its replies are those of its machine without refusals.
 pub fn clear_flag_means_alone()
     ensures { ClearFlagMeansAlone }
 {}
@@ -55,17 +56,19 @@ pub fn unrefused_replies_mean_alone()
     ensures { UnrefusedRepliesMeanAlone }
 {}
 
-/// A reply with the status of a fault has no payload.
+/// A law: a reply with the status of a run that faults, -14, has no payload.
 pub fn faults_have_no_payload()
     ensures { FaultsHaveNoPayload }
 {}
 
-/// The runs of a batch are the test-run frames of its packets, one after another.
+/// A law: the runs of a batch are the test-run frames of its packets, one after another: the machine replies to these frames with the
+/// batch's results, and reaches the same state.
 pub fn batch_is_its_frames()
     ensures { BatchIsItsFrames }
 {}
 
-/// What is refused to a run is refused to its frame, with the same status.
+/// A law: if the descriptor names no program, or a packet is too long, the test-run command of this packet has the error that a batch has
+/// for this, and changes nothing.
 pub fn refused_as_its_frame()
     ensures { RefusedAsItsFrame }
 {}

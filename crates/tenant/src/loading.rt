@@ -24,7 +24,7 @@ use verifier::{Refusal, Verified, WorkingMemory, laws, verify_slots};
 /// The type of socket filters, the only one that can be loaded (BPF_PROG_TYPE_SOCKET_FILTER).
 const SOCKET_FILTER: u32 = 1;
 
-/// Adds one reference to each of these maps.
+/// Adds one reference to the map of each handle in `held`.
 fn hold_all(maps: &mut Maps, held: &[MapKey])
     requires live { AreHeld maps.old }
     requires there { AreLive maps.old held.now }
@@ -67,7 +67,7 @@ fn maps_named(
 }
 
 impl Tenant {
-    /// A program with the handles of its maps, if it was accepted with the open descriptors. `AllocError`: out of memory.
+    /// A program that was accepted with the open descriptors, with the handles of its maps. `AllocError`: out of memory.
     pub(crate) fn with_maps(
         &self,
         alloc: Global,
@@ -89,7 +89,8 @@ impl Tenant {
         Ok(LoadedProgram::new(program, maps))
     }
 
-    /// The program that the slots spell, with the handles of its maps, if it is accepted; or why the slots are rejected.
+    /// The program that the slots spell, with the handles of its maps, if it is accepted; or why the slots are rejected. `AllocError`: out
+    /// of memory. `slot` bounds the slot of a refusal, which a reply has in four bytes.
     fn program_of(
         &self,
         slots: &[u8],
@@ -115,8 +116,8 @@ impl Tenant {
         }
     }
 
-    /// Opens a program under the lowest free descriptor, of which there is at least one. The program has a
-    /// reference to each of its maps.
+    /// Opens a program at the lowest free descriptor, of which there is at least one, and returns it. The program then has a reference to
+    /// each of its maps.
     pub(crate) fn open_program(&mut self, program: LoadedProgram) -> u32
         requires free { is_none (lowest self.old.objects) ≡ false }
         requires bound { IsBound self.old.live program }

@@ -52,14 +52,14 @@ impl LoadedProgram {
         LoadedProgram { program, maps }
     }
 
-    /// The handles of its maps, in the order of their descriptors.
+    /// The handles of its maps, in the order in which its text first names them.
     pub(crate) fn maps(&self) -> &[MapKey]
         ensures { result.now ≡ map_handles self.now }
     {
         &self.maps
     }
 
-    /// The accepted program.
+    /// The accepted program, without the handles of its maps.
     pub fn program(&self) -> &Verified
         ensures code { result.now.code ≡ self.now.insns }
         ensures entries { result.now.entries ≡ self.now.named }
@@ -68,14 +68,15 @@ impl LoadedProgram {
     }
 }
 
-/// An open object.
+/// What an open descriptor names: a map, by its handle, or a loaded program.
 #[derive(Drop)]
 pub enum OpenObject {
     Map(MapKey),
     Program(LoadedProgram),
 }
 
-/// The program that a descriptor names. `BadDescriptor` if the descriptor is not open, `Invalid` if it names a map.
+/// The program that a descriptor names. `BadDescriptor` if the descriptor is not open, `Invalid` if it names a map. `no_fault`: never
+/// the error of a run that faults.
 pub(crate) fn program_at(objects: &FdTable<OpenObject>, fd: u32) -> Result<&LoadedProgram, Errno>
     ensures found { IfOk result (λ program.
         named objects.now fd ≡ Some (object.Program program.now)) }

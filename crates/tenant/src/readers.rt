@@ -35,7 +35,7 @@ impl Tenant {
         self.objects.get(fd)
     }
 
-    /// The cost of the program that a descriptor names; `None` if it names none.
+    /// The cost of the program that a descriptor names; `None` if it names a map or is not open.
     #[tactic(auto, using(crate::proofs::Bounds::cost_of_program, crate::proofs::Bounds::cost_otherwise))]
     pub fn program_cost(&self, fd: u32) -> Option<Cost>
         ensures { HasCost (named self.now.objects fd) result }
@@ -76,9 +76,9 @@ impl Tenant {
         self.maps.key_count(map)
     }
 
-    /// The key of a map that follows the one of an element, or the first key if no element is given, with its value, which is borrowed
-    /// from the tenant's part of `PART` bytes. `None` if there is none, if no key has the element, if the map is not live, and for a
-    /// part of another size.
+    /// The entry of a map after the key whose element is `after`, or the first entry if `after` is `None`. Its value is borrowed from
+    /// `part`, the tenant's part of `PART` bytes. `None` if no entry follows, if no key has this element, if the map is not live, and for
+    /// a part of another size. `once`: no two keys have the same element, so `after` means one key.
     pub fn map_entry<'a>(
         &'a self,
         map: MapKey,

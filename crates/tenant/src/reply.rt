@@ -13,7 +13,7 @@ use verifier::Refusal;
 pub enum Reply<'a> {
     /// Status 0 without a payload.
     Done,
-    /// The status is a new descriptor.
+    /// The status is a new descriptor; there is no payload.
     Opened(u32),
     /// The payload is a value, borrowed from the tenant's part.
     Value(&'a [u8]),
@@ -25,7 +25,8 @@ pub enum Reply<'a> {
     Refused(Refusal),
 }
 
-/// Writes the reply to a command, or its error, to `reply`.
+/// Writes the reply to a command, or to one that fails with an error, to `reply`. It repeats the tenant and the command number of `head`,
+/// the head of the command's frame. The contract holds for each state after the command, since no reply has a state in it.
 #[inline(always)]
 pub fn write_answer(head: Head, answer: Result<Reply<'_>, Errno>, reply: &mut ReplyBuf)
     requires { IsWritable answer }

@@ -18,7 +18,7 @@ fn map_kind(number: u32) -> Option<MapKind>
     }
 }
 
-/// The shape with these fields of MAP_CREATE.
+/// The shape with these fields of MAP_CREATE: `kind` is the type of a map in bpf(2), and the sizes are in bytes.
 ///
 /// # Errors
 ///

@@ -32,7 +32,7 @@ use tagged_model::{Named, Target};
 pub struct Tenant {
     pub(crate) objects: FdTable<OpenObject>,
     pub(crate) maps: Maps,
-    /// Whether memory was ever refused to a load.
+    /// Whether memory was ever refused to a load; for new maps, `maps` has this.
     pub(crate) refused: bool,
     /// Room for what a run enters about its maps; it means nothing between runs.
     pub(crate) table_room: TableRoom,
@@ -57,7 +57,7 @@ fn write_at(part: &mut [u8], start: usize, bytes: &[u8])
     part[start..start + bytes.len()].copy_from_slice(bytes);
 }
 
-/// Opens an object under the lowest free descriptor, of which there is at least one.
+/// Opens an object at the lowest free descriptor, which it returns. At least one is free, so the table cannot be full.
 pub(crate) fn open(objects: &mut FdTable<OpenObject>, object: OpenObject) -> u32
     requires { is_none (lowest objects.old) ≡ false }
     ensures lowest { lowest objects.old ≡ Some result }
@@ -70,7 +70,7 @@ pub(crate) fn open(objects: &mut FdTable<OpenObject>, object: OpenObject) -> u32
     }
 }
 
-/// Drops one reference to each of these maps; the last one of a map frees it and its handle.
+/// Drops one reference to the map of each handle in `held`. A map without references is freed, with its handle.
 fn release_all(maps: &mut Maps, held: &[MapKey], part: &mut [u8])
     requires live { AreHeld maps.old }
     requires held { (handle : ℕ) → times_listed handle held.now ≤ holds_at maps.old handle }
@@ -114,7 +114,7 @@ impl Tenant {
         }
     }
 
-    /// The object that a descriptor names, as the verifier sees it.
+    /// The object that a descriptor names, as the verifier sees it; `None` if the descriptor is not open.
     pub(crate) fn target(&self, fd: u32) -> Option<Target>
         ensures { (part : List ℕ) →
             result ≡ and_then (named self.now.objects fd) (object_target (state_in part self.now)) }
@@ -130,7 +130,7 @@ impl Tenant {
         ensures { IfOk result (λ found. (part : List ℕ) →
             found.items ≡ targets (state_in part self.now)) }
     {
-        // The table has as many entries as there are descriptors.
+        // For the proof: the table has as many entries as there are descriptors. Nothing is done when it runs.
         let _ = &self.objects;
         let mut found = Vec::with_capacity(alloc, MOST)?;
         for fd in FIRST..FIRST + MOST as u32 {
@@ -166,12 +166,14 @@ impl Tenant {
         Ok(Reply::Value(&part[start..start + shape.value_size as usize]))
     }
 
-    /// MAP_CREATE: creates a map of the shape with these fields, with its values in the tenant's part, `PART` bytes, and opens it.
+    /// MAP_CREATE: creates a map of the shape with these fields, with its values in the tenant's part, `PART` bytes, and opens it. `kind`
+    /// is the type in bpf(2), 1 for a hash map and 2 for an array; the sizes are in bytes. In the contract, `refused`: memory is refused.
     ///
     /// # Errors
     ///
     /// Those of the shape, `Invalid` and `TooBig`; `TooManyOpen` if no descriptor is free, `NoSpace` if there are too many maps or
-    /// their values take too many bytes, else `NoMemory` if out of memory for a hash map. Then no map has changed.
+    /// their values take too many bytes, else `NoMemory` if out of memory for a hash map, which sets the tenant's flag. Then no map has
+    /// changed.
     pub fn create(
         &mut self,
         kind: u32,
@@ -205,8 +207,10 @@ impl Tenant {
     ///
     /// # Errors
     ///
-    /// `BadDescriptor` if the descriptor is not open, `Invalid` if it names no map or the sizes of key and value are not the map's,
-    /// and then the errors of an update by its flags: `Invalid`, `TooBig`, `Exists`, `NoEntry`. Then no key and no value has changed.
+    /// `BadDescriptor` if the descriptor is not open; `Invalid` if it names no map, if there are not as many bytes as in a key and a value
+    /// of the map, or if `flags` is none of 0, 1 (the key must be absent) and 2 (it must be present); `Exists` if it is 1 and the key is
+    /// present; `TooBig` for an index out of range; for an absent key of a hash map `NoEntry` if `flags` is 2, else `TooBig` if the map is
+    /// full. Then no key and no value has changed.
     pub fn update(
         &mut self,
         fd: u32,
@@ -242,12 +246,12 @@ impl Tenant {
         Ok(Reply::Done)
     }
 
-    /// MAP_DELETE_ELEM: deletes a key and its value.
+    /// MAP_DELETE_ELEM: deletes a key and its value. No run is in progress, so the element is free at once (`end_run`).
     ///
     /// # Errors
     ///
-    /// `BadDescriptor` if the descriptor is not open, `Invalid` if it names no map or the key has the wrong size, and for every key
-    /// of an array, `NoEntry` if the key is absent. Then nothing has changed.
+    /// `BadDescriptor` if the descriptor is not open; `Invalid` if it names no map, if the key has the wrong size, or if the map is an
+    /// array; `NoEntry` if the key is absent. Then nothing has changed.
     pub fn delete(&mut self, fd: u32, key: &[u8]) -> Result<Reply<'static>, Errno>
         ensures answer { (part : List ℕ) → shown_answer result (state_in part self.new)
             ≡ element_deleted (state_in part self.old) fd key.now }
@@ -266,11 +270,11 @@ impl Tenant {
         Ok(Reply::Done)
     }
 
-    /// MAP_GET_NEXT_KEY: the next key. After an empty or absent key it is the first.
+    /// MAP_GET_NEXT_KEY: the key after `key` in the order of the map. After an empty or absent key it is the first.
     ///
     /// # Errors
     ///
-    /// `BadDescriptor` if the descriptor is not open, `Invalid` if it names no map or the key has the wrong size,
+    /// `BadDescriptor` if the descriptor is not open, `Invalid` if it names no map or the key is not empty and has the wrong size,
     /// `NoEntry` if there is no next key.
     pub fn next_key(&self, fd: u32, key: &[u8]) -> Result<Reply<'_>, Errno>
         ensures answer { (part : List ℕ) → shown_answer result (state_in part self.now)
@@ -289,7 +293,8 @@ impl Tenant {
         }
     }
 
-    /// CLOSE: closes a descriptor. A map that no other descriptor and no program names is freed.
+    /// CLOSE: closes a descriptor. A map that no other descriptor and no program names is freed, and the areas after its own move down in
+    /// `part`, the tenant's part of `PART` bytes.
     ///
     /// # Errors
     ///

@@ -18,9 +18,9 @@ use tagged_model::Outcome;
 use verifier::laws;
 
 impl Tenant {
-    /// PROG_TEST_RUN: runs the program at a descriptor on ten words of context and a packet, with the maps with which it was loaded,
-    /// and returns its result. It runs in this tenant's part of the memory, and every other part is unchanged. It takes no memory,
-    /// and never faults.
+    /// PROG_TEST_RUN: runs the program at a descriptor on a packet, with the maps with which it was loaded, and returns its result. The
+    /// context is the packet's length and then the ten `words`. The run uses only the part of `tenant`, the number of this tenant, in
+    /// `arena`, and every other part is unchanged. It takes no memory, and never faults.
     ///
     /// # Errors
     ///
@@ -67,6 +67,7 @@ impl Tenant {
         );
         match outcome {
             Outcome::Value(value) => Ok(Reply::Number(value)),
+            // No run of an accepted program faults.
             Outcome::Fault => unreachable!(),
         }
     }

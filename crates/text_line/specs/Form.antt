@@ -46,35 +46,36 @@ sign s = Some (symbol s)
 abbrev pub reg : Bool → ℕ → Option Token
 reg wide r = word (register_name wide r)
 
--- Each part of a line is laid out before what follows it.
+-- Each part of a line is laid out before `rest`, the layout of what follows it.
 
--- a minus if `true`
+-- the rest, after a minus if `true`
 abbrev pub minus : Bool → TokenLayout → TokenLayout
 minus true rest = sign (codes "-") ∷ rest
 minus false rest = rest
 
--- a number, after a minus if it has one
+-- a number, after a minus if it has one, and then the rest
 abbrev pub constant : Number → TokenLayout → TokenLayout
 constant n rest = minus n.negative (Some (number n.magnitude) ∷ rest)
 
--- a constant, or a register: its 64 bits if wide, else its low half
+-- a constant, or a register: its 64 bits if wide, else its low half; and then the rest
 abbrev pub operand_layout : Bool → SourceOperand → TokenLayout → TokenLayout
 operand_layout wide (source.Number n) rest = constant n rest
 operand_layout wide (source.Reg r) rest = reg wide r ∷ rest
 
--- the target of a jump: a number with its sign, + or -, or the name of its label
+-- the target of a jump, which ends a line: a number with its sign, + or -, or the name `label`
 abbrev pub destination : JumpTarget → List ℕ → TokenLayout
 destination (target.Number n) label = sign (sign_name n.negative) ∷ Some (number n.magnitude) ∷ []
 destination target.Label label = word label ∷ []
 
--- a memory operand, as *(u32 *)(r6 + 0), by the name of its size
+-- a memory operand, as *(u32 *)(r6 + 0), and then the rest; `size` is the name of its size, as u32
 abbrev pub address : List ℕ → Address → TokenLayout → TokenLayout
 address size at rest =
     sign (codes "*") ∷ sign (codes "(") ∷ word size ∷ space ∷ sign (codes "*") ∷ sign (codes ")")
     ∷ sign (codes "(") ∷ reg true at.base ∷ space ∷ sign (sign_name at.offset.negative) ∷ space
     ∷ Some (number at.offset.magnitude) ∷ sign (codes ")") ∷ rest
 
--- what follows the destination register of an operation, which some operations name again
+-- what follows the destination register `dst` of an operation; a negation and a byte-order
+-- conversion name it again
 abbrev pub operation_layout : Bool → ℕ → Operation → TokenLayout
 operation_layout wide dst (operation.Binary op src) =
     sign (alu_symbol op) ∷ space ∷ operand_layout wide src []
@@ -86,7 +87,7 @@ operation_layout wide dst operation.Neg =
 operation_layout wide dst (operation.End how bits) =
     sign (codes "=") ∷ space ∷ word (order_name how bits) ∷ space ∷ reg wide dst ∷ []
 
--- the value of a wide load, without its `ll`
+-- the value of a wide load, and then the rest, which begins with its `ll`
 abbrev pub value_layout : WideValue → TokenLayout → TokenLayout
 value_layout (value.Number n) rest = Some (number n) ∷ rest
 value_layout (value.MapFd fd) rest = word (codes "map_fd") ∷ space ∷ constant fd rest
@@ -94,7 +95,8 @@ value_layout (value.MapValue fd off) rest =
     word (codes "map_value") ∷ space
     ∷ constant fd (space ∷ sign (codes "+") ∷ space ∷ Some (number off) ∷ rest)
 
--- the table: a line for each form, with the label that its jump names, if it names one
+-- the table: the line of each form. `label` is the name of the label that its jump names; a form
+-- that names none does not use it.
 abbrev pub layout : Form → List ℕ → TokenLayout
 layout (form.Operation wide dst o) label = reg wide dst ∷ space ∷ operation_layout wide dst o
 layout (form.Jump long to) label = word (jump_name long) ∷ space ∷ destination to label
@@ -122,27 +124,30 @@ tokens_of [] = []
 tokens_of (None ∷ rest) = tokens_of rest
 tokens_of (Some t ∷ rest) = t ∷ tokens_of rest
 
--- the register of an operand, if it is one, is 0 to 10
+-- the operand, if it is a register, is 0 to 10; the range of a constant is required by `form_fits`
 abbrev pub IsSource : SourceOperand → Type 0
 IsSource (source.Number n) = Unit {0}
 IsSource (source.Reg r) = r ≤ 10
 
--- the registers are 0 to 10; a sign extension is from fewer bits than the register has, which is 64
--- if wide, else 32; a byte-order conversion is of an r register
+-- the source, if it is a register, is 0 to 10; a sign extension is from fewer bits than the
+-- register has, which is 64 if wide, else 32; a byte-order conversion is of an r register. A
+-- negation has no source.
 abbrev pub IsOperation : Bool → Operation → Type 0
 IsOperation wide (operation.Binary op src) = IsSource src
 IsOperation wide (operation.SignExtend from src) = (src ≤ 10) × IsTrue (wide || is_short from)
 IsOperation wide operation.Neg = Unit {0}
 IsOperation wide (operation.End how bits) = IsTrue wide
 
--- the registers are 0 to 10, and no double word is loaded with sign extension
+-- the register besides the base of the address, if there is one, is 0 to 10, and no double word is
+-- loaded with sign extension; the base is 0 to 10 by `IsForm`
 abbrev pub IsAccess : Access → Type 0
 IsAccess (access.Load size signed dst) = (dst ≤ 10) × IsTrue (not (signed && is_double size))
 IsAccess (access.Store size src) = IsSource src
 IsAccess (access.Atomic size op src) = src ≤ 10
 
 -- the registers of the form are 0 to 10, and its operation or access is one that an instruction can
--- have; nothing is required of a jump, a call and an exit
+-- have. Nothing is required of an unconditional jump, a call and an exit, which have no register;
+-- the ranges of numbers are required by `form_fits`.
 abbrev pub IsForm : Form → Type 0
 IsForm (form.Operation wide dst o) = (dst ≤ 10) × IsOperation wide o
 IsForm (form.Branch wide cond dst src to) = (dst ≤ 10) × IsSource src
@@ -155,7 +160,7 @@ abbrev pub to_label : JumpTarget → Bool
 to_label (target.Number n) = false
 to_label target.Label = true
 
--- whether the form is a jump to a label
+-- whether the form is a jump or a conditional jump to a label; other forms name none
 abbrev pub names_label : Form → Bool
 names_label (form.Jump long to) = to_label to
 names_label (form.Branch wide cond dst src to) = to_label to

@@ -11,23 +11,24 @@ pub data Line : Type 0 where
   label : List ℕ → Line
   code : Form → List ℕ → Line
 
--- the tokens of a line
+-- the tokens of a line: of a label, its name and `:`
 abbrev pub spelled : Line → List Token
 spelled blank = []
 spelled (label n) = name n ∷ symbol (codes ":") ∷ []
 spelled (code form n) = tokens_of (layout form n)
 
--- the name of a label is empty if none is named (`false`)
+-- the name of a label is empty if the form names none (`false`), and any name if it names one
 abbrev pub NoLabel : Bool → List ℕ → Type 0
 NoLabel true n = Unit {0}
 NoLabel false n = n ≡ []
 
--- an instruction has a form that a line can have, and a label's name only if its jump names one
+-- an instruction has a form that a line can have, and a label's name only if its jump names one;
+-- nothing is required of a blank line and of the definition of a label
 abbrev pub IsWellFormed : Line → Type 0
 IsWellFormed (code form n) = IsForm form × NoLabel (names_label form) n
 IsWellFormed _ = Unit {0}
 
--- the bytes are read as this line
+-- the bytes are read as this line: it is well formed, and its tokens are those of the bytes
 abbrev pub IsLine : List ℕ → Line → Type 0
 IsLine bytes line = IsWellFormed line × IsTokens bytes (spelled line)
 

@@ -21,29 +21,31 @@ abbrev pub is_at_most : ℕ → Option ℕ → Bool
 is_at_most most None = false
 is_at_most most (Some n) = nat_le n most
 
--- a signed number of 32 bits
+-- the number is in the range of a signed field of 32 bits, -2 ^ 31 to 2 ^ 31 - 1
 abbrev pub imm_fits : Number → Bool
 imm_fits n = is_at_most (if n.negative then 2147483648 else 2147483647) n.magnitude
 
--- a signed number of 16 bits
+-- the number is in the range of a signed field of 16 bits, -2 ^ 15 to 2 ^ 15 - 1
 abbrev pub offset_fits : Number → Bool
 offset_fits n = is_at_most (if n.negative then 32768 else 32767) n.magnitude
 
--- an unsigned number of 32 bits: the offset in a map's value that a wide load has
+-- the number is in the range of an unsigned field of 32 bits, 0 to 2 ^ 32 - 1: the offset in a
+-- map's value that a wide load has
 abbrev pub next_imm_fits : Option ℕ → Bool
 next_imm_fits n = is_at_most 4294967295 n
 
--- the constant of an operand has 32 bits; a register has no number that could be out of range
+-- the constant of an operand fits 32 bits; a register has no number that could be out of range
 abbrev pub source_fits : SourceOperand → Bool
 source_fits (source.Number n) = imm_fits n
 source_fits (source.Reg r) = true
 
--- the number of a jump's target has 16 bits, that of a long jump's 32; a label is no number
+-- the number of a jump's target fits 16 bits, that of a long jump (`true`) 32; a label has none
 abbrev pub target_fits : Bool → JumpTarget → Bool
 target_fits long (target.Number n) = if long then imm_fits n else offset_fits n
 target_fits long target.Label = true
 
--- each number of a form is in its range
+-- each number of a form is in its range: a 64-bit constant if it has a value, which it has below
+-- 2 ^ 64. The other forms have no number.
 abbrev pub form_fits : Form → Bool
 form_fits (form.Operation wide dst (operation.Binary op src)) = source_fits src
 form_fits (form.Jump long to) = target_fits long to
@@ -58,12 +60,12 @@ form_fits _ = true
 
 -- ---- labels, as numbers
 
--- whether a magnitude is 0
+-- whether a magnitude is 0; one without a value is 2 ^ 64 or more
 abbrev pub is_zero : Option ℕ → Bool
 is_zero None = false
 is_zero (Some n) = n == 0
 
--- the number without a minus before 0, which changes nothing
+-- the number without a minus before 0: -0 is 0, and an instruction is written without this minus
 abbrev pub normal : Number → Number
 normal n = record { negative = n.negative && not (is_zero n.magnitude); magnitude = n.magnitude }
 
@@ -77,7 +79,7 @@ abbrev pub normal_address : Address → Address
 normal_address at = record { base = at.base; offset = normal at.offset }
 
 -- a form with a minus only before negative numbers; jumps are not changed, as `resolved` has
--- equations of its own for them
+-- equations of its own for them; no other form has a number with a sign
 abbrev pub normal_form : Form → Form
 normal_form (form.Operation wide dst (operation.Binary op src)) =
     form.Operation wide dst (operation.Binary op (normal_source src))
@@ -90,19 +92,20 @@ normal_form (form.WideLoad dst (value.MapValue fd off)) =
 normal_form (form.Call id) = form.Call (normal id)
 normal_form f = f
 
--- the target of a jump as a number: of a label, its distance in slots from the next slot
+-- the target of a jump as a number: its own, without a minus before 0, or for a label the label's
+-- distance in slots from the next slot
 abbrev pub placed : ℤ → JumpTarget → JumpTarget
 placed distance (target.Number n) = target.Number (normal n)
 placed distance target.Label = target.Number (number_of distance)
 
--- the form with its label replaced, and with a minus only before negative numbers
+-- the form with its label replaced by this distance, and with a minus only before negative numbers
 abbrev pub resolved : ℤ → Form → Form
 resolved distance (form.Jump long to) = form.Jump long (placed distance to)
 resolved distance (form.Branch wide cond dst src to) =
     form.Branch wide cond dst (normal_source src) (placed distance to)
 resolved distance f = normal_form f
 
--- the number of slots of a form's instruction
+-- the number of slots of a form's instruction: a wide load has two
 abbrev pub form_slots : Form → ℕ
 form_slots (form.WideLoad dst v) = 2
 form_slots _ = 1

@@ -39,7 +39,7 @@ is_hex_digit b = is_ascii_digit b || (nat_lt 64 b && nat_lt b 71) || (nat_lt 96 
 abbrev pub value_of : ℕ → Option ℕ
 value_of n = if nat_lt n (2 ^ 64) then Some n else None
 
--- the bytes are a name
+-- the bytes are a name: a letter or an underscore, and after it letters, underscores and digits
 abbrev pub is_name : List ℕ → Bool
 is_name bytes = is_name_start (slice_index bytes 0) && list_all is_name_byte bytes
 
@@ -66,7 +66,7 @@ IsToken bytes (name n) = (bytes ≡ n) × IsTrue (is_name bytes)
 IsToken bytes (number value) = IsDecimal bytes value ⊎ IsHexadecimal bytes value
 IsToken bytes (symbol s) = (bytes ≡ s) × Contains symbols s
 
--- the text begins with this token, and with none that is longer; the rest comes after it
+-- the text is this token and then the rest, and it begins with no longer token
 pub record BeginsWith (text : List ℕ) (token : Token) (rest : List ℕ) : Type 0 where
   pub bytes : List ℕ
   pub parts : text ≡ bytes ++ rest

@@ -33,7 +33,7 @@ source_of (Reg r) = source.Reg r
 abbrev pub address_of : ℕ → ℤ → Address
 address_of base off = record { base = base; offset = number_of off }
 
--- the written form of an instruction, without labels
+-- the written form of an instruction: the target of a jump is a number, never a label
 abbrev pub written : Insn → Form
 written (Alu wide op dst src) = form.Operation wide dst (operation.Binary op (source_of src))
 written (Movsx m) = form.Operation m.wide m.dst (operation.SignExtend m.bits m.src)
@@ -53,8 +53,8 @@ written (Const dst n) = form.WideLoad dst (value.Number (Some n))
 written (MapFd dst fd) = form.WideLoad dst (value.MapFd (number_of fd))
 written (MapValue dst fd off) = form.WideLoad dst (value.MapValue (number_of fd) (Some off))
 
--- a token's bytes, its number in decimal; no printed line has a number without a value, which would
--- be 2 ^ 64 or more
+-- the bytes of a token, a number in decimal. A number without a value (2 ^ 64 or more) has
+-- none here: no printed line has such a number.
 abbrev pub lexeme : Token → List ℕ
 lexeme (name n) = n
 lexeme (number (Some n)) = decimal n
@@ -66,7 +66,7 @@ abbrev pub piece : Option Token → List ℕ
 piece (Some t) = lexeme t
 piece None = 32 ∷ []
 
--- the text of a layout
+-- the text of a layout: the bytes of its entries, in order
 abbrev pub laid_out : TokenLayout → List ℕ
 laid_out pieces = flat_map piece pieces
 

@@ -1,4 +1,5 @@
-//! The instruction of a form: written numbers as its fields.
+//! The instruction of a form: written numbers as its fields. `-0` is read as 0: in contracts, `normal` is a number without the minus
+//! before a 0.
 
 ghost use Rattle.std.specs.Prelude.{◌≡◌, IfSome, IfNone, Some, true, false};
 ghost use Rattle.text_line.specs.declared.form.JumpTarget.TheVariants as target;
@@ -13,7 +14,8 @@ use crate::form::{Access, Address, Form, JumpTarget, Number, Operation, SourceOp
 use insn_set::{ExtendedBits, Insn, Load, Movsx, Operand, Reg};
 
 impl Number {
-    /// The number as a signed 32-bit field; `None` if it is out of range.
+    /// The number as a signed 32-bit field, in which -0 is 0 (`normal`). `None` if it is out of range, also if its digits are 2 ^ 64 or
+    /// more, so that it has no `magnitude`.
     fn imm(self) -> Option<i32>
         ensures found { IfSome result (λ n. number_of n ≡ normal self) }
         ensures fits { IfSome result (λ _. imm_fits self ≡ true) }
@@ -33,7 +35,8 @@ impl Number {
         }
     }
 
-    /// The number as a signed 16-bit field; `None` if it is out of range.
+    /// The number as a signed 16-bit field, in which -0 is 0 (`normal`). `None` if it is out of range, also if its digits are 2 ^ 64 or
+    /// more, so that it has no `magnitude`.
     fn offset(self) -> Option<i16>
         ensures found { IfSome result (λ n. number_of n ≡ normal self) }
         ensures fits { IfSome result (λ _. offset_fits self ≡ true) }
@@ -54,8 +57,8 @@ impl Number {
     }
 }
 
-/// A number without a sign as the `next_imm` of a wide instruction, an unsigned 32-bit field (RFC 9669, section 3.2); `None` if it is
-/// out of range.
+/// A number without a sign as the `next_imm` of a wide instruction, an unsigned 32-bit field (RFC 9669, section 3.2). `None` if it is
+/// out of range, also if it is 2 ^ 64 or more (`magnitude` is `None`).
 fn next_imm(magnitude: Option<u64>) -> Option<u32>
     ensures found { IfSome result (λ n. Some n ≡ magnitude) }
     ensures fits { IfSome result (λ _. next_imm_fits magnitude ≡ true) }
@@ -74,7 +77,7 @@ impl SourceOperand {
         }
     }
 
-    /// The operand; `None` if its number is out of range.
+    /// The second operand of an instruction; `None` if its constant doesn't fit 32 bits. In it -0 is 0 (`normal_source`).
     fn operand(self) -> Option<Operand>
         ensures found { IfSome result (λ src. source_of src ≡ normal_source self) }
         ensures fits { IfSome result (λ _. source_fits self ≡ true) }
@@ -91,7 +94,8 @@ impl SourceOperand {
 }
 
 impl JumpTarget {
-    /// The offset of a jump in slots: its number, or `distance` for a label. `None` if the number doesn't fit 16 bits.
+    /// The offset of a jump in slots, if it is no long one (`false` in the contract): its number, or `distance` for a label. `None` if the
+    /// number doesn't fit 16 bits.
     fn offset(self, distance: i16) -> Option<i16>
         ensures found { IfSome result (λ n. target.Number (number_of n) ≡ placed distance self) }
         ensures fits { IfSome result (λ _. target_fits false self ≡ true) }
@@ -103,7 +107,8 @@ impl JumpTarget {
         }
     }
 
-    /// The offset of a long jump in slots: its number, or `distance` for a label. `None` if the number doesn't fit 32 bits.
+    /// The offset of a long jump (`true` in the contract) in slots: its number, or `distance` for a label. `None` if the number doesn't
+    /// fit 32 bits.
     fn long_offset(self, distance: i16) -> Option<i32>
         ensures found { IfSome result (λ n. target.Number (number_of n) ≡ placed distance self) }
         ensures fits { IfSome result (λ _. target_fits true self ≡ true) }
@@ -145,7 +150,7 @@ impl Operation {
 }
 
 impl Access {
-    /// The instruction of this access at an address; `None` if a number is out of range.
+    /// The instruction of this access at an address; `None` if the address's offset or the constant of a store is out of range.
     fn insn(self, address: Address) -> Option<Insn>
         requires { IsForm (form.Access self address) }
         ensures found { IfSome result (λ insn. written insn
@@ -188,7 +193,7 @@ impl Access {
 }
 
 impl WideValue {
-    /// The instruction that loads this value into `dst`; `None` if a number is out of range.
+    /// The instruction that loads this value into `dst`; `None` if a number is out of range, which a 64-bit constant is from 2 ^ 64 on.
     fn insn(self, dst: Reg) -> Option<Insn>
         ensures found { IfSome result (λ insn. written insn
             ≡ normal_form (form.WideLoad dst self)) }
@@ -224,8 +229,9 @@ fn is_short(bits: ExtendedBits) -> bool
 }
 
 impl Form {
-    /// Whether a line can have this form: a sign extension is from fewer bits than the register has, a byte-order conversion is of 64
-    /// bits, and no double word is loaded with sign extension. The calls of `number` and `in_range` only show that registers are 0 to 10.
+    /// Whether a line can have this form: a sign extension is from fewer bits than the register has, a byte-order conversion is of an `r`
+    /// register, and no double word is loaded with sign extension. The calls of `number` and `in_range` only show that registers are 0
+    /// to 10.
     fn is_listed(&self) -> bool
         ensures yes { result ≡ true → IsForm self.now }
         ensures no { result ≡ false → IsForm self.now → ⊥ }
@@ -291,7 +297,8 @@ impl Form {
         }
     }
 
-    /// The instruction of a form that a line can have, with `distance` in slots for a label; `None` if a number is out of range.
+    /// The instruction of a form that a line can have; `None` if a number is out of range. A label that a jump names is `distance` slots
+    /// from the next slot.
     fn listed_insn(self, distance: i16) -> Option<Insn>
         requires { IsForm self }
         ensures found { IfSome result (λ insn. written insn ≡ resolved distance self) }

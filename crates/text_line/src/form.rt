@@ -40,11 +40,11 @@ pub enum JumpTarget {
 pub enum Operation {
     /// An operator of two operands or a move, as `r0 += r10` or `w1 = -2`.
     Binary { op: AluOp, src: SourceOperand },
-    /// A move with sign extension, as `r1 = (s32)r2`.
+    /// A move of the low bits of `src` with sign extension, as `r1 = (s32)r2`; `from` is how many, here 32.
     SignExtend { from: ExtendedBits, src: Reg },
     /// A negation, as `r1 = -r1`.
     Neg,
-    /// A byte-order conversion, as `r8 = le64 r8`.
+    /// A byte-order conversion, as `r8 = le64 r8`: `how` is its order and `bits` the number of low bits that it keeps.
     End { how: ByteOrder, bits: KeptBits },
 }
 
@@ -100,7 +100,7 @@ pub enum Form {
         dst: Reg,
         op: Operation,
     },
-    /// A jump, as `goto -1` or `goto done`, or a long one, as `gotol +1` or `gotol done`.
+    /// A jump, as `goto -1` or `goto done`, or a long one (`long`), as `gotol +1` or `gotol done`.
     Jump {
         long: bool,
         to: JumpTarget,
@@ -146,7 +146,7 @@ impl Form {
     ghost use Rattle.text_line.specs.Form.{names_label};
     ghost use Rattle.text_line.specs.Ranges.{form_slots};
 
-    /// The number of slots of its instruction: 2 for a wide load, else 1, also if a number is out of range.
+    /// The number of slots of its instruction: 2 for a wide load, else 1. A form whose numbers are out of range counts too.
     pub fn slots(self) -> usize
         ensures value { result ≡ form_slots self }
         ensures bound { result ≤ 2 }
@@ -158,7 +158,7 @@ impl Form {
         }
     }
 
-    /// Whether it is a jump that names a label.
+    /// Whether it is a jump or a conditional jump whose target is a label, not a number. No other form names a label.
     pub fn names_label(self) -> bool
         ensures { result ≡ names_label self }
     {

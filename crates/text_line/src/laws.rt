@@ -4,23 +4,24 @@ ghost use Rattle.insn_set.specs.declared.insn.Insn.{Insn};
 ghost use Rattle.insn_set.specs.Spelling.{IsInsn};
 ghost use Rattle.text_line.specs.Law.{OneReading, OneInsn, IsWrittenInRange, IsPrinted};
 
-/// A line has one reading: that of `read_line` is the only one that the definition allows.
+/// A law: what `read_line` returns for a line is the only reading that the definition allows. By it a text has at most one program.
 pub fn one_reading()
     ensures { OneReading }
 {}
 
-/// Instructions with the same written form are the same.
+/// A law: instructions with the same written form are the same. So the forms on the lines of a text determine its program.
 pub fn one_instruction()
     ensures { OneInsn }
 {}
 
-/// The written form of an instruction has its numbers in range, names no label, and has as many slots as the instruction
-/// is spelled in. To resolve labels, at any distance, leaves it unchanged.
+/// A law: the written form of an instruction has its numbers in range, names no label, and has as many slots as the instruction
+/// is spelled in. To resolve labels, at any distance, leaves it unchanged. So a printed line has no fault in its numbers or labels.
 pub fn written_in_range()
     ensures { (insn : Insn) → IsInsn insn → IsWrittenInRange insn }
 {}
 
-/// The printed text of an instruction is one line, and that line is read as the instruction.
+/// A law: the printed text of an instruction is one line, and that line is read as the instruction. So a program's text is read as
+/// its instructions. The call in it only gives its proof the law `written_in_range`.
 pub fn printed_is_read()
     ensures { (insn : Insn) → IsInsn insn → IsPrinted insn }
 {

@@ -34,7 +34,7 @@ fn binary(wide: bool, op: AluOp, tokens: &[Token<'_>]) -> Option<Operation>
     at_end(Operation::Binary { op, src }, rest)
 }
 
-/// A move with sign extension, from the tokens after `(`, as `s16)r2`. To a `w` register there is none from 32 bits.
+/// A move with sign extension, from the tokens after `(`, as `s16)r2`. A `w` register has none from 32 bits, which are all of its bits.
 #[tactic(auto, unfolding(crate::specs::inside::Reading::parsed_sign_extension))]
 fn sign_extension(wide: bool, tokens: &[Token<'_>]) -> Option<Operation>
     ensures { result ≡ parsed_sign_extension wide (shown_tokens tokens.now) }
@@ -85,7 +85,8 @@ fn unary(wide: bool, dst: Reg, tokens: &[Token<'_>]) -> Option<Operation>
     in_place(true, dst, Operation::End { how, bits }, rest)
 }
 
-/// The operation on `dst` with the symbol of `op`, from the tokens after it. Operations of one operand have the symbol of a move.
+/// The operation on `dst` with the symbol of `op`, from the tokens after this symbol. The operations of one operand (`unary`) are written
+/// with `=`, the symbol of a move (`Mov`).
 #[tactic(auto, unfolding(crate::specs::inside::Reading::parsed_operation))]
 fn operation(wide: bool, op: AluOp, dst: Reg, tokens: &[Token<'_>]) -> Option<Operation>
     ensures { result ≡ parsed_operation wide op dst (shown_tokens tokens.now) }
@@ -161,7 +162,8 @@ fn wide_load(dst: Reg, tokens: &[Token<'_>]) -> Option<Form>
     at_end(Form::WideLoad { dst, value }, rest)
 }
 
-/// A line that begins with its destination register: an operation on it; or a load or a wide load into it, if it is an `r` register.
+/// A line that begins with its destination register: an operation on it; or, with `=` (the symbol of `Mov`) and an `r` register, a wide
+/// load or a load into it.
 #[tactic(auto, unfolding(crate::specs::inside::Reading::parsed_assigned))]
 fn assigned(tokens: &[Token<'_>]) -> Option<Form>
     ensures { result ≡ parsed_assigned (shown_tokens tokens.now) }
@@ -208,7 +210,8 @@ fn branch<'a>(tokens: &[Token<'a>]) -> Option<(Form, &'a str)>
     ))
 }
 
-/// An instruction, and the label that its jump names: the empty text if it names none.
+/// An instruction, and the label that its jump names: the empty text if it names none. A line that begins with none of the six words
+/// (`if` to `lock`) begins with its destination register (`assigned`), or is a store.
 #[tactic(auto, unfolding(crate::specs::inside::Reading::parsed_form))]
 fn form<'a>(tokens: &[Token<'a>]) -> Option<(Form, &'a str)>
     ensures { seen_destination result ≡ parsed_form (shown_tokens tokens.now) }

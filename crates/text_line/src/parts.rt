@@ -45,7 +45,7 @@ pub(crate) fn number<'t, 'a>(tokens: &'t [Token<'a>]) -> Option<(Option<u64>, &'
     }
 }
 
-/// The tokens after the symbol `expected`; `None` if the first token is another.
+/// The tokens after the symbol `expected`; `None` if the first token is another, or if there is none.
 #[tactic(auto, unfolding(crate::specs::inside::Reading::after_symbol))]
 pub(crate) fn after_symbol<'t, 'a>(
     tokens: &'t [Token<'a>],
@@ -57,7 +57,7 @@ pub(crate) fn after_symbol<'t, 'a>(
     if found == expected { Some(rest) } else { None }
 }
 
-/// The tokens after the name `expected`; `None` if the first token is another.
+/// The tokens after the name `expected`; `None` if the first token is another, or if there is none.
 #[tactic(auto, unfolding(crate::specs::inside::Reading::after_word))]
 pub(crate) fn after_word<'t, 'a>(tokens: &'t [Token<'a>], expected: &str) -> Option<&'t [Token<'a>]>
     ensures { seen result ≡ after_word expected.now (shown_tokens tokens.now) }
@@ -85,7 +85,7 @@ pub(crate) fn register<'t, 'a>(
     }
 }
 
-/// The number of the first token, which has no sign, as one that has a minus if `negative`, and the tokens after it.
+/// The number of the first token, and the tokens after it. The token has no sign: whether a minus was read before it is `negative`.
 fn number_from<'t, 'a>(negative: bool, tokens: &'t [Token<'a>]) -> Option<(Number, &'t [Token<'a>])>
     ensures { seen_pair result ≡ number_from negative (leading_number (shown_tokens tokens.now)) }
 {
@@ -99,7 +99,7 @@ fn number_from<'t, 'a>(negative: bool, tokens: &'t [Token<'a>]) -> Option<(Numbe
     ))
 }
 
-/// A number with an optional minus.
+/// A number, after a minus or without a sign, and the tokens after it.
 #[tactic(auto, unfolding(crate::specs::inside::Reading::leading_constant))]
 pub(crate) fn constant<'t, 'a>(tokens: &'t [Token<'a>]) -> Option<(Number, &'t [Token<'a>])>
     ensures { seen_pair result ≡ leading_constant (shown_tokens tokens.now) }
@@ -110,7 +110,7 @@ pub(crate) fn constant<'t, 'a>(tokens: &'t [Token<'a>]) -> Option<(Number, &'t [
     }
 }
 
-/// A number with its sign, `+` or `-`.
+/// A number after its sign, `+` or `-`, without which there is none, and the tokens after it.
 #[tactic(auto, unfolding(crate::specs::inside::Reading::leading_signed_number))]
 pub(crate) fn signed<'t, 'a>(tokens: &'t [Token<'a>]) -> Option<(Number, &'t [Token<'a>])>
     ensures { seen_pair result ≡ leading_signed_number (shown_tokens tokens.now) }
@@ -148,7 +148,7 @@ pub(crate) fn ended(tokens: &[Token<'_>]) -> bool
     }
 }
 
-/// What was read, if no token is left.
+/// `found`, which was read, if no token is left; else `None`.
 pub(crate) fn at_end<T: Copy>(found: T, tokens: &[Token<'_>]) -> Option<T>
     ensures { result ≡ at_end found (shown_tokens tokens.now) }
 {
@@ -169,7 +169,8 @@ pub(crate) fn destination<'a>(tokens: &[Token<'a>]) -> Option<(JumpTarget, &'a s
     }
 }
 
-/// A memory operand, as `*(u32 *)(r6 + 0)`: whether its size is written as signed, the size, and the address.
+/// A memory operand, as `*(u32 *)(r6 + 0)`, and the tokens after it: whether its size is written as signed (as `s32`), the size, and
+/// the address.
 #[tactic(auto, unfolding(crate::specs::inside::Reading::leading_address))]
 pub(crate) fn address<'t, 'a>(
     tokens: &'t [Token<'a>],

@@ -19,9 +19,11 @@ use std::alloc::{AllocError, Global};
 /// A token.
 #[derive(Clone, Copy, Debug)]
 pub(crate) enum Token<'a> {
+    /// A letter or `_`, and the letters, digits and `_` after it.
     Name(&'a str),
     /// A number's value; `None` from 2 ^ 64 on.
     Number(Option<u64>),
+    /// One of `SYMBOLS`.
     Symbol(&'a str),
 }
 
@@ -98,14 +100,14 @@ fn is_name_start(byte: u8) -> bool
     byte.is_ascii_alphabetic() || byte == b'_'
 }
 
-/// Whether the byte is a hexadecimal digit, in either case.
+/// Whether the byte is a hexadecimal digit, in either case: `A` to `F` are 65 to 70, `a` to `f` 97 to 102.
 fn is_hex_digit(byte: u8) -> bool
     ensures { result ≡ is_hex_digit byte }
 {
     byte.is_ascii_digit() || (byte > 64 && byte < 71) || (byte > 96 && byte < 103)
 }
 
-/// The byte at an index; 0 past the end.
+/// The byte at an index; past the end 0, which is in no name, number or symbol.
 fn byte_at(text: &[u8], index: usize) -> u8
     ensures { result ≡ slice_index text.now index }
 {
@@ -155,7 +157,8 @@ fn name(text: &str) -> Option<(Token<'_>, &str)>
     Some((Token::Name(name), rest))
 }
 
-/// The number at the front, decimal, or hexadecimal after `0x`, and the text after it; `None` if no digit is at the front.
+/// The number at the front, decimal, or hexadecimal after `0x`, and the text after it; `None` if no digit is at the front. If no
+/// hexadecimal digit follows `0x`, the number is its 0.
 #[tactic(auto, unfolding(crate::specs::inside::Tokens::number_at))]
 fn number(text: &str) -> Option<(Token<'_>, &str)>
     requires { IsAscii text.now }
@@ -175,7 +178,7 @@ fn number(text: &str) -> Option<(Token<'_>, &str)>
     None
 }
 
-/// The number whose digits, of this class and radix, are at the front, and the text after them. It has no value from 2 ^ 64 on.
+/// The number at the front, whose digits are of this class and radix, and the text after it. Its value is `None` from 2 ^ 64 on.
 fn value(text: &str, class: ByteClass, radix: u32) -> (Token<'_>, &str)
     requires ascii { IsAscii text.now }
     requires digits { IsDigits class radix }
@@ -191,7 +194,7 @@ fn value(text: &str, class: ByteClass, radix: u32) -> (Token<'_>, &str)
 }
 
 /// The longest token at the front of the text, and the text after it; `None` if no token begins there. Blanks are not skipped.
-/// Symbols are tried first: one that begins with a letter, as `s>=`, is longer than the name that it begins.
+/// Symbols are tried first: a text that begins with `s>=` also begins with the name `s`, which is shorter.
 #[tactic(auto, unfolding(crate::specs::inside::Tokens::token_at))]
 fn first_token(text: &str) -> Option<(Token<'_>, &str)>
     requires { IsAscii text.now }

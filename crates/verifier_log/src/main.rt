@@ -6,7 +6,8 @@ use log_text::run_log_words;
 use std::process::ExitCode;
 use std::{env, io};
 
-/// Runs the program on its arguments, those after its name, and returns the exit status. An error means that they could not be read.
+/// Runs the program on its arguments, those after its name, and returns the exit status. An error means that they
+/// could not be read, for instance since one is not UTF-8 or memory ran out.
 fn run(rt: &HostRuntime) -> io::Result<u8> {
     let alloc = rt.alloc();
     let given: Vec<String> = env::args(rt)?.skip(1).collect(alloc)?;
@@ -17,6 +18,7 @@ fn run(rt: &HostRuntime) -> io::Result<u8> {
     Ok(run_log_words(alloc, &arguments, rt.stdin(), rt.stdout(), rt.stderr()))
 }
 
+/// Ends the program with the exit status of `run`, or with that of arguments that could not be read.
 fn main(rt: HostRuntime) -> ExitCode {
     let status = match run(&rt) {
         Ok(status) => status,

@@ -20,7 +20,7 @@ use Rattle.bpf_text.specs.Assembly.{line_slots, slots_on, label_line, passes}
 abbrev pub Labels : Type 0
 Labels = HashMap (Bor (List ℕ)) Definition (BuildHasherDefault FoldHasher)
 
--- the definition that is kept for a name
+-- the definition that is kept for a name; `None` if none is
 abbrev pub definition_of : Labels → List ℕ → Option Definition
 definition_of labels name = get_by (λ k. bytes_eq name k.now) labels
 
@@ -33,7 +33,8 @@ or_else None y = y
 abbrev pub definition_at : List (Option Line) → ℕ → Definition
 definition_at lines k = record { line = k; slot = slots_on (take k lines) }
 
--- the definition of each label of the first n lines is kept, and no other
+-- of each label that the first n lines define, the first definition is kept, and none of any other
+-- label
 abbrev pub FindsLabels : List (Option Line) → Labels → ℕ → Type 0
 FindsLabels lines labels n =
     (name : List ℕ)
@@ -41,7 +42,7 @@ FindsLabels lines labels n =
 
 -- ---- a line's fault and instruction, given the definitions that are kept
 
--- the line of the definition that is kept; `line` if none is
+-- the line of the definition that is kept; `line` if none is, so that it is no earlier line
 abbrev pub kept_line : Option Definition → ℕ → ℕ
 kept_line None line = line
 kept_line (Some definition) line = definition.line
@@ -51,12 +52,14 @@ abbrev pub kept_slot : Option Definition → ℕ
 kept_slot None = 0
 kept_slot (Some definition) = definition.slot
 
--- The distance from the slot after `slot` to a label. A label past the last slot that a program may
--- have is taken to be at that slot: the text has a line that is too long.
+-- The distance in slots from the slot after `slot` to a label. A label past the last slot that a
+-- program may have is taken to be at that slot: the text has a line that is too long. A label
+-- without a definition is taken to be at slot 0: a jump to it is a fault.
 abbrev pub kept_distance : Option Definition → ℕ → ℤ
 kept_distance definition slot = pos (min (kept_slot definition) most_slots) -ℤ pos (slot + 1)
 
--- the fault of an instruction, given the definition of its label and the slots before it
+-- the fault of an instruction, of the lowest kind, given the definition of the label that it names
+-- (`None` if it names none or no line defines it) and the slots before it
 abbrev pub code_fault : Form → Option Definition → ℕ → Option TextFaultKind
 code_fault form definition before =
     if form_fits form then
@@ -65,7 +68,8 @@ code_fault form definition before =
     Some UnknownLabel) else
     Some Range
 
--- the fault of a line that defines a label, given the definition that is kept for the label
+-- the fault of a line that defines a label, given the definition that is kept for the label and the
+-- line's index: that this definition is on an earlier line
 abbrev pub label_fault : Option Definition → ℕ → Option TextFaultKind
 label_fault definition line =
     if nat_lt (kept_line definition line) line then Some LabelTwice else None
@@ -78,7 +82,7 @@ kept_fault labels here (Some (label name)) = label_fault (definition_of labels n
 kept_fault labels here (Some (code form name)) =
     code_fault form (definition_of labels name) here.slot
 
--- the written form on a line, before which are these slots; none if it has no instruction
+-- the written form on a line, with `slot` slots before it; none if the line has no instruction
 abbrev pub kept_form : Labels → ℕ → Option Line → List Form
 kept_form labels slot None = []
 kept_form labels slot (Some blank) = []
@@ -86,18 +90,18 @@ kept_form labels slot (Some (label name)) = []
 kept_form labels slot (Some (code form name)) =
     resolved (kept_distance (definition_of labels name) slot) form ∷ []
 
--- the written forms on the lines from a slot on
+-- the written forms on the lines, in order, with `slot` slots before the first of them
 unfoldable pub kept_forms : Labels → ℕ → List (Option Line) → List Form
 kept_forms labels slot [] = []
 kept_forms labels slot (line ∷ lines) =
     kept_form labels slot line ++ kept_forms labels (slot + line_slots line) lines
 
--- a line that is read is well formed
+-- a line that is read is well formed; nothing is required of one that has none of the forms
 abbrev pub IsFormed : Option Line → Type 0
 IsFormed None = Unit {0}
 IsFormed (Some line) = IsWellFormed line
 
--- the name of the label that a line defines
+-- the name of the label that a line defines; `None` if it defines none
 abbrev pub label_defined : Option Line → Option (List ℕ)
 label_defined None = None
 label_defined (Some blank) = None

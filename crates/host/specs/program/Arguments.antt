@@ -45,16 +45,17 @@ maps_argument = record (new_rule (codes "map")) { action = Some Append }
 abbrev pub verify_command : App
 verify_command = with_rule (new_app (codes "verify")) maps_argument
 
--- a subcommand is required, and the name of the program is not among the arguments
+-- clap's settings s with two more: a subcommand is required, and the name of the program is not
+-- among the arguments
 abbrev pub asks_for_subcommand : Shape → Shape
 asks_for_subcommand s = record s { no_binary_name = true; subcommand_required = true }
 
--- the program with the subcommand `serve` only
+-- the first step to `program`: with the subcommand `serve` only
 abbrev pub program_up_to_serve : App
 program_up_to_serve =
     with_subcommand (on_top asks_for_subcommand (new_app (codes "bpfhost"))) serve_command.top
 
--- the program with the subcommands `serve`, `asm` and `dis`
+-- the next step to `program`: with the subcommands `serve`, `asm` and `dis`
 abbrev pub program_up_to_dis : App
 program_up_to_dis =
     with_subcommand (with_subcommand program_up_to_serve asm_command.top) dis_command.top
@@ -67,21 +68,22 @@ program = with_subcommand program_up_to_dis verify_command.top
 unfoldable pub refusal_kinds : List Text → Kinds
 refusal_kinds arguments = fault_of program arguments
 
--- the subcommand that the arguments name, with what they give to its options
+-- the name of the subcommand that the arguments name, with what they give to its options; None if
+-- they name none
 unfoldable pub chosen_subcommand : List Text → Option (Text × List Row)
 chosen_subcommand arguments = subcommand_of program arguments
 
--- the text that is given to `--tenants`
+-- the text that is given to `--tenants`; None if it is not given
 abbrev pub tenants_value : List Row → Option Text
 tenants_value rows = first_of (codes "tenants") rows
 
--- a number of tenants in decimal digits, from 1 to the most that there may be
+-- a number of tenants in decimal digits; None if it is not from 1 to the most that there may be
 abbrev pub tenant_number : Text → Option ℕ
 tenant_number digits =
     option_and_then (λ number. if is_from_to 1 most_tenants number then Some number else None)
     (decimal_number digits)
 
--- the arguments that are given for maps
+-- the arguments of `verify` that are given for maps, which may be none
 abbrev pub map_arguments : List Row → List Text
 map_arguments rows = unwrap_or (all_of (codes "map") rows) []
 
@@ -108,12 +110,13 @@ abbrev pub asked_of : Option (Text × List Row) → Option Asked
 asked_of chosen =
     option_and_then (λ (subcommand : Text × List Row). asked_with subcommand.0 subcommand.1) chosen
 
--- the task that the arguments name; None if they are wrong, whatever the map arguments name
+-- the task that the arguments name; None if they are wrong. Map arguments are not read here, so one
+-- that names no map is not wrong yet
 abbrev pub asked_by_arguments : List Text → Option Asked
 asked_by_arguments arguments =
     if is_empty (refusal_kinds arguments) then asked_of (chosen_subcommand arguments) else None
 
--- a map argument is wrong
+-- one of the map arguments is wrong: it names no map, or the descriptor of an earlier one
 abbrev pub HasWrongMapArgument : List Text → Type 0
 HasWrongMapArgument maps = (number : ℕ) × IsFirstWrongArgument maps number
 

@@ -24,6 +24,7 @@ pub record Accepts (arguments : List Text) (input : List ℕ) : Type 0 where
   pub named : AreMapArguments arguments maps
   pub judged : IsJudgement maps input None
 
--- if the bytes of the input are known, they have a program that is accepted with these maps
+-- If contracts know the bytes of the input, these have a program that is accepted with the maps of
+-- the arguments. None is an input whose bytes are not known: nothing is claimed of it
 abbrev pub AcceptsIfKnown : List Text → Option (List ℕ) → Type 0
 AcceptsIfKnown arguments input = IfSome input (Accepts arguments)

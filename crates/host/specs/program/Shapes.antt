@@ -31,8 +31,8 @@ abbrev pub descriptor_number : Text → Option ℕ
 descriptor_number text =
     option_and_then (λ fd. if is_descriptor fd then Some fd else None) (decimal_number text)
 
--- The fields of a shape in text. Which shapes there are is `MapShape`'s own invariant: each field
--- in its limits, and no more bytes of values than a map may have.
+-- These texts are the fields of the shape. Their limits are not named here: each `MapShape` has its
+-- fields in their limits, and no more bytes of values than a map may have.
 pub record IsShapeOf (shape : MapShape) (kind key_size value_size max_entries : Text) : Type 0 where
   pub kind_is : kind ≡ kind_name shape.kind
   pub key_size_is : decimal_number key_size ≡ Some shape.key_size
@@ -55,7 +55,7 @@ pub record IsMapArgument (argument : Text) (map : Named) : Type 0 where
 
 -- ---- several arguments
 
--- the arguments name these maps in order, and no two the same descriptor
+-- the arguments name these maps in order, and no two of the maps have the same descriptor
 pub record AreMapArguments (arguments : List Text) (maps : List Named) : Type 0 where
   pub each : AllZip IsMapArgument arguments maps
   pub apart : AllPairs (λ (a : Named) (b : Named). a.fd ≢ b.fd) maps
@@ -64,8 +64,8 @@ pub record AreMapArguments (arguments : List Text) (maps : List Named) : Type 0 
 abbrev pub has_descriptor : ℕ → List Named → Bool
 has_descriptor fd maps = list_any (λ (map : Named). map.fd == fd) maps
 
--- the arguments before this one name maps, and it names no map, or a descriptor of theirs;
--- arguments are counted from 1
+-- The argument with this number, from 1, is the first wrong one: the arguments before it name maps,
+-- and it names no map, or one at a descriptor that one of these maps has
 pub record IsFirstWrongArgument (arguments : List Text) (number : ℕ) : Type 0 where
   pub before : List Text
   pub argument : Text

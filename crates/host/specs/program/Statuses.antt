@@ -14,7 +14,7 @@ use Rattle.host.specs.declared.program.failure.Failure.TheVariants.{WrongArgumen
 use Rattle.host.specs.declared.program.failure.Failure.TheVariants.{TooManyFrames, TooLong, Line, Slot, Read, Write, Seed, Memory}
 
 -- The exit status: 1 if the input is rejected, 2 if arguments are wrong, 3 if input or output
--- failed or maps have no seed, 4 if out of memory.
+-- failed or `serve` has no seed for hash maps, 4 if out of memory.
 abbrev pub exit_status : Failure → ℕ
 exit_status (Truncated frames) = 1
 exit_status TooManyFrames = 1
@@ -28,7 +28,8 @@ exit_status Write = 3
 exit_status Seed = 3
 exit_status Memory = 4
 
--- the failure for clap's kind of error
+-- the failure for clap's kind of error: wrong arguments, unless out of memory. Help and version are
+-- such errors too, since there are no such options
 abbrev pub arguments_failure : ErrorKind → Failure
 arguments_failure error.InvalidValue = WrongArguments
 arguments_failure error.UnknownArgument = WrongArguments
@@ -60,7 +61,8 @@ failure_after fault.Memory frames = Memory
 abbrev pub stream_failure : ServeFault → Failure
 stream_failure ended = failure_after ended.kind ended.frames
 
--- the failure for a kind of fault on a line of a text
+-- the failure for a kind of fault on a line of a text; lines are counted from 1, and 0 is the whole
+-- text
 abbrev pub failure_on : ℕ → TextFaultKind → Failure
 failure_on line text.Syntax = Line line (kind_number text.Syntax)
 failure_on line text.Range = Line line (kind_number text.Range)

@@ -9,18 +9,18 @@ use Rattle.insn_set.specs.declared.insn.Insn.{Insn}
 use Rattle.host.specs.program.Failure.{codec_failure}
 use Rattle.host.specs.declared.program.failure.Failure.{Failure}
 
--- the input has these slots as hex lines
+-- the input is UTF-8, and its hex lines have these bytes of slots
 pub record IsSlotText (input slots : List ℕ) : Type 0 where
   pub utf8 : IsUtf8 input
   pub lines : IsHexText input slots
 
--- the input has a program's slots as hex lines
+-- the input is UTF-8, and its hex lines have the slots of this program
 pub record IsProgramText (input : List ℕ) (insns : List Insn) : Type 0 where
   pub utf8 : IsUtf8 input
   pub slots : IsHexText input (program_bytes insns)
   pub program : IsProgram insns
 
--- the lines have slots that are no program
+-- the hex lines of the input have slots that are no program; the failure is that of their fault
 pub record IsProgramRefused (input : List ℕ) (failure : Failure) : Type 0 where
   pub bytes : List ℕ
   pub fault : CodecFault

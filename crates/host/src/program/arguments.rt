@@ -32,9 +32,9 @@ use tagged_model::Named;
 enum Task<'m, 'a> {
     /// Serve frames to this number of tenants.
     Serve { tenants: usize },
-    /// Read a text and write another one.
+    /// Assemble or disassemble the input.
     Rewrite(TextTask),
-    /// Verify a program, with the maps that these arguments name, if any are given.
+    /// Verify a program with the maps that these arguments name; `None` if no argument is given for a map.
     Verify { maps: Option<&'m [&'a str]> },
 }
 
@@ -61,7 +61,7 @@ fn serve_subcommand<'a>(alloc: Global) -> Result<Command<'a>, AllocError>
     Command::new(alloc, "serve").arg(tenants)
 }
 
-/// The subcommand `verify`, with any number of map arguments.
+/// The subcommand `verify`, with any number of map arguments, which are positional.
 fn verify_subcommand<'a>(alloc: Global) -> Result<Command<'a>, AllocError>
     ensures { IfOk result (λ command. app_of command ≡ verify_command) }
 {
@@ -69,7 +69,7 @@ fn verify_subcommand<'a>(alloc: Global) -> Result<Command<'a>, AllocError>
     Command::new(alloc, "verify").arg(maps)
 }
 
-/// Parses the arguments with clap.
+/// Parses the arguments, which don't begin with the program's name, with clap. `Err` if clap rejects them, or if out of memory.
 fn parse_arguments<'a>(
     alloc: Global,
     arguments: &'a [&'a str],
@@ -88,7 +88,7 @@ fn parse_arguments<'a>(
     program.try_get_matches_from(arguments)
 }
 
-/// The number of tenants given to `serve`; `None` if it is missing or wrong.
+/// The number of tenants given to `serve`; `None` if it is not from 1 to `MOST_TENANTS`, or missing, which clap rejects before.
 fn tenants_given(serve: &ArgMatches<'_>) -> Option<usize>
     ensures { result
         ≡ option_and_then tenant_number (tenants_value (rows_of (found_of serve.now))) }
@@ -96,7 +96,7 @@ fn tenants_given(serve: &ArgMatches<'_>) -> Option<usize>
     tenant_count(serve.get_str("tenants")?)
 }
 
-/// The task of a subcommand; `None` if its options are wrong.
+/// The task of the subcommand with this name; `None` if its options are wrong.
 fn task_named<'m, 'a>(name: &str, options: &'m ArgMatches<'a>) -> Option<Task<'m, 'a>>
     ensures tenants { IfSome result HasTenants }
     ensures asked { option_map asked_by result
@@ -113,11 +113,12 @@ fn task_named<'m, 'a>(name: &str, options: &'m ArgMatches<'a>) -> Option<Task<'m
             let maps = options.get_strs("map");
             Some(Task::Verify { maps })
         }
+        // Never of clap's matches, which have one of the four names.
         _ => None,
     }
 }
 
-/// The task of the chosen subcommand; `None` if its options are wrong.
+/// The task of the chosen subcommand; `None` if its options are wrong, or if none is chosen, which clap rejects before.
 fn chosen_task<'m, 'a>(matches: &'m ArgMatches<'a>) -> Option<Task<'m, 'a>>
     ensures tenants { IfSome result HasTenants }
     ensures asked { option_map asked_by result ≡ asked_of (subcommand_rows_of matches.now) }
@@ -126,8 +127,8 @@ fn chosen_task<'m, 'a>(matches: &'m ArgMatches<'a>) -> Option<Task<'m, 'a>>
     task_named(name, options)
 }
 
-/// Serves the input's frames and writes the replies. It consumes the streams, so what was read and written, and which fault
-/// came, is only in the contract of `serve_frames`.
+/// Serves the input's frames and writes the replies; without a seed it fails before it reads. No failure has status 2, that of wrong
+/// arguments. It consumes the streams, so what was read and written, and which fault came, is only in the contract of `serve_frames`.
 fn serve_streams<I: Read + Drop, O: Write + Drop>(
     alloc: Global,
     seed: Option<HashSeed>,
@@ -150,8 +151,8 @@ fn serve_streams<I: Read + Drop, O: Write + Drop>(
     serve_frames(alloc, tenants, seed, &mut reader, &mut writer)
 }
 
-/// Assembles or disassembles the input. It consumes the streams, so what was read and written, and which fault came, is in
-/// the contract of `rewrite` only.
+/// Assembles or disassembles the input. No failure has status 2, that of wrong arguments. It consumes the streams, so what was read and
+/// written, and which fault came, is in the contract of `rewrite` only.
 fn rewrite_streams<I: Read + Drop, O: Write + Drop>(
     alloc: Global,
     task: TextTask,
@@ -165,7 +166,7 @@ fn rewrite_streams<I: Read + Drop, O: Write + Drop>(
     rewrite(alloc, task, &mut reader, &mut writer)
 }
 
-/// The maps that the map arguments name; none if there are no such arguments.
+/// The maps that the map arguments name; an empty list if there are none (`None`).
 fn maps_given(alloc: Global, arguments: Option<&[&str]>) -> Result<Vec<Named>, Failure>
     ensures named { IfOk result (λ maps. AreMapArguments (texts_given arguments.entry) maps.items) }
     ensures wrong { FailsOnly result (IsWrongMapArgument (texts_given arguments.entry)) }
@@ -176,8 +177,8 @@ fn maps_given(alloc: Global, arguments: Option<&[&str]>) -> Result<Vec<Named>, F
     }
 }
 
-/// Reads the map arguments, verifies the input's program, and returns the exit status of the verdict. It consumes the streams,
-/// so what was read and written, and which fault came, is only in the contract of `judge`.
+/// Reads the map arguments, verifies the input's program, and returns the exit status of the verdict: 0 if it is accepted, else 1. It
+/// consumes the streams, so what was read and written, and which fault came, is only in the contract of `judge`.
 fn judge_streams<I: Read + Drop, O: Write + Drop>(
     alloc: Global,
     arguments: Option<&[&str]>,
@@ -199,7 +200,8 @@ fn judge_streams<I: Read + Drop, O: Write + Drop>(
     Ok(verdict_status(refusal))
 }
 
-/// Runs the subcommand that the arguments name, and returns the exit status. The arguments are those after the name of the program.
+/// Runs the subcommand that the arguments name, and returns the exit status: 1 if `verify` rejects a program, else 0. Every other end is
+/// a `Failure`. The arguments are those after the name of the program.
 fn run<I: Read + Drop, O: Write + Drop>(
     alloc: Global,
     seed: Option<HashSeed>,
@@ -231,7 +233,8 @@ fn run<I: Read + Drop, O: Write + Drop>(
 
 /// Runs the program on its arguments, those after its name, and returns its exit status: 0, 1 if the input or its program is
 /// rejected, 2 if arguments are wrong, 3 if input or output failed, or if there is no seed for the maps of `serve`, 4 if out of
-/// memory. A fault is one line on `faults`; if that line can't be written, the status is the same.
+/// memory. A fault is one line on `faults`; if that line can't be written, the status is still the fault's. `seed` is `None` if none
+/// could be drawn, and only `serve` fails then.
 pub fn run_words<I: Read + Drop, O: Write + Drop, F: Write + Drop>(
     alloc: Global,
     seed: Option<HashSeed>,

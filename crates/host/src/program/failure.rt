@@ -13,28 +13,34 @@ use thiserror::Error;
 /// Why the program ends with a fault. Its text is the fault line.
 #[derive(Debug, Drop, Error)]
 pub enum Failure {
+    /// clap rejects the arguments, they name no task, or they could not be read.
     #[error("wrong words")]
     WrongArguments,
-    /// The number of the argument, from 1.
+    /// The number of the first wrong map argument, from 1.
     #[error("map word {0} is wrong")]
     MapArgument(usize),
     /// The input of `serve` ended inside a frame, after so many whole ones.
     #[error("truncated after {0} frames")]
     Truncated(u32),
+    /// The input of `serve` has more than `MOST_FRAMES` frames.
     #[error("too many frames")]
     TooManyFrames,
+    /// The input of another subcommand has more than 1,048,576 bytes.
     #[error("input too long")]
     TooLong,
-    /// Lines are numbered from 1; line 0 is the whole text. `kind` is the number of the fault in `bpf_text`.
+    /// A text or hex lines have a fault. Lines are numbered from 1; line 0 is the whole text. `kind` is the fault's number in `bpf_text`.
     #[error("line {line}: fault {kind}")]
     Line { line: usize, kind: u16 },
-    /// `kind` is the number of the fault in `insn_codec`.
+    /// Slots that are no program. `slot` is the first one with a fault, and `kind` the fault's number in `insn_codec`.
     #[error("slot {slot}: fault {kind}")]
     Slot { slot: usize, kind: u16 },
+    /// A call of the input failed.
     #[error("read fault")]
     Read,
+    /// A call of the output failed, or took no bytes.
     #[error("write fault")]
     Write,
+    /// `serve` has no seed for its hash maps.
     #[error("no random seed")]
     Seed,
     #[error("out of memory")]
@@ -60,7 +66,7 @@ impl Failure {
         }
     }
 
-    /// The exit status of the program.
+    /// The exit status of the program: 1 if the input is rejected, 2 if arguments are wrong, 3 if a system call failed, 4 if out of memory.
     pub fn status(&self) -> u8
         ensures { result ≡ exit_status self.now }
     {
@@ -79,6 +85,7 @@ impl From<AllocError> for Failure {
 
     ghost from_gives = { λ _ failure. failure ≡ Memory };
 
+    /// An allocation fails only if out of memory.
     fn from(_error: AllocError) -> Failure {
         Failure::Memory
     }
@@ -89,6 +96,7 @@ impl<T: Drop> From<AllocFailed<T>> for Failure {
 
     ghost from_gives = { λ _ failure. failure ≡ Memory };
 
+    /// Out of memory; what the error holds is dropped.
     fn from(_error: AllocFailed<T>) -> Failure {
         Failure::Memory
     }
@@ -100,6 +108,7 @@ impl From<clap::Error> for Failure {
 
     ghost from_gives = { λ error failure. failure ≡ arguments_failure (kind_of error) };
 
+    /// Out of memory, or wrong arguments.
     fn from(error: clap::Error) -> Failure {
         match error.kind() {
             ErrorKind::OutOfMemory => Failure::Memory,
@@ -114,6 +123,7 @@ impl From<ServeFault> for Failure {
 
     ghost from_gives = { λ fault failure. failure ≡ stream_failure fault };
 
+    /// The failure for the fault of a stream. Only the line of `Truncated` has the number of frames.
     fn from(fault: ServeFault) -> Failure {
         match fault.kind {
             ServeFaultKind::Read => Failure::Read,
@@ -130,6 +140,7 @@ impl From<TextFault> for Failure {
 
     ghost from_gives = { λ fault failure. failure ≡ text_failure fault };
 
+    /// Out of memory, or the line of the fault and its number.
     fn from(fault: TextFault) -> Failure {
         match fault.kind {
             TextFaultKind::Memory => Failure::Memory,
@@ -148,6 +159,7 @@ impl From<CodecFault> for Failure {
 
     ghost from_gives = { λ fault failure. failure ≡ codec_failure fault };
 
+    /// Out of memory, or the slot of the fault and its number.
     fn from(fault: CodecFault) -> Failure {
         match fault.kind {
             FaultKind::Memory => Failure::Memory,

@@ -11,7 +11,8 @@ use crate::program::failure::Failure;
 use host_core::{HashSeed, MOST_FRAMES, Sink, Source, serve_new_host};
 use std::alloc::Global;
 
-/// Serves the reader's frames on a new host with this seed, `MOST_FRAMES` at most, and writes the replies.
+/// Serves the reader's frames on a new host with this seed, `MOST_FRAMES` at most, and writes the replies. The number of frames is not
+/// returned.
 ///
 /// # Errors
 ///

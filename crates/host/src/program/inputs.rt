@@ -16,7 +16,7 @@ use std::alloc::Global;
 use std::io::Read;
 use tagged_model::Named;
 
-/// Reads an input to its end, as `asm`, `dis` and `verify` do.
+/// Reads an input to its end, as `asm`, `dis` and `verify` do. It consumes the input, so no contract says what was read.
 ///
 /// # Errors
 ///

@@ -1,5 +1,9 @@
 //! The subcommand `verify`: hex lines in, the verdict on their program out. Contracts require that fewer than 2^64 - 1 calls of a stream
 //! have failed before, since they are counted in 64 bits.
+//!
+//! The contract of `refusal_of_input` has four parts. The result is the judgement of the input (`judged`); if it has one, this is returned
+//! (`only`); a failure is one for this input (`fault`); if there is one for the input, the call fails with it (`faulty`). A call may always
+//! fail out of memory instead.
 
 ghost use Rattle.std.specs.Prelude.{◌≡◌, ◌∷◌, ◌++◌, ◌<◌, ◌-◌, ◌^◌, [], Option, IfErr, IfOk, string_bytes};
 ghost use Rattle.host.specs.program.Judging.{IsJudgement};
@@ -25,7 +29,7 @@ fn refusal_of_input(alloc: Global, maps: &[Named], input: &[u8]) -> Result<Optio
     ensures faulty { (failure : AnyFailure) → IsUnreadable input.now failure
         → Fails result (λ told. told ≡ failure) }
 {
-    // By this law there is one judgement.
+    // A law, which does nothing when it runs: slots have at most one judgement. So the one found is that of `only`.
     laws::one_judgement();
     let slots = slots_on(alloc, input)?;
     match verify_slots(alloc, &slots, maps, &mut WorkingMemory::new(alloc))? {
@@ -34,7 +38,7 @@ fn refusal_of_input(alloc: Global, maps: &[Named], input: &[u8]) -> Result<Optio
     }
 }
 
-/// The line of a verdict, with its line feed: `accepted`, or the text of the refusal.
+/// The line of a verdict, with its line feed, 10: `accepted` if there is no refusal, or the text of the refusal.
 fn verdict_line(alloc: Global, refusal: Option<Refusal>) -> Result<String, AllocError>
     ensures { IfOk result (λ line. string_bytes line ≡ judgement_text refusal ++ 10 ∷ []) }
 {
@@ -44,7 +48,7 @@ fn verdict_line(alloc: Global, refusal: Option<Refusal>) -> Result<String, Alloc
     }
 }
 
-/// The exit status of a run that wrote a verdict.
+/// The exit status of a run that wrote a verdict: 0 if the program is accepted, which has no refusal, else 1.
 pub(crate) fn verdict_status(refusal: Option<Refusal>) -> u8
     ensures { result ≡ judgement_status refusal }
 {
@@ -54,8 +58,8 @@ pub(crate) fn verdict_status(refusal: Option<Refusal>) -> u8
     }
 }
 
-/// Reads the input, and writes a line with the verdict on its hex lines, if these maps are open. Returns why they are rejected, if
-/// they are.
+/// Reads the input, and writes a line with the verdict on its hex lines, if these maps are open. Returns why they are rejected;
+/// `None` if their program is accepted. Nothing is written on a failure, except for `Write`: then a front of the line may be written.
 pub(crate) fn judge<S: Source, O: Sink>(
     alloc: Global,
     maps: &[Named],

@@ -16,7 +16,7 @@ use std::alloc::Global;
 use tagged_model::{MapKind, MapShape, Named, Target};
 use thiserror::Error;
 
-/// An argument that names no map.
+/// The error for an argument that names no map. It has no reasons, since the fault line has only the number of the argument.
 #[derive(Clone, Copy, Debug, PartialEq, Eq, Error)]
 #[error("a map is named by FD:KIND:KEY:VALUE:MAX")]
 pub struct BadShape;
@@ -55,7 +55,8 @@ fn kind_named(name: &str) -> Option<MapKind>
     }
 }
 
-/// The shape with these fields; `None` if one is wrong, or if no map may have this shape (`MapShape::new`).
+/// The shape with these fields, and without flags (the last 0); `None` if one is wrong, or if no map may have this shape
+/// (`MapShape::new`).
 fn shape_of(kind: &str, key_size: &str, value_size: &str, max_entries: &str) -> Option<MapShape>
     ensures written { IfSome result (λ shape.
         IsShapeOf shape kind.now key_size.now value_size.now max_entries.now) }
@@ -113,7 +114,8 @@ fn is_open(maps: &[Named], fd: u32) -> bool
     maps.iter().any(|map| map.fd == fd)
 }
 
-/// The map that an argument after those of `maps` names; `None` if it names no map, or the descriptor of one of them.
+/// The map that an argument names, which comes after the arguments of `maps`. `None` if it names no map, or one at a descriptor that one of
+/// `maps` has.
 fn further_map(maps: &[Named], argument: &str) -> Option<Named>
     ensures named { IfSome result (λ map. IsMapArgument argument.now map
         × (has_descriptor map.fd maps.now ≡ false)) }

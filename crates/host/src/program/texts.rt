@@ -1,5 +1,9 @@
 //! The subcommands `asm` and `dis`: a text in, a text out. Contracts require that fewer than 2^64 - 1 calls of a stream have failed
 //! before, since they are counted in 64 bits.
+//!
+//! The contract of a function on an input has four parts. A result is one for this input (`made`, `read`); if there is one for the input,
+//! it is returned (`only`); a failure is one for this input (`fault`); if there is one for the input, the call fails with it (`faulty`).
+//! A call may always fail out of memory instead.
 
 ghost use Rattle.std.specs.Prelude.{◌≡◌, ◌<◌, ◌-◌, ◌^◌, List, ℕ, length, IfErr, IfOk, IsUtf8, MatchResult, OnOk};
 ghost use Rattle.std.specs.String.{string_bytes};
@@ -29,7 +33,7 @@ pub(crate) enum TextTask {
     Disassemble,
 }
 
-/// The bytes as text; if they are not UTF-8, fault 1 (a line of no form) at line 0, the whole text.
+/// The bytes as text. If they are not UTF-8, the failure is fault 1 (`Syntax` of `bpf_text`) of line 0, which means the whole text.
 pub(crate) fn text_in(bytes: &[u8]) -> Result<&str, Failure>
     ensures { MatchResult result (λ text. (text.now ≡ bytes.now) × IsUtf8 bytes.now)
         (IsNoText bytes.now) }
@@ -95,7 +99,7 @@ fn disassembled(alloc: Global, input: &[u8]) -> Result<String, Failure>
     Ok(text)
 }
 
-/// The output of the task for the input.
+/// What the task makes of the input: the hex lines or the text of its program.
 fn rewritten(alloc: Global, task: TextTask, input: &[u8]) -> Result<String, Failure>
     ensures made { IfOk result (λ output. IsRewritten task input.now (string_bytes output)) }
     ensures only { (output : List ℕ) → IsRewritten task input.now output
@@ -110,7 +114,7 @@ fn rewritten(alloc: Global, task: TextTask, input: &[u8]) -> Result<String, Fail
     }
 }
 
-/// A buffer of `size` bytes.
+/// A buffer of `size` zero bytes.
 fn buffer(alloc: Global, size: usize) -> Result<Vec<u8>, AllocError>
     ensures { IfOk result (λ bytes. length bytes.items ≡ size) }
 {
@@ -130,6 +134,7 @@ pub(crate) fn read_input<S: Source>(alloc: Global, reader: &mut S) -> Result<Vec
 {
     // One byte more, by which a longer input is noticed.
     let mut input = buffer(alloc, LONGEST_INPUT + 1)?;
+    // `fill` fails only if a call of the reader does.
     let Ok(count) = fill(reader, &mut input) else {
         return Err(Failure::Read);
     };
@@ -140,7 +145,8 @@ pub(crate) fn read_input<S: Source>(alloc: Global, reader: &mut S) -> Result<Vec
     Ok(input)
 }
 
-/// Reads the input, and writes the output of the task for it.
+/// Reads the input, and writes what the task makes of it. Nothing is written on a failure, except for `Write`: then a front of the output
+/// may be written.
 pub(crate) fn rewrite<S: Source, O: Sink>(
     alloc: Global,
     task: TextTask,

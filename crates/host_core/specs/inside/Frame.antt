@@ -7,7 +7,7 @@ use Rattle.command_frames.specs.Frame.{framed, IsFrame, IsPartial}
 use Rattle.host_core.specs.Served.{StreamState, NoCallFailed}
 use Rattle.host_core.specs.Handled.{Handles}
 
--- a frame was read and handled, and its reply written as far as `out`
+-- a frame was read and handled, and `out` was written: its reply, or the front of it
 pub record ServesOneFrame (old new : StreamState) (frame reply out : List ℕ) : Type 0 where
   pub is_frame : IsFrame frame
   pub read : Consumes old.input new.input (framed frame)
@@ -31,8 +31,8 @@ ServesFrameOrEnds old new true =
     × NoCallFailed old new
 ServesFrameOrEnds old new false = ReadsOnly old new [] × IsAtEnd new.input × NoCallFailed old new
 
--- what was read and written of one frame before a fault, and which call failed
--- or that the input is at its end; two kinds of fault cannot occur inside a frame
+-- What was read and written of one frame before a fault, and why: a call failed, or the input is at
+-- its end. Memory occurs before the first frame, and TooManyFrames after the last one.
 abbrev pub StopsInFrame : StreamState → StreamState → ServeFaultKind → Type 0
 StopsInFrame old new Read =
     ((rest : List ℕ) × IsPartial rest × ReadsOnly old new rest)

@@ -6,7 +6,7 @@ use Rattle.command_frames.specs.Frame.{IsPartial}
 use Rattle.host_core.specs.declared.server.ServeFaultKind.{ServeFaultKind}
 use Rattle.host_core.specs.declared.server.ServeFaultKind.TheVariants.{Read, Write, Truncated, TooManyFrames, Memory}
 
--- fewer than `count` bytes were read
+-- fewer than `count` bytes were read; `old` and `new` are those left before and after, if known
 pub record ReadsFewer (old new : Option (List ℕ)) (count : ℕ) : Type 0 where
   pub bytes : List ℕ
   pub few : length bytes < count
@@ -19,7 +19,8 @@ pub record ReadsPartial (kind : ServeFaultKind) (old new : Option (List ℕ)) : 
   pub begun : kind ≡ Truncated → 0 < length bytes
   pub read : Consumes old new bytes
 
--- why no more was read: a call failed, or the input is at its end and no call failed
+-- why no more was read: a call failed, or the input is at its end and no call failed; no other
+-- fault occurs while a frame is read
 abbrev pub StopsReading : ServeFaultKind → Option (List ℕ) → ℕ → ℕ → Type 0
 StopsReading Read left failures_before failures_after = failures_before < failures_after
 StopsReading Truncated left failures_before failures_after =
@@ -39,7 +40,8 @@ abbrev pub StopsAt : {R : Type 0}
 StopsAt remaining failures kind old new =
     StopsReading kind (remaining new) (failures old) (failures new)
 
--- the front is the frame, or both are longer than the longest frame and begin with the same head
+-- the front is the frame, or both are longer than the longest valid frame and begin with the same
+-- head, and the reply to such a frame depends only on its head
 abbrev pub IsKeptFrontOf : List ℕ → List ℕ → Type 0
 IsKeptFrontOf front frame =
     (front ≡ frame)

@@ -45,12 +45,13 @@ struct Access {
     offset: i64,
     /// How many bytes it accesses.
     bytes: i64,
-    /// The number of the source register of a store or of an atomic operation, if it has one.
+    /// The number of the source register of a store or of an atomic operation; `None` for a load, and for a store of a constant.
     given: Option<u8>,
     deed: Deed,
 }
 
-/// The access to `size` bytes at an offset from a base register. `given` is the number of its source register.
+/// The access to `size` bytes, `off` bytes from the address in `base`. `given` is the number of the register whose value it stores or
+/// computes with; `None` for a load, and for a store of a constant.
 fn access_at(base: Reg, off: i16, size: AccessSize, given: Option<u8>, deed: Deed) -> Access {
     Access {
         base: base.number(),
@@ -61,7 +62,7 @@ fn access_at(base: Reg, off: i16, size: AccessSize, given: Option<u8>, deed: Dee
     }
 }
 
-/// What a load does.
+/// What a load does, which extends the sign if `is_signed`.
 fn load_deed(is_signed: bool) -> Deed {
     if is_signed {
         Deed::SignedLoad
@@ -97,8 +98,9 @@ fn access_of(insn: &Insn) -> Option<Access> {
     }
 }
 
-/// The first and the last byte that an access of so many bytes at an offset from a pointer may touch, from the start of the
-/// pointer's object, or from the stack's upper end.
+/// The first and the last byte that an access may touch, of `bytes` bytes at `offset` from a pointer of this kind, whose own offset may be
+/// one of a range. Both count from the start of the object, or from the stack's upper end. They are used only for the stack and for values:
+/// of another kind the pointer's offset is taken as 0.
 pub(crate) fn touched(kind: Kind, offset: i64, bytes: i64) -> (i64, i64) {
     let (low, high) = match kind {
         Kind::Stack(offset) => (offset, offset),
@@ -130,7 +132,8 @@ pub(crate) fn write_outside_stack(
     write!(text, " of the stack, whose bytes are -{STACK_SIZE} to -1")
 }
 
-/// The first and the last of the stack bytes from `first` to `last` that may be unwritten.
+/// The first and the last of the stack bytes from `first` to `last` that may be unwritten; bytes between these two may be written. For
+/// `UnwrittenStack` there is such a byte; if there were none, both arguments are returned.
 fn unwritten(facts: &Facts, first: i64, last: i64) -> (i64, i64) {
     let mut lowest = None;
     let mut highest = last;
@@ -158,7 +161,7 @@ pub(crate) fn write_unwritten(
     write_way(text, refusal, Wanted::Stack { first, last })
 }
 
-/// The first spill that overlaps a range of stack bytes: the offset of its lowest byte, and the kind of its pointer.
+/// The lowest spill that overlaps the stack bytes from `first` to `last`: the offset of its lowest byte, and the kind of its pointer.
 fn spill_among(facts: &Facts, first: i64, last: i64) -> Option<(i64, Kind)> {
     for index in 0..STACK_SLOTS {
         let lowest = 8 * index as i64 - 8 * STACK_SLOTS as i64;
@@ -172,7 +175,7 @@ fn spill_among(facts: &Facts, first: i64, last: i64) -> Option<(i64, Kind)> {
     None
 }
 
-/// Writes which bytes a spill has, from `lowest` on, and the kind of its pointer.
+/// Writes that the eight stack bytes from `lowest` on are a spilled pointer of this kind, as the rest of a sentence.
 fn write_spill(text: &mut String, lowest: i64, kind: Kind) -> Result<(), AllocError> {
     let highest = lowest.saturating_add(7);
     write!(
@@ -183,7 +186,8 @@ fn write_spill(text: &mut String, lowest: i64, kind: Kind) -> Result<(), AllocEr
     text.push_str("), which a load of these 8 bytes alone reads")
 }
 
-/// Writes which stack bytes the instruction reads, writes or changes (`verb`), and the spill that they overlap.
+/// Writes which stack bytes the instruction reads, writes or changes (`verb`), and the spill that they overlap. There is one, since the
+/// reason is `PartOfSpill`.
 pub(crate) fn write_part_of_spill(
     text: &mut String,
     facts: &Facts,
@@ -199,7 +203,7 @@ pub(crate) fn write_part_of_spill(
     }
 }
 
-/// Writes that the pointer in a register is stored by `bytes` bytes, fewer than eight.
+/// Writes that a register has a pointer, which only a store of eight bytes may store, and not this one of `bytes` bytes.
 fn write_part_stored(
     text: &mut String,
     facts: &Facts,
@@ -210,7 +214,7 @@ fn write_part_stored(
     write!(text, ", and is stored by 8 bytes, not by {bytes}")
 }
 
-/// The size of the values of a map; 0 if the descriptor names no map.
+/// The size of the values of a map in bytes. 0 if the descriptor names no map, which is never so for the map of a kind.
 pub(crate) fn value_size_of(named: &[Named], fd: u32) -> u32 {
     match shape_of(named, fd) {
         Some(shape) => shape.value_size,
@@ -232,7 +236,8 @@ pub(crate) fn write_outside_value(
     write!(text, " of a value of {size} bytes (map {map})")
 }
 
-/// Writes an access to the context that is no load of one of its words.
+/// Writes what is wrong with an access to the context. A load has to read a whole aligned word without its sign; a store or an atomic
+/// operation (the arm `_`) is never allowed.
 fn write_context(text: &mut String, access: Access) -> Result<(), AllocError> {
     let (verb, bytes, offset) = (access.deed.verb(), access.bytes, access.offset);
     let sign = match access.deed {
@@ -249,7 +254,8 @@ fn write_context(text: &mut String, access: Access) -> Result<(), AllocError> {
     write!(text, "where words of 4 bytes are read at 0, 4, .. {last}")
 }
 
-/// Writes what is known of the source register `given`, and `needed`, which says that it has to be a number.
+/// Writes what is known of the source register `given`, and `needed`, which says that it has to be a number. `None` can't occur: the source
+/// is no number, and a constant is one.
 fn write_given(
     text: &mut String,
     facts: &Facts,
@@ -265,7 +271,8 @@ fn write_given(
     }
 }
 
-/// Writes the offset in a value of an unaligned atomic operation.
+/// Writes the offset in a map's value at which an atomic operation is, by a pointer of this kind: one that is no multiple of its size, or a
+/// range, of which the offset is not known.
 fn write_unaligned_atomic(
     text: &mut String,
     access: Access,
@@ -285,7 +292,7 @@ fn write_unaligned_atomic(
     }
 }
 
-/// Writes what is known of an access to the stack, from `first` to `last`, against what it needs. The reason of the last two arms is
+/// Writes what is known of an access to the stack bytes from `first` to `last`, against what it needs. The reason of the last two arms is
 /// `PartOfSpill`: a store breaks that rule by the pointer that it stores, a load or an atomic operation by the spill that it reads.
 fn write_stack_need(
     text: &mut String,
@@ -311,7 +318,7 @@ fn write_stack_need(
     }
 }
 
-/// Writes what is known of an access, against what it needs.
+/// Writes what is known of an access, against what it needs. The last arm has the four reasons of accesses to the stack.
 fn write_access_need(
     text: &mut String,
     refusal: &RefusedProgram<'_>,
@@ -360,7 +367,8 @@ fn write_access_need(
     }
 }
 
-/// Writes what is known of the access of an instruction, against what it needs.
+/// Writes what is known of the access of the rejected instruction, against what it needs. `None` can't occur: the caller has arms for all
+/// other instructions but unconditional jumps and loads of constants, maps and direct values, and these break no rule of safety.
 pub(crate) fn write_need(
     text: &mut String,
     refusal: &RefusedProgram<'_>,

@@ -8,7 +8,7 @@ use std::alloc::AllocError;
 use std::fmt::Write;
 use tagged_model::FARTHEST_OFFSET;
 
-/// Writes what is known of the operands; a move reads only the second one.
+/// Writes what is known of the operands `dst` and `src`, as the beginning of a sentence; for a move only of `src`, as `dst` is not read.
 fn write_operands(
     text: &mut String,
     refusal: &RefusedProgram<'_>,
@@ -26,7 +26,8 @@ fn write_operands(
     }
 }
 
-/// The register of the operand that may be null: the first if its kind is such, else the second.
+/// The number of the register that may be null: `dst` if its kind is such, else `src`. The last arm can't occur: the reason is `MaybeNull`,
+/// and a constant is no pointer.
 fn maybe_null(refusal: &RefusedProgram<'_>, dst: Reg, src: Operand) -> u8 {
     match (kind_of(refusal.facts, dst.number()), src) {
         (Kind::MaybeValue { .. }, _) => dst.number(),
@@ -35,7 +36,7 @@ fn maybe_null(refusal: &RefusedProgram<'_>, dst: Reg, src: Operand) -> u8 {
     }
 }
 
-/// The rule for this operator on a pointer, as the rest of a sentence.
+/// What this operator allows of pointers, with 64 bits (`wide`) or 32, as the rest of a sentence.
 fn rule(wide: bool, op: AluOp) -> &'static str {
     match op {
         AluOp::Add if wide => {
@@ -49,7 +50,8 @@ fn rule(wide: bool, op: AluOp) -> &'static str {
     }
 }
 
-/// Writes what is known of the operands of an operator, against what it needs.
+/// Writes what is known of the operands of an operator of 64 bits (`wide`) or 32, against what it needs. The reason of the last arm is
+/// `PointerArithmetic`.
 pub(crate) fn write_need(
     text: &mut String,
     refusal: &RefusedProgram<'_>,

@@ -86,7 +86,7 @@ const LENGTH: Argument = Argument {
     role: Role::Length,
 };
 
-/// The arguments of a helper, in the order of its checks.
+/// The arguments of a helper, in the order in which the verifier checks them: a length before the bytes that it counts.
 fn arguments_of(helper: Helper) -> &'static [Argument] {
     match helper {
         Helper::LookUp | Helper::Delete => &[MAP, KEY],
@@ -95,7 +95,7 @@ fn arguments_of(helper: Helper) -> &'static [Argument] {
     }
 }
 
-/// Whether the helper with this number has an argument in a register.
+/// Whether the helper with this number has an argument in a register. False for an unknown helper, which is a fault of the shape.
 pub(crate) fn has_argument(id: i32, register: u8) -> bool {
     match known_helper(id) {
         Some(helper) => arguments_of(helper)
@@ -122,7 +122,8 @@ fn is_outside_stack(first: i64, last: i64) -> bool {
     first < -(STACK_SIZE as i64) || last > -1
 }
 
-/// Why the bytes that an argument points to may not be read or written, if they may not.
+/// Why the bytes that an argument points to may not be read, or in the role `Room` not be written; `None` if they may. Room in the stack
+/// only has to lie in it: unwritten bytes and spills may be overwritten. The last arm has what is no pointer to the stack or to a value.
 fn bytes_reason(named: &[Named], facts: &Facts, role: Role, kind: Kind) -> Option<Reason> {
     let count = count_of(named, facts, role);
     let (first, last) = touched(kind, 0, i64::from(count));
@@ -144,7 +145,7 @@ fn bytes_reason(named: &[Named], facts: &Facts, role: Role, kind: Kind) -> Optio
     }
 }
 
-/// Why an argument is rejected, if it is.
+/// Why an argument is rejected; `None` if it is allowed. The roles of the last arm are `Key`, `Value` and `Room`, which need pointers.
 fn argument_reason(named: &[Named], facts: &Facts, argument: Argument) -> Option<Reason> {
     let kind = kind_of(facts, argument.register);
     match (argument.role, kind) {
@@ -162,7 +163,7 @@ fn argument_reason(named: &[Named], facts: &Facts, argument: Argument) -> Option
     }
 }
 
-/// The first argument that is rejected.
+/// The first argument of the helper that is rejected, in the order of the checks; `None` if all are allowed.
 fn refused_argument(refusal: &RefusedProgram<'_>, helper: Helper) -> Option<Argument> {
     for argument in arguments_of(helper) {
         if argument_reason(refusal.named, refusal.facts, *argument).is_some() {
@@ -184,7 +185,8 @@ fn needed(role: Role) -> &'static str {
     }
 }
 
-/// Writes what is known of the length argument, register 4, against what is needed.
+/// Writes what is known of the length argument, register 4, against what is needed. It is a number: for another kind the reason is
+/// `HelperArgument`.
 fn write_length(text: &mut String, kind: Kind) -> Result<(), AllocError> {
     let Kind::Scalar(range) = kind else {
         return Ok(());
@@ -195,7 +197,7 @@ fn write_length(text: &mut String, kind: Kind) -> Result<(), AllocError> {
     write!(text, ", and a length is from 1 to {greatest}")
 }
 
-/// Writes what is known of an argument, against what is needed.
+/// Writes what is known of the rejected argument, against what is needed. The reason of the last arm is `HelperArgument`.
 fn write_argument(
     text: &mut String,
     refusal: &RefusedProgram<'_>,
@@ -226,7 +228,8 @@ fn write_argument(
     }
 }
 
-/// Writes what is known of the rejected argument of a helper, and what is required.
+/// Writes what is known of the rejected argument of the helper with this number, and what is required. `None` can't occur: the helper is
+/// known, since the shape has no fault, and all arguments are readable, so one of them breaks another rule.
 pub(crate) fn write_need(
     text: &mut String,
     refusal: &RefusedProgram<'_>,

@@ -10,7 +10,7 @@ use std::alloc::AllocError;
 use std::fmt::Write;
 use words::REGISTERS;
 
-/// The kind of a register, by its number; unreadable if there is no such register.
+/// The kind of a register, by its number. Registers are 0 to 10; the test is needed since the type has other numbers too.
 pub(crate) fn kind_of(facts: &Facts, register: u8) -> Kind {
     let number = usize::from(register);
     if number < REGISTERS {
@@ -35,7 +35,7 @@ pub(crate) fn write_maybe_null(text: &mut String, register: u8) -> Result<(), Al
     write!(text, "r{register} may be null: test it first")
 }
 
-/// The number of an operand's register, if it is one.
+/// The number of an operand's register; `None` for a constant.
 pub(crate) fn register_of(src: Operand) -> Option<u8> {
     match src {
         Operand::Reg(reg) => Some(reg.number()),
@@ -43,7 +43,7 @@ pub(crate) fn register_of(src: Operand) -> Option<u8> {
     }
 }
 
-/// The first register if it is unreadable, else the second: one of the two is.
+/// `first` if it is unreadable, else `second`: one of the two is, since the reason is `UnreadableRegister`.
 fn unreadable_of(facts: &Facts, first: Option<u8>, second: Option<u8>) -> Option<u8> {
     match first {
         Some(register) if kind_of(facts, register) == Kind::Unreadable => first,
@@ -51,7 +51,7 @@ fn unreadable_of(facts: &Facts, first: Option<u8>, second: Option<u8>) -> Option
     }
 }
 
-/// The first unreadable argument of a helper.
+/// The lowest register with an unreadable argument of the helper with this number; `None` if each argument is readable.
 fn unreadable_argument(facts: &Facts, id: i32) -> Option<u8> {
     for register in 1..=5 {
         if has_argument(id, register) && kind_of(facts, register) == Kind::Unreadable {
@@ -61,7 +61,8 @@ fn unreadable_argument(facts: &Facts, id: i32) -> Option<u8> {
     None
 }
 
-/// The unreadable register that the rejected instruction reads.
+/// The number of the unreadable register that the rejected instruction reads. A call reads its helper's arguments, which its profile does
+/// not list.
 fn unreadable_in(facts: &Facts, insn: &Insn) -> Option<u8> {
     let row = insn.profile();
     match row.reference {
@@ -74,7 +75,7 @@ fn unreadable_in(facts: &Facts, insn: &Insn) -> Option<u8> {
     }
 }
 
-/// Writes which unreadable register the instruction reads, and why nothing is known of it.
+/// Writes which unreadable register the instruction reads, and why it is so. `None` can't occur: the reason is `UnreadableRegister`.
 pub(crate) fn write_unreadable(
     text: &mut String,
     refusal: &RefusedProgram<'_>,

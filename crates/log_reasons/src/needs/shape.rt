@@ -7,14 +7,15 @@ use std::alloc::AllocError;
 use std::fmt::Write;
 use tagged_model::{MapKind, Named, shape_of};
 
-/// The target slot of a jump, which may lie outside the program.
+/// The target slot of a jump at `slot`, which may lie outside the program, also below 0. The sums never saturate: a slot is at most
+/// `MAX_SLOTS`, and a distance has 32 bits.
 fn far_target(insn: &Insn, slot: usize) -> i64 {
     let from = i64::try_from(slot).unwrap_or(i64::MAX);
     from.saturating_add(1)
         .saturating_add(i64::from(insn.profile().successors.offset()))
 }
 
-/// Writes the target of a jump at which no instruction begins.
+/// Writes the target of a jump: a slot that the program does not have, or the second half of a wide instruction.
 fn write_outside(
     text: &mut String,
     refusal: &RefusedProgram<'_>,
@@ -45,7 +46,7 @@ fn write_backward(
     write!(text, "it leads to slot {target}, and jumps go forward only")
 }
 
-/// The descriptor of the map that an instruction names; 0 if it names none.
+/// The descriptor by which an instruction names a map. 0 if it names none: then it has none of the reasons for which this is called.
 fn fd_of(insn: &Insn) -> u32 {
     insn.profile().reference.descriptor().unwrap_or(0)
 }
@@ -65,7 +66,8 @@ fn write_falls_off(text: &mut String, refusal: &RefusedProgram<'_>) -> Result<()
     )
 }
 
-/// Writes which number of a call is that of no helper, and the numbers of the helpers.
+/// Writes which number of a call is that of no helper, and the numbers of the helpers. The arm `_` can't occur: only a call has this
+/// reason.
 fn write_unknown_helper(text: &mut String, insn: &Insn) -> Result<(), AllocError> {
     match insn.profile().reference {
         Reference::Helper(id) => {
@@ -78,7 +80,8 @@ fn write_unknown_helper(text: &mut String, insn: &Insn) -> Result<(), AllocError
     }
 }
 
-/// Writes why the address of a direct value can't be loaded.
+/// Writes why the address of a direct value can't be loaded: the map is a hash map, has not exactly one element, or the offset is
+/// not in its value. That the descriptor names no map is another reason, so the first arm can't occur.
 fn write_no_value(text: &mut String, named: &[Named], insn: &Insn) -> Result<(), AllocError> {
     let fd = fd_of(insn);
     let reference = insn.profile().reference;

@@ -34,7 +34,7 @@ pub record AnswersCommand (command : Command) (head : Head) (reply : List ℕ)
   pub recorded : later ≡ births_after command answer births
   pub no_fault : reply ≢ reply_bytes head.tenant head.command (status_of BadAddress) []
 
--- only the part of this tenant changes in the memory
+-- only the part of this tenant changes in the memory, and not the number or the size of the parts
 pub record ChangesPart (tenant : ℕ) (old new : Memory) : Type 0 where
   pub parts : new.parts ≡ old.parts
   pub part : new.part ≡ old.part

@@ -8,7 +8,7 @@ use Rattle.tenant.specs.declared.reply.Reply.TheVariants as reply
 use Rattle.saving.specs.Births.{Birth, with_birth}
 
 -- the births after a command with this reply, or error: if the reply is the descriptor of a new
--- object, its birth is the latest; else they are unchanged
+-- object, its birth is the latest; else they are unchanged. `objects` are those after the command
 abbrev pub with_told : Result Reply Errno → List (Option OpenObject) → List Birth → List Birth
 with_told (Ok (reply.Opened fd)) objects births = with_birth fd (named objects fd) births
 with_told r objects births = births

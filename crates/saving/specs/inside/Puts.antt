@@ -6,20 +6,20 @@ use Rattle.tenant.specs.declared.object.OpenObject.{OpenObject}
 use Rattle.tenant.specs.Entry.{NumberedEntry}
 use Rattle.saving.specs.Restored.{put_of}
 
--- the command that closes a descriptor without an object; none for a descriptor with one
+-- the command that closes descriptor fd if it names no object (None); none if it names one
 abbrev pub closing : ℕ → Option OpenObject → List Command
 closing fd o = if is_none o then close fd ∷ [] else []
 
--- the commands that put the keys and the values of these entries at descriptor fd
+-- the commands that put the keys and the values of these entries, e.0, at descriptor fd
 abbrev pub puts : ℕ → List NumberedEntry → List Command
 puts fd es = map (λ (e : NumberedEntry). put_of fd e.0) es
 
--- the entries after the one of element p; none if there is none
+-- the entries after the entry of element p; none if no entry has this element, its second part
 abbrev pub rest_behind : {K : Type 0} → ℕ → List (K × ℕ) → List (K × ℕ)
 rest_behind p [] = []
 rest_behind p (e ∷ es) = if nat_eq p e.1 then es else rest_behind p es
 
--- all entries if no element is given, else those after the one of this element
+-- all entries if no element is given, else those after the entry of this element
 abbrev pub rest_after : {K : Type 0} → Option ℕ → List (K × ℕ) → List (K × ℕ)
 rest_after None es = es
 rest_after (Some p) es = rest_behind p es

@@ -9,8 +9,8 @@ pub record HeldMaps : Type 0 where
   pub live : LiveMaps
   pub part : List ℕ
 
--- after references are dropped, each map that is still live has the shape, keys and values of
--- before, and the flag of refused memory is unchanged
+-- after references are dropped, each map that is still live has the shape, keys and values that it
+-- had, the flag of refused memory is unchanged, and the part has its length
 pub record LeavesHeldMaps (old new : HeldMaps) : Type 0 where
   pub held : AreHeld new.live
   pub stays : (handle : ℕ) → IsSome (live_at new.live handle)

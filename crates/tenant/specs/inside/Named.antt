@@ -15,7 +15,7 @@ pub record IsMapOf (k : KeptTenant) (fd handle : ℕ) : Type 0 where
   pub live : IsSome (live_at k.live handle)
   pub within : handle < most_maps
 
--- the error of a command on a map whose descriptor names this; None if it is a map
+-- the error of a command that requires a map, by what its descriptor names; None if this is a map
 abbrev pub map_fault : Option OpenObject → Option Errno
 map_fault None = Some BadDescriptor
 map_fault (Some (object.Program l)) = Some Invalid

@@ -13,7 +13,7 @@ in_class Name b = is_name_byte b
 in_class Digit b = is_ascii_digit b
 in_class HexDigit b = is_hex_digit b
 
--- the class is that of the digits of this radix, 10 or 16
+-- the class is that of the digits of this radix, 10 or 16; `Blank` and `Name` have no radix
 abbrev pub IsDigits : ByteClass → ℕ → Type 0
 IsDigits Digit radix = radix ≡ 10
 IsDigits HexDigit radix = radix ≡ 16

@@ -34,21 +34,22 @@ use Rattle.text_line.specs.declared.token.Token.{Token as CodeToken}
 use Rattle.text_line.specs.inside.Shown.{shown_tokens}
 use Rattle.text_line.specs.Token.{Token, name, number, symbol}
 
--- f of the value, and nothing without one
+-- `f` of the value of `o`; `None` if `o` has none
 infixl 10 ◌>>=◌
 abbrev pub ◌>>=◌ : {A B : Type 0} → Option A → (A → Option B) → Option B
 o >>= f = option_and_then f o
 
--- x without a value, and f of the value with one
+-- `x` if the option has no value, else `f` of its value
 abbrev pub match_option : {A B : Type 0} → Option A → B → (A → B) → B
 match_option None x f = x
 match_option (Some y) x f = f y
 
+-- whether two Booleans are equal
 abbrev pub bool_eq : Bool → Bool → Bool
 bool_eq true b = b
 bool_eq false b = not b
 
--- the tokens that a result of the code represents
+-- the tokens that a result of the code represents; `None` if it has none
 abbrev pub seen : Option (Bor (List CodeToken)) → Option (List Token)
 seen o = option_map (λ rest. shown_tokens rest.now) o
 
@@ -60,7 +61,7 @@ seen_pair o = option_map (λ p. (p.0, shown_tokens p.1.now)) o
 abbrev pub seen_label : Option (Bor (List ℕ) × Bor (List CodeToken)) → Option (List ℕ × List Token)
 seen_label o = option_map (λ p. (p.0.now, shown_tokens p.1.now)) o
 
--- what the code has read, and the name of the label that it names
+-- what the code has read, and the name of the label that it names, empty if it names none
 abbrev pub seen_destination : {A : Type 0} → Option (A × Bor (List ℕ)) → Option (A × List ℕ)
 seen_destination o = option_map (λ p. (p.0, p.1.now)) o
 
@@ -136,19 +137,19 @@ leading_signed_number ts =
     (after_symbol (codes "-") ts >>= λ rest. number_from true (leading_number rest))
     (λ rest. number_from false (leading_number rest))
 
--- a register, r if wide, else w, or a constant
+-- a register, r (64 bits) if wide, else w (the low 32), or a constant
 unfoldable pub leading_operand : Bool → List Token → Option (SourceOperand × List Token)
 leading_operand wide ts =
     match_option (leading_register wide ts)
     (option_map (λ n. (source.Number n.0, n.1)) (leading_constant ts))
     (λ r. Some (source.Reg r.0, r.1))
 
--- no token is left
+-- whether no token is left
 abbrev pub is_ended : List Token → Bool
 is_ended [] = true
 is_ended (t ∷ ts) = false
 
--- what was read, if no token is left
+-- `x`, which was read, if no token is left; else `None`
 abbrev pub at_end : {A : Type 0} → A → List Token → Option A
 at_end x ts = if is_ended ts then Some x else None
 
@@ -182,7 +183,8 @@ leading_map_value ts = do
   off ← leading_number ts
   Some (value.MapValue n.0 off.0, off.1)
 
--- the value of a wide load, without its `ll`
+-- the value of a wide load: after `map_fd` a map, after `map_value` an address in a map's value,
+-- else a number. The `ll` that ends the line is not read here.
 unfoldable pub leading_wide_value : List Token → Option (WideValue × List Token)
 leading_wide_value ts =
     match_option (after_word (codes "map_fd") ts)
@@ -190,8 +192,8 @@ leading_wide_value ts =
     (leading_number ts >>= λ n. Some (value.Number n.0, n.1)) (λ rest. leading_map_value rest))
     (λ rest. leading_constant rest >>= λ n. Some (value.MapFd n.0, n.1))
 
--- the size of an atomic operation whose memory operand has this size: neither signed nor below 4
--- bytes (RFC 9669, section 5.3)
+-- the size of an atomic operation whose memory operand has this size; `None` if it is signed
+-- (`true`) or below 4 bytes (RFC 9669, section 5.3)
 abbrev pub atomic_size_of : Bool → AccessSize → Option AtomicSize
 atomic_size_of false size.Word = Some atomic_size.Word
 atomic_size_of false size.Double = Some atomic_size.Double
@@ -204,7 +206,8 @@ unfoldable pub parsed_binary : Bool → AluOp → List Token → Option Operatio
 parsed_binary wide op ts =
     leading_operand wide ts >>= λ src. at_end (operation.Binary op src.0) src.1
 
--- a move with sign extension, from the tokens after `(`; to a w register not from 32 bits
+-- a move with sign extension, from the tokens after `(`, as s16)r2. A w register has none from 32
+-- bits, which are all of its bits.
 unfoldable pub parsed_sign_extension : Bool → List Token → Option Operation
 parsed_sign_extension wide ts = do
   n ← leading_name ts
@@ -213,7 +216,8 @@ parsed_sign_extension wide ts = do
   src ← leading_register wide ts
   if wide || is_short from then at_end (operation.SignExtend from src.0) src.1 else None
 
--- an operation that names its destination on both sides of `=`: the destination again
+-- the operation `o`, which names its destination `dst` on both sides of `=`: the tokens are `dst`
+-- again
 unfoldable pub parsed_in_place : Bool → ℕ → Operation → List Token → Option Operation
 parsed_in_place wide dst o ts =
     leading_register wide ts >>= λ r. if r.0 == dst then at_end o r.1 else None
@@ -225,7 +229,8 @@ parsed_end dst ts = do
   o ← order_by_name n.0
   parsed_in_place true dst (operation.End o.0 o.1) n.1
 
--- an operation of one operand, from the tokens after `=`
+-- an operation of one operand, from the tokens after `=`: a move with sign extension begins with
+-- `(`, a negation with `-`; any other is a byte-order conversion
 unfoldable pub parsed_unary : Bool → ℕ → List Token → Option Operation
 parsed_unary wide dst ts =
     match_option (after_symbol (codes "(") ts)
@@ -238,7 +243,8 @@ abbrev pub is_move : AluOp → Bool
 is_move Mov = true
 is_move _ = false
 
--- an operation on dst, from the tokens after the symbol of its operator
+-- an operation on dst, from the tokens after the symbol of its operator; an operation of one
+-- operand is written with `=`, the symbol of a move
 unfoldable pub parsed_operation : Bool → AluOp → ℕ → List Token → Option Operation
 parsed_operation wide op dst ts =
     match_option (parsed_binary wide op ts) (if is_move op then parsed_unary wide dst ts else None)
@@ -252,7 +258,7 @@ parsed_load dst ts = do
   (((signed, size), at), ts) ← leading_address ts
   at_end (form.Access (access.Load size signed dst) at) ts
 
--- a store, whose size is not signed
+-- a store: a memory operand whose size is not signed, `=`, and a constant or an r register
 unfoldable pub parsed_store : List Token → Option Form
 parsed_store ts = do
   (((signed, size), at), ts) ← leading_address ts
@@ -281,7 +287,8 @@ parsed_wide_load dst ts = do
 abbrev pub parsed_loaded : ℕ → List Token → Option Form
 parsed_loaded dst ts = match_option (parsed_wide_load dst ts) (parsed_load dst ts) (λ f. Some f)
 
--- a line that begins with its destination: an operation on it, or a load into an r register
+-- a line that begins with its destination register: an operation on it, or, with `=` and an r
+-- register, a load into it
 unfoldable pub parsed_assigned : List Token → Option Form
 parsed_assigned ts = do
   n ← leading_name ts
@@ -292,11 +299,12 @@ parsed_assigned ts = do
       (if r.0 && is_move op then parsed_loaded r.1 s.1 else None)
       (λ o. Some (form.Operation r.0 r.1 o))
 
--- a jump, from the tokens after its first word, and the name of its label
+-- a jump, a long one if `true`, from the tokens after its first word, and the name of its label,
+-- empty if it names none
 abbrev pub parsed_jump : Bool → List Token → Option (Form × List ℕ)
 parsed_jump long ts = option_map (λ to. (form.Jump long to.0, to.1)) (parsed_destination ts)
 
--- a conditional jump, from the tokens after `if`, and the name of its label
+-- a conditional jump, from the tokens after `if`, and the name of its label, empty if it names none
 unfoldable pub parsed_branch : List Token → Option (Form × List ℕ)
 parsed_branch ts = do
   n ← leading_name ts
@@ -312,11 +320,12 @@ parsed_branch ts = do
 abbrev pub parsed_call : List Token → Option Form
 parsed_call ts = leading_constant ts >>= λ n. at_end (form.Call n.0) n.1
 
--- a form that names no label
+-- a form that names no label, with the empty name
 abbrev pub without_label : Option Form → Option (Form × List ℕ)
 without_label o = option_map (λ f. (f, [])) o
 
--- an instruction, by its first word, and the name of its label, empty if it names none
+-- an instruction, and the name of its label, empty if it names none. Without one of the six words
+-- (`if` to `lock`) a line begins with its destination register, or is a store.
 unfoldable pub parsed_form : List Token → Option (Form × List ℕ)
 parsed_form ts =
     match_option (after_word (codes "if") ts)
@@ -333,7 +342,7 @@ parsed_form ts =
     (λ rest. parsed_jump false rest))
     (λ rest. parsed_branch rest)
 
--- the name of the label that the line defines
+-- the name of the label that the line defines: the name before `:`, with which the line ends
 unfoldable pub parsed_label : List Token → Option (List ℕ)
 parsed_label ts = do
   n ← leading_name ts

@@ -6,7 +6,8 @@ use Rattle.std.specs.Char.{is_ascii_digit}
 use Rattle.std.specs.Str.Parse.{digits_value}
 use Rattle.text_line.specs.Token.{Token, name, number, symbol, symbols, is_name_start, is_name_byte, is_hex_digit, value_of}
 
--- the first of the symbols with which the text begins; longer symbols come first in the list
+-- the first of the symbols with which the text begins, the longest, since longer symbols come first
+-- in the list; `None` if it begins with none
 unfoldable pub symbol_at : List ℕ → Option (List ℕ)
 symbol_at text = find (λ s. starts_with nat_eq text s) symbols
 
@@ -26,7 +27,8 @@ name_at text =
     then Some (name (run is_name_byte text), drop (prefix_len is_name_byte text) text)
     else None
 
--- the number at the front, hexadecimal or decimal, and the bytes after it
+-- the number at the front, hexadecimal or decimal, and the bytes after it; `None` if no digit is at
+-- the front
 unfoldable pub number_at : List ℕ → Option (Token × List ℕ)
 number_at text =
     if is_hexadecimal text then
@@ -48,8 +50,8 @@ abbrev pub or_else : {A : Type 0} → Option A → Option A → Option A
 or_else (Some x) y = Some x
 or_else None y = y
 
--- the token at the front, and the bytes after it: a symbol first, since one that begins with a
--- letter is longer than the name that it begins
+-- the token at the front, and the bytes after it; `None` if no token begins there. Symbols are
+-- tried first: a text that begins with `s>=` also begins with the name `s`, which is shorter.
 unfoldable pub token_at : List ℕ → Option (Token × List ℕ)
 token_at text =
     or_else (option_map (λ s. (symbol s, drop (length s) text)) (symbol_at text))

@@ -8,7 +8,7 @@ use Rattle.host.specs.declared.program.arguments.Task.{Task}
 use Rattle.host.specs.declared.program.arguments.Task.TheVariants as task
 use Rattle.host.specs.program.Arguments.{Asked, Serves, Rewrites, Verifies}
 
--- the texts of map arguments, if any are given
+-- the texts of map arguments; an empty list if none is given
 abbrev pub texts_given : Option (Bor (List (Bor Text))) → List Text
 texts_given None = []
 texts_given (Some arguments) = texts arguments.now
@@ -19,7 +19,8 @@ asked_by (task.Serve tenants) = Serves tenants
 asked_by (task.Rewrite made) = Rewrites made
 asked_by (task.Verify maps) = Verifies (texts_given maps)
 
--- the number of tenants to serve is from 1 to the most that there may be
+-- the number of tenants to serve is from 1 to the most that there may be; the other tasks have no
+-- tenants
 abbrev pub HasTenants : Task → Type 0
 HasTenants (task.Serve tenants) = (1 ≤ tenants) × (tenants ≤ most_tenants)
 HasTenants (task.Rewrite made) = Unit {0}

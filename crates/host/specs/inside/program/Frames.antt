@@ -7,13 +7,13 @@ use Rattle.host_core.specs.State.{TenantState}
 use Rattle.host.specs.declared.program.failure.Failure.{Failure}
 use Rattle.host.specs.program.Statuses.{stream_failure}
 
--- the result of the program for the result of a stream
+-- the result of `serve_frames` for the result of a stream, whose number of frames it drops
 abbrev pub stream_end : Result ℕ ServeFault → Result (Unit {0}) Failure
 stream_end (Ok count) = Ok tt
 stream_end (Err fault) = Err (stream_failure fault)
 
 -- A new host serves the stream from `before` on, at most `most_frames` frames; `after` is the state
--- after it, as a function of the states of the tenants.
+-- after it, as a function of the states of the tenants. `result` is what `serve_frames` returns.
 abbrev pub ServesNewHost : Result (Unit {0}) Failure → StreamState
     → (List TenantState → StreamState) → Type 0
 ServesNewHost result before after =

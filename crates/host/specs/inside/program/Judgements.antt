@@ -16,12 +16,13 @@ abbrev pub IsJudgementLine : List Named → Option Refusal → List ℕ → List
 IsJudgementLine maps refusal input output =
     IsJudgement maps input refusal × (output ≡ judgement_text refusal ++ 10 ∷ [])
 
--- the output is the line of the verdict on the input
+-- the output is the line of a verdict on the input, accepted or rejected, with its line feed
 abbrev pub IsJudgedLine : List Named → List ℕ → List ℕ → Type 0
 IsJudgedLine maps input output =
     (refusal : Option Refusal) × IsJudgementLine maps refusal input output
 
--- the exit status of a run that wrote a verdict: 1 if the slots are rejected
+-- the exit status of a run that wrote a verdict: 0 for an accepted program, which has no refusal, 1
+-- if the slots are rejected
 abbrev pub judgement_status : Option Refusal → ℕ
 judgement_status None = 0
 judgement_status (Some refusal) = 1

@@ -29,7 +29,7 @@ pub record IsDisassembly (input output : List ℕ) : Type 0 where
   pub read : IsProgramText input insns
   pub text : output ≡ printed insns
 
--- the output is that of the task for the input
+-- the output is what the task makes of the input: hex lines or a text
 abbrev pub IsRewritten : TextTask → List ℕ → List ℕ → Type 0
 IsRewritten Assemble input output = IsAssembly input output
 IsRewritten Disassemble input output = IsDisassembly input output
@@ -38,25 +38,28 @@ IsRewritten Disassemble input output = IsDisassembly input output
 abbrev pub IsNoText : List ℕ → Failure → Type 0
 IsNoText input failure = (¬ IsUtf8 input) × (failure ≡ Line 0 1)
 
--- a line of a program's text has a fault, or the text has no instruction
+-- the input is UTF-8, but no program's text: a line has a fault, or there is no instruction; the
+-- failure is that of the fault
 pub record IsTextRefused (input : List ℕ) (failure : Failure) : Type 0 where
   pub fault : TextFault
   pub utf8 : IsUtf8 input
   pub own : IsOwnFault input fault
   pub failure_is : failure ≡ text_failure fault
 
--- a hex line has a fault, or no line has a slot
+-- the input is UTF-8, but no hex lines: a line has a fault, or no line has a slot; the failure is
+-- that of the fault
 pub record IsHexRefused (input : List ℕ) (failure : Failure) : Type 0 where
   pub fault : TextFault
   pub utf8 : IsUtf8 input
   pub own : IsHexFault input fault
   pub failure_is : failure ≡ text_failure fault
 
--- the input is no text, a line has a fault, or no line has a slot
+-- why the input has no slots as hex lines: it is not UTF-8, a line has a fault, or no line has a
+-- slot
 abbrev pub IsUnreadable : List ℕ → Failure → Type 0
 IsUnreadable input failure = IsNoText input failure ⊎ IsHexRefused input failure
 
--- why the input has no program's slots
+-- why the input has no program as hex lines: it has no slots, or these are no program
 abbrev pub IsNoProgramText : List ℕ → Failure → Type 0
 IsNoProgramText input failure = IsUnreadable input failure ⊎ IsProgramRefused input failure
 
@@ -75,7 +78,8 @@ pub record Streams : Type 0 where
   pub read_failures : ℕ
   pub write_failures : ℕ
 
--- the streams of this reader and this writer
+-- the streams of this reader and this writer, given what contracts see of each: the bytes, if they
+-- are known, and the number of failed calls
 abbrev pub streams : {R W : Type 0}
     → (R → Option (List ℕ))
     → (R → ℕ)
@@ -91,14 +95,15 @@ streams remaining read_failures contents write_failures reader writer = record {
   write_failures = write_failures writer;
 }
 
--- the input was read to its end, and is not too long
+-- `before` and `after` are what the reader has left before and after the call, if it is known: the
+-- input was read to its end, and is not too long
 pub record ReadsWholeInput (before after : Option (List ℕ)) (input : List ℕ) : Type 0 where
   pub short : length input ≤ LONGEST_INPUT
   pub read : Consumes before after input
   pub end : IsAtEnd after
 
 -- why there is no input: it is too long, and then one byte more than allowed was read; a call
--- failed; or memory ran out before anything was read
+-- failed; or memory ran out before anything was read. No other failure is one of reading
 abbrev pub HasNoInput : Failure → Option (List ℕ) → Option (List ℕ) → ℕ → ℕ → Type 0
 HasNoInput TooLong before after failures_before failures_after =
     ((bytes : List ℕ) × (length bytes ≡ LONGEST_INPUT + 1) × Consumes before after bytes)
@@ -117,7 +122,7 @@ HasNoInput (Slot slot kind) before after failures_before failures_after = ⊥
 HasNoInput Write before after failures_before failures_after = ⊥
 HasNoInput Seed before after failures_before failures_after = ⊥
 
--- nothing was written
+-- nothing was written, and no call of the writer failed
 abbrev pub WritesNothing : Streams → Streams → Type 0
 WritesNothing old new = (new.output ≡ old.output) × (new.write_failures ≡ old.write_failures)
 
@@ -142,7 +147,8 @@ pub record RefusesInput (refused : List ℕ → Failure → Type 0) (old new : S
   pub silent : WritesNothing old new
   pub sound : new.read_failures ≡ old.read_failures
 
--- the input was read, a part of its output was written, and a call failed
+-- the input was read, the first `count` bytes of its output were written, which may be all of them,
+-- and a call of the writer failed
 pub record CutsOutput (made : List ℕ → List ℕ → Type 0) (old new : Streams)
     (failure : Failure) : Type 0 where
   pub input : List ℕ
@@ -156,8 +162,8 @@ pub record CutsOutput (made : List ℕ → List ℕ → Type 0) (old new : Strea
   pub failed : old.write_failures < new.write_failures
   pub sound : new.read_failures ≡ old.read_failures
 
--- how a run ends without its whole output: there is no input, or it is rejected or memory ran out,
--- or a write failed
+-- how a run ends with this failure and without its whole output: the input could not be read and
+-- nothing was written; it is rejected or memory ran out; or a call of the writer failed
 abbrev pub StopsRewriting : (List ℕ → List ℕ → Type 0) → (List ℕ → Failure → Type 0) → Streams
     → Streams → Failure → Type 0
 StopsRewriting made refused old new failure =

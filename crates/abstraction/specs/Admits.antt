@@ -16,8 +16,9 @@ use Rattle.tagged_model.specs.declared.value.Tagged.TheVariants.{Scalar, Map, Po
 use Rattle.tagged_model.specs.Cells.{Cell, holds, byte_at}
 use Rattle.tagged_model.specs.State.{RunState, RunMap, set_at}
 
--- what facts do not determine: for each site the result of the look-up there, which is the same in
--- all its copies; and for each map the number of objects that it has had, or fewer
+-- what facts do not determine of a state: `gave`, for each site the result of the look-up there,
+-- one value for all its copies; and `objects`, for each map, by its descriptor, a number of objects
+-- that it has had at least
 pub record Witness : Type 0 where
   pub gave : ℕ → Tagged
   pub objects : ℕ → ℕ
@@ -28,7 +29,8 @@ pub record Witness : Type 0 where
 abbrev pub IsScalarOf : Range → Tagged → Type 0
 IsScalarOf r v = (n : ℕ) × (v ≡ Scalar n) × IsMember n r × (n < 2 ^ 64)
 
--- a pointer into a value of the map, an object that it has had, at an offset in the known range
+-- a pointer to an object that the map has had, perhaps deleted since, at an offset in the range of
+-- p
 abbrev pub IsValueOf : Witness → ValuePointer → Tagged → Type 0
 IsValueOf witness p v =
     (number : ℕ)
@@ -38,13 +40,14 @@ IsValueOf witness p v =
     × (x ≤ℤ p.hi)
     × (number < witness.objects p.map)
 
--- null, or a pointer to the start of a value of map m
+-- null, or a pointer to the start of an object that map m has had
 abbrev pub IsLookup : Witness → ℕ → Tagged → Type 0
 IsLookup witness m v =
     (v ≡ Scalar 0)
     ⊎ ((number : ℕ) × (v ≡ Pointer (object.Value m number) (pos 0)) × (number < witness.objects m))
 
--- the value is of this kind; a look-up has the result that the witness gives for its site
+-- the value is of this kind: any value if nothing is known; the result of a look-up is the one that
+-- the witness gives for its site
 abbrev pub IsOfKind : Witness → Kind → Tagged → Type 0
 IsOfKind witness kind.Unreadable v = Unit {0}
 IsOfKind witness (kind.Scalar r) v = IsScalarOf r v
@@ -63,7 +66,7 @@ HasKind witness k o = (v : Tagged) × (o ≡ Some v) × IsOfKind witness k v
 
 -- ---- stack slots
 
--- a value that a cell keeps whole: no number
+-- a value that a cell keeps whole, a map or a pointer; a number is stored as bytes
 abbrev pub IsKeptWhole : Tagged → Type 0
 IsKeptWhole (Scalar n) = ⊥
 IsKeptWhole (Map m) = Unit {0}
@@ -73,14 +76,14 @@ IsKeptWhole (Pointer o x) = Unit {0}
 abbrev pub HoldsWhole : Witness → Kind → Cell → Type 0
 HoldsWhole witness k c = (v : Tagged) × (c ≡ holds v) × IsOfKind witness k v × IsKeptWhole v
 
--- the kind is that of a look-up which gave null, and the cell has eight zero bytes, which represent
--- it
+-- the kind is that of a look-up which gave null, and the cell has eight zero bytes: null is a
+-- number, which a store puts into a cell as bytes
 abbrev pub HoldsNull : Witness → Kind → Cell → Type 0
 HoldsNull witness (kind.MaybeValue m site) c =
     (witness.gave site ≡ Scalar 0) × ((j : ℕ) → j < 8 → byte_at c j ≡ Some 0)
 HoldsNull witness _ c = ⊥
 
--- the bytes of the mask are present
+-- the bytes of the mask, whose bit j is for byte j, are present in the cell
 abbrev pub HasBytes : ℕ → Cell → Type 0
 HasBytes mask c = (j : ℕ) → j < 8 → bit_at mask j ≡ 1 → (b : ℕ) × (byte_at c j ≡ Some b)
 
@@ -96,13 +99,14 @@ abbrev pub objects_of : Option RunMap → ℕ
 objects_of None = 0
 objects_of (Some t) = t.count
 
--- the facts admit the state, with the results of look-ups that the witness gives
+-- the facts admit the state, with the results of look-ups that the witness gives, and each map has
+-- had at least as many objects as the witness gives
 pub record AdmitsBy (witness : Witness) (f : Facts) (s : RunState) : Type 0 where
   pub registers : (r : ℕ) → HasKind witness (kind_at f r) (s.registers r)
   pub slots : (i : ℕ) → HasSlot witness (slot_at f i) (s.cells i)
   pub objects : (m : ℕ) → witness.objects m ≤ objects_of (s.maps m)
 
--- the facts admit the state, with one value for each look-up
+-- the facts admit the state by some witness: the result of each look-up is one value in all copies
 abbrev pub Admits : Facts → RunState → Type 0
 Admits f s = (witness : Witness) × AdmitsBy witness f s
 
@@ -123,7 +127,8 @@ pub record AreBelow (n : ℕ) (f : Facts) : Type 0 where
   pub registers : (r : ℕ) → IsKindBelow n (kind_at f r)
   pub slots : (i : ℕ) → IsSlotBelow n (slot_at f i)
 
--- the witness after a look-up at a site that gave v
+-- the witness after a look-up in state s at a site that gave v. Its numbers of objects are those of
+-- s, since v may point to an object that is newer than those that the witness counted
 abbrev pub witness_at : Witness → RunState → ℕ → Tagged → Witness
 witness_at witness s site v = record {
   gave = set_at witness.gave site v;

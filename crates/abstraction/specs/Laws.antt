@@ -20,7 +20,7 @@ use Rattle.tagged_model.specs.Helpers.{returns}
 use Rattle.tagged_model.specs.StateInvariant.{IsInRange, AreBytes, IsMapOf, HasMaps}
 use Rattle.abstraction.specs.Admits.{Witness, IsOfKind, AdmitsBy, AreBelow, witness_at}
 
--- the join admits every state that either side admits
+-- the join of facts a and b admits every state that a or b admits, by the same witness
 abbrev pub JoinAdmits : Type 0
 JoinAdmits =
     (witness : Witness) (a b : Facts) (s : RunState)
@@ -37,7 +37,8 @@ StackReadAdmits =
     → stack_read f offset size signed ≡ Ok k
     → (v : Tagged) × (stack_load s offset size signed ≡ Some v) × IsOfKind witness k v
 
--- if the facts allow a store into the stack, the facts after it admit the state after it
+-- if the facts f allow a store into the stack of a value v of kind k, the store is no fault, and
+-- the facts g after it admit the state t after it
 abbrev pub StackWriteAdmits : Type 0
 StackWriteAdmits =
     (witness : Witness) (f g : Facts) (s : RunState) (offset : ℤ) (size : AccessSize) (k : Kind)
@@ -48,7 +49,7 @@ StackWriteAdmits =
     → stack_write f offset size k ≡ Ok g
     → (t : RunState) × (stack_store s offset size v ≡ Some t) × AdmitsBy witness g t × IsInRange t
 
--- if the facts allow a helper to read n bytes of the stack, these are present
+-- if the facts allow a helper to read n bytes at offset x of the stack, these are present
 abbrev pub StackInputAdmits : Type 0
 StackInputAdmits =
     (witness : Witness) (f : Facts) (s : RunState) (x : ℤ) (n : ℕ)
@@ -57,8 +58,8 @@ StackInputAdmits =
     → stack_input f x n ≡ Ok tt
     → (bs : List ℕ) × (stack_bytes s x n ≡ Some bs) × (length bs ≡ n) × AreBytes bs
 
--- if the facts allow a helper to write lo to hi bytes of the stack, the facts after it admit the
--- state after a write of any such length
+-- if the facts f allow a helper to write lo to hi bytes at offset x of the stack, the facts g after
+-- it admit the state t after a write of any bytes bs, of a length from lo to hi
 abbrev pub StackOutputAdmits : Type 0
 StackOutputAdmits =
     (witness : Witness) (f g : Facts) (s : RunState) (x : ℤ) (lo hi : ℕ) (bs : List ℕ)
@@ -70,14 +71,14 @@ StackOutputAdmits =
     → stack_filled f x lo hi ≡ Ok g
     → (t : RunState) × (stack_written s x bs ≡ Some t) × AdmitsBy witness g t × IsInRange t
 
--- map m has this shape and an object with this number
+-- the state has a map of descriptor m and of this shape, which has had an object with this number
 pub record IsObject (s : RunState) (m number : ℕ) (shape : MapShape) : Type 0 where
   pub map : RunMap
   pub there : s.maps m ≡ Some map
   pub is : IsMapOf shape map
   pub owned : number < map.count
 
--- the bytes at offsets within an object are present
+-- n bytes at offset y within an object of the size of a value are present
 abbrev pub ObjectReadAdmits : Type 0
 ObjectReadAdmits =
     (s : RunState) (m number : ℕ) (shape : MapShape) (y : ℤ) (n : ℕ)
@@ -87,7 +88,8 @@ ObjectReadAdmits =
     → (y +ℤ pos n) ≤ℤ pos shape.value_size
     → (bs : List ℕ) × (object_bytes s m number y n ≡ Some bs) × (length bs ≡ n) × AreBytes bs
 
--- a write of bytes within an object changes no fact
+-- a write of bytes within an object is no fault, and the facts that admit the state before it admit
+-- the state u after it: they know nothing of the bytes of values
 abbrev pub ObjectWriteAdmits : Type 0
 ObjectWriteAdmits =
     (witness : Witness) (f : Facts) (shapes : ℕ → Option MapShape) (s : RunState) (m number : ℕ)
@@ -106,14 +108,14 @@ ObjectWriteAdmits =
     × (u.at ≡ s.at)
 
 -- the facts describe the state by the witness: they admit it, its numbers are in range, and it has
--- a map of each shape
+-- a map for each descriptor with a shape in `shapes`, of that shape
 pub record Describes (witness : Witness) (f : Facts) (shapes : ℕ → Option MapShape)
     (s : RunState) : Type 0 where
   pub admits : AdmitsBy witness f s
   pub proper : IsInRange s
   pub maps : HasMaps shapes s
 
--- a load within an object gives a value of the predicted kind
+-- a load within an object gives a value of the kind `loaded`, a number
 abbrev pub ValueLoadAdmits : Type 0
 ValueLoadAdmits =
     (witness : Witness) (s : RunState) (m number : ℕ) (shape : MapShape) (y : ℤ) (size : AccessSize)
@@ -126,7 +128,8 @@ ValueLoadAdmits =
     × (number_from size signed (object_bytes s m number y (bytes_of size)) ≡ Some v)
     × IsOfKind witness (loaded size signed) v
 
--- a store of a number within an object changes no fact
+-- a store of a number within an object is no fault, and the facts that describe the state before it
+-- describe the state u after it
 abbrev pub ValueStoreAdmits : Type 0
 ValueStoreAdmits =
     (witness : Witness) (f : Facts) (shapes : ℕ → Option MapShape) (s : RunState) (m number : ℕ)
@@ -140,14 +143,14 @@ ValueStoreAdmits =
     × Describes witness f shapes u
     × (u.at ≡ s.at)
 
--- the map u keeps the shape of t, and all of its objects
+-- the map u keeps the shape of t, and has had all objects of t; each of its bytes is below 256
 pub record KeepsShape (shape : MapShape) (t u : RunMap) : Type 0 where
   pub is : IsMapOf shape u
   pub more : t.count ≤ u.count
   pub bytes : (number : ℕ) → AreBytes (u.values number)
 
--- the calls of a map keep its shape and its objects, and a look-up gives one of its objects; so
--- does a load of the direct value, if it has one
+-- an update and a delete keep the shape of a map and its objects; a look-up, and a load of a direct
+-- value, give one of the objects that it has had
 pub record MapCallsKeep : Type 0 where
   pub direct : (shape : MapShape) (t : RunMap) (offset : ℕ)
       → IsMapOf shape t
@@ -179,7 +182,8 @@ MapChangeAdmits =
     → KeepsShape shape t u
     → Describes witness f shapes (with_map s m u)
 
--- if a call returns a value of a kind, the facts after it describe the state after it
+-- if facts f describe a state, and a call there returns a value v of kind k, the facts after the
+-- call describe the state after it
 abbrev pub CallAdmits : Type 0
 CallAdmits =
     (witness : Witness) (f : Facts) (shapes : ℕ → Option MapShape) (s : RunState) (k : Kind)
@@ -188,7 +192,8 @@ CallAdmits =
     → IsOfKind witness k v
     → Describes witness (called_facts f k) shapes (returns s v)
 
--- for a site that no fact mentions, the witness may record what the look-up there gave
+-- if all sites in the facts are below `site`, the facts describe the state also by the witness that
+-- records a look-up at `site` that gave v
 abbrev pub SiteAdmits : Type 0
 SiteAdmits =
     (witness : Witness) (f : Facts) (shapes : ℕ → Option MapShape) (s : RunState) (site : ℕ)
@@ -197,7 +202,8 @@ SiteAdmits =
     → Describes witness f shapes s
     → Describes (witness_at witness s site v) f shapes s
 
--- once a test has decided whether a look-up gave null, the settled facts admit the state
+-- if facts admit a state, the settled facts admit it too: those for null (true) if the look-up at
+-- the site gave null, and those for a value (false) if it did not
 pub record NullTestAdmits : Type 0 where
   pub null : (witness : Witness) (f : Facts) (s : RunState) (site : ℕ)
       → AdmitsBy witness f s

@@ -4,7 +4,7 @@ ghost use Rattle.abstraction.specs.Laws.{JoinAdmits, StackReadAdmits, StackWrite
 ghost use Rattle.abstraction.specs.Laws.{StackOutputAdmits, ObjectReadAdmits, ObjectWriteAdmits, ValueLoadAdmits};
 ghost use Rattle.abstraction.specs.Laws.{ValueStoreAdmits, MapCallsKeep, MapChangeAdmits, CallAdmits, SiteAdmits, NullTestAdmits};
 
-/// The join of two facts admits every state that one of them admits.
+/// A law, for edges that merge: the join of two facts admits every state that one of them admits.
 pub fn join_admits()
     ensures { JoinAdmits }
 {
@@ -12,67 +12,68 @@ pub fn join_admits()
     reg_kinds::laws::joins_commute();
 }
 
-/// If the facts allow a load from the stack, it gives a value of the kind that they predict.
+/// A law: if the facts that admit a state allow a load from the stack, it is no fault, and gives a value of the kind that they predict.
 pub fn stack_read_admits()
     ensures { StackReadAdmits }
 {}
 
-/// If the facts allow a store into the stack, the facts after it admit the state after it.
+/// A law: if the facts that admit a state allow a store into the stack, it is no fault, and the facts after it admit the state after it.
 pub fn stack_write_admits()
     ensures { StackWriteAdmits }
 {}
 
-/// If the facts allow a helper to read bytes across slots of the stack, these bytes are present.
+/// A law: if the facts that admit a state allow a helper to read bytes across slots of the stack, these bytes are present.
 pub fn stack_input_admits()
     ensures { StackInputAdmits }
 {}
 
-/// If the facts allow a helper to write bytes across slots of the stack, the facts after it admit the state after it.
+/// A law: if the facts that admit a state allow a helper to write bytes across slots of the stack, that is no fault, and the facts after
+/// the write admit the state after it.
 pub fn stack_output_admits()
     ensures { StackOutputAdmits }
 {}
 
-/// Bytes at offsets within a map's value are present.
+/// A law, for loads and helpers: bytes at offsets within a map's value are present.
 pub fn object_read_admits()
     ensures { ObjectReadAdmits }
 {}
 
-/// A write of bytes within a map's value changes no fact.
+/// A law, for helpers: a write of bytes within a map's value is no fault, and the facts that admit the state before it admit that after it.
 pub fn object_write_admits()
     ensures { ObjectWriteAdmits }
 {}
 
-/// A load within a map's value gives a value of the kind that the facts predict.
+/// A law: a load within a map's value is no fault, and gives a value of the kind that the facts predict, a number.
 pub fn value_load_admits()
     ensures { ValueLoadAdmits }
 {}
 
-/// A store of a number within a map's value changes no fact.
+/// A law: a store of a number within a map's value is no fault, and the facts that admit the state before it admit the state after it.
 pub fn value_store_admits()
     ensures { ValueStoreAdmits }
 {}
 
-/// The calls of a map keep its shape and its objects; a look-up, or a load of the direct value, gives one of its objects.
+/// A law: an update and a delete keep a map's shape and its objects; a look-up, or a load of the direct value, gives one of its objects.
 pub fn map_calls_keep()
     ensures { MapCallsKeep }
 {}
 
-/// A change of a map that keeps its shape and its objects changes no fact.
+/// A law: if a map changes to one that keeps its shape and its objects, the facts that admit the state before admit the state after.
 pub fn map_change_admits()
     ensures { MapChangeAdmits }
 {}
 
-/// The facts after a call admit the state after it.
+/// A law: the facts after a call, with the kind of its result, admit the state after it.
 pub fn call_admits()
     ensures { CallAdmits }
 {}
 
-/// The witness may record a new look-up at a site that no fact mentions.
+/// A law: facts admit a state also by the witness that records a new look-up, at a slot above all sites that the facts have.
 pub fn site_admits()
     ensures { SiteAdmits }
 {}
 
-/// After a null test of a look-up, the settled facts admit the state, on both edges.
+/// A law: on each edge of a null test of a look-up, the facts that are settled for this edge admit the state.
 pub fn null_test_admits()
     ensures { NullTestAdmits }
 {}

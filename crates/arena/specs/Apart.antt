@@ -18,7 +18,8 @@ WritesStayInside =
     → u ≢ t
     → part_bytes (with_bytes m offset new) u ≡ part_bytes m u
 
--- replacing all bytes of part t changes no other part, and not the size
+-- if all bytes of part t are replaced by `new`, the part has these, every other part is unchanged,
+-- and so is the size of the memory
 pub record PartsAreApart : Type 0 where
   pub others : (m : Memory) (t u : ℕ) (new : List ℕ)
       → IsPart m t
@@ -34,8 +35,8 @@ pub record PartsAreApart : Type 0 where
       → length new ≡ m.part
       → size_of (with_part m t new) ≡ size_of m
 
--- bytes written at offset `at` of part t are written there in the part's bytes, through the memory
--- or through the part
+-- bytes written at offset `at` of part t, through the memory or through the part, are written there
+-- in the part's bytes, and leave the size of the memory unchanged
 pub record WritesAreInParts : Type 0 where
   pub bytes : (m : Memory) (t at : ℕ) (new : List ℕ)
       → IsPart m t

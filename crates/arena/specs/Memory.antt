@@ -36,7 +36,7 @@ offset_of size n address =
 
 -- ---- loads, stores and copies; without an offset, nothing is loaded or changed
 
--- the number that the n bytes at an offset make, little-endian
+-- the number that the n bytes at an offset make, little-endian, if an offset is given
 abbrev pub loaded : Memory → ℕ → Option ℕ → Option ℕ
 loaded m n None = None
 loaded m n (Some offset) = Some (number_of (bytes_at m.bytes offset n))
@@ -49,12 +49,12 @@ with_bytes m offset new = record {
   part = m.part;
 }
 
--- the memory with the low n bytes of a value stored at an offset
+-- the memory with the low n bytes of a value stored at an offset; unchanged if none is given
 abbrev pub stored : Memory → ℕ → ℕ → Option ℕ → Memory
 stored m n value None = m
 stored m n value (Some offset) = with_bytes m offset (low_bytes n value)
 
--- the memory with n bytes copied from one offset to another
+-- the memory with n bytes copied from one offset to another; unchanged if one of them is not given
 abbrev pub copied : Memory → ℕ → Option ℕ → Option ℕ → Memory
 copied m n None to = m
 copied m n (Some from) None = m
@@ -70,11 +70,12 @@ part_start m t = t * m.part
 abbrev pub part_bytes : Memory → ℕ → List ℕ
 part_bytes m t = bytes_at m.bytes (part_start m t) m.part
 
--- bytes overwritten by others from the first on; their number is unchanged
+-- bytes overwritten by others from the first on; their number is unchanged, also if the others are
+-- more or fewer
 abbrev pub refilled : List ℕ → List ℕ → List ℕ
 refilled bytes others = take (length bytes) (others ++ drop (length others) bytes)
 
--- the memory with new written over part t
+-- the memory with `new` written over part t; its size is unchanged, however long `new` is
 abbrev pub with_part : Memory → ℕ → List ℕ → Memory
 with_part m t new = record {
   bytes = refilled m.bytes (written_at m.bytes (part_start m t) new);

@@ -54,7 +54,7 @@ fn copy_many(to: &mut [u8], offset: usize, bytes: &[u8])
     to[offset..offset + bytes.len()].copy_from_slice(bytes);
 }
 
-/// Copies bytes to an offset of `to`: up to 64 by pieces of a fixed length, more by a call.
+/// Copies bytes to an offset of `to`: up to 64 by pieces of a fixed length, more by a call. An empty slice has no arm: nothing is copied.
 #[inline(always)]
 pub(crate) fn copy_bytes(to: &mut [u8], offset: usize, bytes: &[u8])
     requires { offset + length bytes.now ≤ length to.old }

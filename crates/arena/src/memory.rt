@@ -137,7 +137,7 @@ impl Arena {
         &self.bytes[start..start + self.part_size]
     }
 
-    /// Loads a little-endian number of `size` bytes (1, 2, 4 or 8) at `address`; `None` exactly if they don't lie in the memory.
+    /// Loads a little-endian number of `size` bytes (1, 2, 4 or 8) at `address`; `None` exactly if these bytes don't lie in the memory.
     #[inline(always)]
     pub fn load(&self, address: u64, size: usize, trace: &mut Trace) -> Option<u64>
         requires { IsSize size }
@@ -151,7 +151,7 @@ impl Arena {
     }
 
     /// Stores the low `size` bytes (1, 2, 4 or 8) of `value` at `address`, little-endian. `None`, and nothing changes, exactly if
-    /// they don't lie in the memory.
+    /// the `size` bytes at `address` don't lie in the memory.
     #[inline(always)]
     pub fn store(&mut self, address: u64, size: usize, value: u64, trace: &mut Trace) -> Option<()>
         requires { IsSize size }

@@ -115,7 +115,7 @@ pub(crate) fn copy_double(bytes: &mut [u8], from: usize, to: usize)
 /// From this number of bytes on, ranges that do not overlap are copied by a call of memcpy.
 const LONG: usize = 256;
 
-/// Copies `count` bytes from offset `from` to offset `to`, which is not before their end, by memcpy.
+/// Copies `count` bytes from offset `from` to offset `to`, which is at their end or after it, by memcpy.
 #[inline(never)]
 fn copy_up(bytes: &mut [u8], from: usize, to: usize, count: usize)
     requires source { from + count ≤ to }
@@ -126,7 +126,7 @@ fn copy_up(bytes: &mut [u8], from: usize, to: usize, count: usize)
     high[..count].copy_from_slice(&low[from..from + count]);
 }
 
-/// Copies `count` bytes from offset `from` to offset `to`, after which they end at `from` or before it, by memcpy.
+/// Copies `count` bytes from offset `from` to a lower offset `to`, by memcpy. The copy ends at `from` or before it.
 #[inline(never)]
 fn copy_down(bytes: &mut [u8], from: usize, to: usize, count: usize)
     requires source { from + count ≤ length bytes.old }
@@ -137,8 +137,8 @@ fn copy_down(bytes: &mut [u8], from: usize, to: usize, count: usize)
     low[to..to + count].copy_from_slice(&high[..count]);
 }
 
-/// Copies `count` bytes from offset `from` to offset `to` like memmove: the ranges may overlap. Many bytes are copied in longer pieces if they
-/// do not.
+/// Copies `count` bytes from offset `from` to offset `to` like memmove: the ranges may overlap. If they do not, `LONG` bytes or more are
+/// copied by memcpy.
 #[inline(always)]
 pub(crate) fn copy_bytes(bytes: &mut [u8], from: usize, to: usize, count: usize)
     requires source { from + count ≤ length bytes.old }

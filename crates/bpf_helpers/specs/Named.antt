@@ -13,7 +13,7 @@ use Rattle.arena.specs.Memory.{Memory, base, part_start}
 use Rattle.bpf_maps.specs.Live.{shape_at}
 use Rattle.bpf_helpers.specs.States.{CallSite}
 
--- the handle of the map that a word names: i + 1 names the i-th
+-- the handle of the map that a word names: i + 1 names the map of index i; None if none is named
 abbrev pub bound_map : List ℕ → ℕ → Option ℕ
 bound_map bind w = if w == 0 then None else slice_get bind (w - 1)
 
@@ -59,12 +59,12 @@ pub record NamedPair : Type 0 where
   pub key : List ℕ
   pub value : List ℕ
 
--- the key at an address, with its map, that of handle k
+-- the map of handle k with the key at an address, if the bytes of the key lie in the part
 abbrev pub key_at : CallSite → ℕ → ℕ → Option NamedKey
 key_at site key k =
     option_map (λ bs. let n : NamedKey = record { map = k; key = bs } in n) (key_input site k key)
 
--- the value at an address, with its key and map
+-- this map and key with the value at an address, if the bytes of the value lie in the part
 abbrev pub pair_at : CallSite → ℕ → NamedKey → Option NamedPair
 pair_at site value named =
     option_map
@@ -99,7 +99,8 @@ IsInRun site words Delete = ⊥
 IsInRun site words LoadBytes =
     IsSome (named_offset site.memory site.tenant (slice_index words 3) (slice_index words 2))
 
--- the result of a call whose words name nothing: null, or EINVAL or EFAULT, negated
+-- the result of a call whose words name nothing: null for a look-up, EINVAL, negated, for an update
+-- or a deletion, and EFAULT, negated, for a load of bytes
 abbrev pub unnamed_answer : Helper → ℕ
 unnamed_answer LookUp = 0
 unnamed_answer Update = negative (errno Invalid)

@@ -14,7 +14,7 @@ use crate::caller::Caller;
 use arena::{Arena, Trace};
 use bpf_maps::{Elements, INDEX_SIZE, MapKey, Maps, PART, laws};
 
-/// The handle of the bound map that a word names, 1 for the first of `bind`; `None` if it names none.
+/// The handle of the bound map that a word names: 1 names the first of `bind`. `None` if the word is 0 or too great, and so names none.
 #[inline(always)]
 pub(crate) fn bound(bind: &[MapKey], word: u64) -> Option<MapKey>
     ensures value { result ≡ bound_map bind.now word }
@@ -28,7 +28,8 @@ pub(crate) fn bound(bind: &[MapKey], word: u64) -> Option<MapKey>
     Some(bind[index as usize])
 }
 
-/// The offset, in the part of `tenant`, of `size` bytes at an address, at most `PART` bytes; `None` if they don't lie in the part.
+/// The offset, in the part of `tenant`, of `size` bytes at an address, at most `PART` bytes; `None` if they don't lie in the part. The
+/// difference of an address before the part wraps, and is greater than any offset.
 #[inline(always)]
 pub(crate) fn offset_in(arena: &Arena, tenant: usize, size: usize, address: u64) -> Option<usize>
     requires part { IsPartOf tenant arena.now }
@@ -66,7 +67,8 @@ pub(crate) fn traced_offset(
     Some(at)
 }
 
-/// A law: bytes at an address that have an offset in the part of `tenant` lie in it. It does nothing when it runs.
+/// A law, for offsets that are computed without a test: if `named_offset` gives the bytes at an address an offset in the part of `tenant`,
+/// all of them lie in the part, and the offset is the address less that of the part. It does nothing when it runs.
 #[inline(always)]
 pub(crate) fn named_bytes_lie_inside(arena: &Arena, tenant: usize, size: usize, address: u64)
     requires { IsSome (named_offset arena.now tenant size address) }
@@ -132,7 +134,8 @@ pub(crate) fn look_up(
 }
 
 /// bpf_map_lookup_elem (1) for a run that knows which of its maps are arrays: returns the address of the value of a key, or 0. `map` names
-/// the map, and `key` is the address of the key. The key of an array is found by `arrays`, without the map.
+/// the map, and `key` is the address of the key. The key of an array is found by `arrays`, without the map; a map without elements there is
+/// a hash map, and is read by `look_up`.
 #[inline(always)]
 pub(crate) fn look_up_among(
     arrays: Arrays<'_>,

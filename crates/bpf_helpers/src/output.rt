@@ -83,8 +83,8 @@ pub(crate) fn load_bytes_inside(
 }
 
 /// bpf_skb_load_bytes (26): copies `count` bytes of the packet at `offset` to an address, and returns 0. If they don't
-/// lie in the packet, it writes zeros and returns EFAULT, negated; if the address is not one in the tenant's part, it
-/// returns the same and writes nothing.
+/// lie in the packet, it writes zeros and returns EFAULT, negated. If the `count` bytes at the address `to` don't lie in the
+/// tenant's part, it returns EFAULT, negated, and writes nothing.
 #[inline(always)]
 pub(crate) fn load_bytes(
     offset: u64,

@@ -6,13 +6,14 @@ use Rattle.tagged_model.specs.declared.shape.MapShape.{MapShape}
 use Rattle.bpf_maps.specs.declared.elements.Elements.{Elements}
 use Rattle.bpf_maps.specs.Live.{LiveMaps, live_at, shape_at}
 
--- the number of elements of a map of this kind with n entries: a hash map has none
+-- how many elements a run finds without the map, in a map of this kind with n entries: those of an
+-- array, and none of a hash map, in which only the map finds a key
 abbrev pub element_count : MapKind → ℕ → ℕ
 element_count Array n = n
 element_count Hash n = 0
 
--- the elements of a map of this shape: how many there are, and the distance from the start of one
--- value to that of the next, in bytes
+-- the elements of a map of this shape: how many a run finds without the map, which are 0 of a hash
+-- map, and the distance from the start of one value to that of the next, in bytes
 abbrev pub elements_of : MapShape → Elements
 elements_of s = record {
   count = element_count s.kind s.max_entries;
@@ -23,7 +24,7 @@ elements_of s = record {
 abbrev pub elements_at : LiveMaps → ℕ → Elements
 elements_at t k = elements_of (shape_at t k)
 
--- these are the elements of a live map, the array of handle k
+-- these are the elements of the live map of handle k, which is an array: of a hash map `count` is 0
 abbrev pub AreOfArray : Elements → LiveMaps → ℕ → Type 0
 AreOfArray e t k = IsSome (live_at t k) × (e ≡ elements_at t k) × (e.count ≢ 0)
 

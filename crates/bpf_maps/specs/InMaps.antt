@@ -36,7 +36,8 @@ as_live_maps a = record { maps = live_maps_of (stored_in a); refused = a.refused
 
 -- ---- the invariant
 
--- each key is one of the slab's, no two handles have the same key, and the slab has no other keys
+-- `keys` has the slab's key of the map of each handle, if the handle has a map: the slab has these
+-- keys and no others, and no two handles have the same key
 pub record AreKeys (keys : List (Option ℕ)) (maps : Slab StoredMap) : Type 0 where
   pub long : length keys ≡ most_maps
   pub there : (k key : ℕ) → slice_index_or keys k None ≡ Some key → ContainsKey maps key
@@ -46,8 +47,8 @@ pub record AreKeys (keys : List (Option ℕ)) (maps : Slab StoredMap) : Type 0 w
       → k ≡ j
   pub all : slab_len maps ≡ count_by is_some keys
 
--- a stored map once an area of `size` bytes up to `end` is removed: its start is lower by `size`,
--- if it was `end` or more
+-- a stored map after the removal of an area of `size` bytes that ended at offset `end`: a start at
+-- `end` or after it is lower by `size`, a start before it is unchanged
 abbrev pub closed_up : ℕ → ℕ → StoredMap → StoredMap
 closed_up end size e = record {
   map = e.map;

@@ -9,7 +9,8 @@ use Rattle.bpf_maps.specs.Live.{LiveMaps, live_at, keys_at, shape_at, offset_at,
 
 -- ---- a value is written
 
--- these bytes have the size of the value of element p of the live map of handle k
+-- `bytes` can be written as the value of element p of the live map of handle k: they have its size,
+-- and the part and the live maps are as the laws of writes require
 pub record IsValueAt (part : List ℕ) (t : LiveMaps) (k p : ℕ) (bytes : List ℕ) : Type 0 where
   pub whole : length part ≡ PART
   pub laid : IsLaid t
@@ -22,8 +23,8 @@ pub record IsValueAt (part : List ℕ) (t : LiveMaps) (k p : ℕ) (bytes : List 
 abbrev pub with_value : List ℕ → LiveMaps → ℕ → ℕ → List ℕ → List ℕ
 with_value part t k p bytes = written_at part (offset_at t k p) bytes
 
--- these bytes are the value of the element, and that of the element's key; no other value of a live
--- map changes, nor do the stack and the context
+-- once these bytes are written at element p of the map of handle k, they are the value of this
+-- element and of its key; no other value of a live map changes, nor do the stack and the context
 pub record ValueIsWritten (part : List ℕ) (t : LiveMaps) (k p : ℕ) (bytes : List ℕ) : Type 0 where
   pub here : value_in (with_value part t k p bytes) t k p ≡ bytes
   pub elsewhere : (j q : ℕ)
@@ -51,7 +52,8 @@ ValuesAreWritten =
 
 -- ---- a map changes, and its area does not
 
--- the map after an update of a key to a value, with this verdict
+-- the map after an update of a key to a value, with this verdict: unchanged after a refusal, else
+-- with the value at the present key, or with a new key at the end
 abbrev pub updated : map.Verdict (List ℕ)
     → map.Table (List ℕ)
     → List ℕ
@@ -66,8 +68,9 @@ abbrev pub updated_in : List ℕ → LiveMaps → ℕ → List ℕ → List ℕ 
 updated_in part t k key value flags =
     updated (map.verdict (map_in part t k) key flags) (map_in part t k) key value
 
--- the map of values changes as that of elements does; in an update, a claim is followed by the
--- write of the value
+-- from `old` to `new`, the map of handle k with the values in `part` changes as its table of keys
+-- does: not at all, by a deletion, at the end of a run, or by a claim, after which the value is
+-- written
 pub record RefinesValues (part : List ℕ) (old new : LiveMaps) (k : ℕ) : Type 0 where
   pub same : keys_at new k ≡ keys_at old k → map_in part new k ≡ map_in part old k
   pub delete : (key : List ℕ) (element : ℕ)
@@ -81,7 +84,8 @@ pub record RefinesValues (part : List ℕ) (old new : LiveMaps) (k : ℕ) : Type
       (keys_at new k)
       → map_in (with_value part new k p bytes) new k ≡ updated_in part old k key bytes flags
 
--- each map that is live after a change that keeps the areas refines the map of values
+-- if a change keeps the areas, each map that is live after it changes as a map of values in the way
+-- in which its table of keys does (`RefinesValues`)
 abbrev pub LiveMapsRefineValues : Type 0
 LiveMapsRefineValues =
     (part : List ℕ) (old new : LiveMaps) (k : ℕ)

@@ -31,7 +31,8 @@ TakesKeys (Long keys) size = size ≤ 512
 abbrev pub shown : Inside → KeyTable
 shown a = record { shape = a.shape; entries = entries_of a.index; kept = take a.kept a.spare.items }
 
--- each element is in use or spare, and there is room for all elements
+-- each element less than `max_entries` is that of one key or is spare, and not both; the list of
+-- spare elements has room for all of them, and the keys have the size of the map's shape
 pub record IsWellFormedHash (a : Inside) : Type 0 where
   pub kind : a.shape.kind ≡ Hash
   pub takes : TakesKeys a.index a.shape.key_size

@@ -6,7 +6,8 @@ use Rattle.std.proofs.Common.{◌∙◌, sym, ap, subst, take-append-drop, lengt
 abbrev pub padded : ℕ → List ℕ → List ℕ
 padded n bytes = bytes ++ replicate (n - length bytes) 0
 
--- an array whose bytes after the first k are zeros is the first k, padded
+-- if an array of n bytes has zeros after the first k, these k bytes, padded, are the array: so the
+-- bytes of a key determine its `InlineKey`
 pub given_back : (n k : ℕ) (bytes : List ℕ)
     → k ≤ n
     → length bytes ≡ n

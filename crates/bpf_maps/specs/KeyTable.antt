@@ -48,7 +48,7 @@ pub record IsSound (t : KeyTable) : Type 0 where
 
 -- ---- the calls
 
--- an element that is not in use
+-- element p is not in use: it is less than `max_entries`, no key has it, and it is not kept apart
 pub record IsFree (t : KeyTable) (p : ℕ) : Type 0 where
   pub within : p < t.shape.max_entries
   pub entries : occurrences p (values_of t.entries) ≡ 0
@@ -59,7 +59,8 @@ abbrev pub with_entry : KeyTable → List ℕ → ℕ → KeyTable
 with_entry t key p = record { shape = t.shape; entries = with_key key p t.entries; kept = t.kept }
 
 -- the possible results of a claim by the verdict on its update, each with the table after it; a new
--- key gets any element that is not in use: it cannot be refused
+-- key gets any element that is not in use. That has no fault: of a full map the verdict is
+-- `Refused`
 abbrev pub Claims : Verdict ℕ → List ℕ → KeyTable → Result ℕ MapFault → KeyTable → Type 0
 Claims (Refused fault) key old answer new = (answer ≡ Err fault) × (new ≡ old)
 Claims (Present p) key old answer new = (answer ≡ Ok p) × (new ≡ old)
@@ -86,7 +87,7 @@ Removes (Err fault) key old answer new = (answer ≡ Err fault) × (new ≡ old)
 Removes (Ok p) key old answer new = (answer ≡ Ok tt) × (new ≡ with_kept old key p)
 
 -- the result of a request for the next key, and the bytes of the caller's buffer before and after
--- it: the key is written at the front
+-- it: the key is written at the front; if no key follows, nothing is written
 abbrev pub GivesKey : Option (List ℕ) → List ℕ → Result (Unit {0}) MapFault → List ℕ → Type 0
 GivesKey None old answer new = (answer ≡ Err NoEntry) × (new ≡ old)
 GivesKey (Some key) old answer new = (answer ≡ Ok tt) × (new ≡ key ++ drop (length key) old)

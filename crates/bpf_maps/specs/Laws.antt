@@ -20,7 +20,8 @@ pub record CallsAreThoseOfAMap : Type 0 where
       → table_of (with_kept t key element) ≡ map.with_deleted (table_of t) key
   pub end : (t : KeyTable) → table_of (after_run t) ≡ map.after_run (table_of t)
 
--- a write of the value of an element gives the element's key another object in the map of values
+-- if `bytes` become the value of an element, the map of values has them as the object of the
+-- element's key, and is otherwise unchanged
 abbrev pub WritesRefineValues : Type 0 → Type 0
 WritesRefineValues B =
     (value : ℕ → B) (t : KeyTable) (key : List ℕ) (element : ℕ) (bytes : B)
@@ -53,7 +54,8 @@ AreasKeepElements =
     → IsSome (live_at new k)
     → offset_at new k p ≡ offset_at old k p
 
--- a deletion frees no element: that of the key is kept apart
+-- a deletion frees no element: that of the key is kept apart, so each element p is in use as often
+-- as it was
 abbrev pub DeletesKeepElements : Type 0
 DeletesKeepElements =
     (t : KeyTable) (key : List ℕ) (element p : ℕ) → map.look_up (table_of t) key ≡ Some element

@@ -60,7 +60,7 @@ keys_at t k = (live_or (live_at t k)).keys
 abbrev pub shape_at : LiveMaps → ℕ → MapShape
 shape_at t k = (keys_at t k).shape
 
--- the number of references to the map of handle k; 0 if it has none
+-- the number of references to the map of handle k; 0 if the handle has no map
 abbrev pub holds_at : LiveMaps → ℕ → ℕ
 holds_at t k = (live_or (live_at t k)).holds
 
@@ -78,8 +78,8 @@ offset l p = l.start + p * l.stride
 abbrev pub offset_at : LiveMaps → ℕ → ℕ → ℕ
 offset_at t k p = offset (live_or (live_at t k)) p
 
--- the address of the value of an element, modulo 2 ^ 64, in a part that begins at address `part`;
--- null if there is no element
+-- the address of the value of an element of the map of handle k, modulo 2 ^ 64, in a part that
+-- begins at address `part`; null (0) if no element is given
 abbrev pub value_address : ℕ → LiveMaps → ℕ → Option ℕ → ℕ
 value_address part t k None = 0
 value_address part t k (Some p) = (part + offset_at t k p) % 2 ^ 64
@@ -114,7 +114,8 @@ pub record IsLaid (t : LiveMaps) : Type 0 where
       → (offset l p + l.keys.shape.value_size ≤ offset m q)
       ⊎ (offset m q + m.keys.shape.value_size ≤ offset l p)
 
--- each live map was live before, with the same shape and the same area
+-- each map that is live in `new` was live in `old`, with the same shape, the same start of its
+-- area, and the same distance from value to value
 abbrev pub SameAreas : LiveMaps → LiveMaps → Type 0
 SameAreas old new =
     (k : ℕ) (l : LiveMap)
@@ -125,8 +126,8 @@ SameAreas old new =
     × (l.start ≡ m.start)
     × (l.stride ≡ m.stride)
 
--- a map that was and is live has the same values of all its elements; `bytes` and `later` are the
--- tenant's part before and after
+-- each element of a map that is live in `old` and in `new` has the same value; `bytes` and `later`
+-- are the tenant's part before and after
 abbrev pub SameValues : LiveMaps → List ℕ → LiveMaps → List ℕ → Type 0
 SameValues old bytes new later =
     (k p : ℕ)
@@ -189,8 +190,8 @@ pub record IsPacked (t : LiveMaps) : Type 0 where
       → live_at t k ≡ Some l
       → l.stride ≡ (l.keys.shape.value_size + 7) / 8 * 8
 
--- the start of an area once another one, of `size` bytes up to `end`, is removed: lower by `size`,
--- if it was `end` or more
+-- the start of an area after the removal of another one, of `size` bytes, which ended at offset
+-- `end`: lower by `size` if it was `end` or more, else unchanged
 abbrev pub start_without : ℕ → ℕ → ℕ → ℕ
 start_without end size start = if nat_le end start then start - size else start
 
@@ -247,8 +248,9 @@ pub record IsCreated (old : LiveMaps) (shape : MapShape) (k : ℕ) (new : LiveMa
   pub others : (other : ℕ) → other ≢ k → live_at new other ≡ live_at old other
   pub refused : new.refused ≡ old.refused
 
--- the possible results of a creation with this fault, each with the live maps after it; with none,
--- it can only be out of memory, and then only the flag changes
+-- the possible results of a creation, each with the live maps after it. If it has a fault (of
+-- `create_fault`), this is the result, and nothing changes. If it has none, its only other result
+-- than a new map is `Memory`, after which only the flag has changed
 abbrev pub Creates : Option MapFault → LiveMaps → MapShape → Result ℕ MapFault → LiveMaps → Type 0
 Creates (Some fault) old shape answer new = (answer ≡ Err fault) × (new ≡ old)
 Creates None old shape (Ok k) new = IsCreated old shape k new
@@ -278,8 +280,8 @@ held_at t k = option_map without_area (live_at t k)
 abbrev pub one_more : LiveMap → LiveMap
 one_more l = record { keys = l.keys; start = l.start; stride = l.stride; holds = l.holds + 1 }
 
--- a live map with one reference less; None if that was the last, so that the map is freed, and for
--- no map
+-- a live map with one reference less: None if it had only one, since the map is then freed. Without
+-- a map the result is None too
 abbrev pub one_less : Option MapWithoutArea → Option MapWithoutArea
 one_less None = None
 one_less (Some h) =

@@ -13,7 +13,7 @@ use Rattle.bpf_maps.specs.Elements.{elements_of, elements_at}
 use Rattle.bpf_maps.specs.Sum.{weight, total}
 use Rattle.bpf_maps.specs.Live.{LiveMap, LiveMaps, live_at, live_or, shape_at, free_handle, offset, offset_at, LiesInPart, IsLaid, SameAreas, OnlyKeysChange}
 
--- if the numbers at each index are equal, so are the sums
+-- two lists with equal numbers f at each index have equal sums
 pub total_same : {A : Type 0} (f : A → ℕ) (xs ys : List (Option A))
     → ((j : ℕ) → weight f (get_or ys j None) ≡ weight f (get_or xs j None))
     → total f ys ≡ total f xs
@@ -36,7 +36,8 @@ total_after f zero (x ∷ xs) within = omega arith
 total_after f (suc n) (x ∷ xs) within =
     let rest = total_after f n xs (omega arith) in omega arith
 
--- `total_after`, with n + 1 for the successor
+-- the sum over the first n + 1 elements is that over the first n, and the number of the next one:
+-- `total_after`, with n + 1 written for the successor
 pub total_next : {A : Type 0} (f : A → ℕ) (n : ℕ) (xs : List (Option A))
     → n < length xs
     → total f (take (n + 1) xs) ≡ total f (take n xs) + weight f (get_or xs n None)
@@ -44,13 +45,15 @@ total_next f n xs within =
     let next : n + 1 ≡ suc n = omega arith in
     ap (λ (k : ℕ). total f (take k xs)) next ∙ total_after f n xs within
 
--- a list with one element fewer: the one at k is absent, and the others are unchanged
+-- `slots` is a list that lacks only the element of xs at k: it has one element fewer, and is
+-- unchanged at each other index
 record IsWithout {A : Type 0} (k : ℕ) (xs : List (Option A)) : Type 0 where
   slots : List (Option A)
   fewer : total (λ x. 1) slots + 1 ≡ total (λ x. 1) xs
   others : (j : ℕ) → j ≢ k → get_or slots j None ≡ get_or xs j None
 
--- a list with an element at k has one without it (`IsWithout`)
+-- if a list has an element at k, there is a list that lacks only this one (`IsWithout`); for the
+-- induction of `few_slots`
 without_slot : {A : Type 0} (k : ℕ) (xs : List (Option A))
     → IsSome (get_or xs k None)
     → IsWithout k xs
@@ -80,7 +83,8 @@ without_slot (suc k) (x ∷ xs) some =
     later rest zero h = refl
     later rest (suc j) h = rest.others j (λ e. h (omega arith))
 
--- n different positions that have an element are at most as many as the elements
+-- if a list has an element at each of n different indices, those that `at` gives, it has n elements
+-- or more
 few_slots : {A : Type 0} (n : ℕ) (at : ℕ → ℕ) (xs : List (Option A))
     → ((i : ℕ) → i < n → IsSome (get_or xs (at i) None))
     → ((i j : ℕ) → i < n → j < n → at i ≡ at j → i ≡ j)
@@ -124,14 +128,14 @@ some_within k [] some = absurd (false≢true some)
 some_within zero (x ∷ xs) some = omega arith
 some_within (suc k) (x ∷ xs) some = let rest = some_within k xs some in omega arith
 
--- a live map has one of the handles
+-- the handle of a live map is less than the number of handles
 pub live_within : (k : ℕ) (tenant : LiveMaps) → IsSome (live_at tenant k) → k < length tenant.maps
 live_within k tenant live = some_within k tenant.maps live
 
 -- ---- the lowest free handle
 
--- in lists of one length with elements at the same indices, the first index without an element is
--- the same; it is the length if there is none
+-- if two lists have one length, and elements at the same indices, they have the same first index
+-- without an element; if there is none, `position_or_len` is the length. For `same_lowest`
 same_front : {A B : Type 0} (xs : List (Option A)) (ys : List (Option B))
     → length xs ≡ length ys
     → ((k : ℕ) → is_some (get_or xs k None) ≡ is_some (get_or ys k None))
@@ -145,8 +149,8 @@ same_front (Some x ∷ xs) (None ∷ ys) long same = absurd (true≢false (same 
 same_front (Some x ∷ xs) (Some y ∷ ys) long same =
     ap (λ (n : ℕ). 1 + n) (same_front xs ys (omega arith) (λ k. same (suc k)))
 
--- the lowest index without an element is the same in two lists of one length with elements at the
--- same indices
+-- if two lists have one length, and elements at the same indices, the lowest index without an
+-- element is equal in both; None if each index has one
 pub same_lowest : {A B : Type 0} (xs : List (Option A)) (ys : List (Option B))
     → length xs ≡ length ys
     → ((k : ℕ) → is_some (get_or xs k None) ≡ is_some (get_or ys k None))
@@ -217,7 +221,7 @@ laid_inside tenant laid k p live lt = by (live_at tenant k) refl live lt
 pub same_areas : (tenant : LiveMaps) → SameAreas tenant tenant
 same_areas tenant k l e = (l, e, refl, refl, refl)
 
--- if all areas are the same, a live map has the same elements
+-- if a change keeps all areas, a live map has the `Elements` after it that it had before
 pub same_elements : (old new : LiveMaps) (k : ℕ)
     → SameAreas old new
     → IsSome (live_at new k)
@@ -235,7 +239,7 @@ same_elements old new k areas live = by (live_at new k) refl live
     by (Some l) e some =
         let was = areas k l e in ap shown e ∙ ap elements_of was.2 ∙ sym (ap shown was.1)
 
--- two changes that each keep the areas keep them, one after the other
+-- if two changes each keep the areas, so do both together, one after the other
 pub areas_along : (old mid new : LiveMaps)
     → SameAreas old mid
     → SameAreas mid new

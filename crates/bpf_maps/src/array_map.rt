@@ -143,8 +143,8 @@ impl ArrayMap {
         }
     }
 
-    /// The key that follows the one of an element, or the first key if no element is given, with its element. `None` if there is none,
-    /// and if no key has the element.
+    /// The key after that of `element`, or the first key if no element is given, with the element of the key that is returned. `None` if
+    /// no key follows, or if no key has `element`.
     pub(crate) fn entry_after(&self, element: Option<u32>) -> Option<(KeyRef<'_>, u32)>
         ensures { option_map shown_entry result ≡ next_entry element self.now.entries }
     {

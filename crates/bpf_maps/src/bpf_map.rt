@@ -24,7 +24,7 @@ pub enum BpfMap {
 }
 
 impl BpfMap {
-    /// Makes a map of this shape. Only a hash map takes the seed and memory. `AllocError`: out of memory.
+    /// Makes a map of this shape. An array takes neither the seed nor memory. `AllocError`: out of memory for a hash map.
     pub fn new(alloc: Global, shape: MapShape, seed: HashSeed) -> Result<BpfMap, AllocError>
         ensures { IfOk result (λ map. keys_in map ≡ new_keys shape) }
     {
@@ -34,8 +34,8 @@ impl BpfMap {
         }
     }
 
-    /// Makes a map of this shape, a hash map in the memory of a spare one, if one fits. `live` are the live hash maps, for a hash map only
-    /// (`SpareMaps`). `AllocError`: out of memory.
+    /// Makes a map of this shape; a hash map has the memory of a spare one, if one fits. By `live`, the number and the entries of the live
+    /// hash maps, spare ones are freed for a new one (`SpareMaps`); an array does not read it. `AllocError`: out of memory.
     pub(crate) fn with_spares(
         alloc: Global,
         shape: MapShape,
@@ -71,8 +71,8 @@ impl BpfMap {
         }
     }
 
-    /// The key that follows the one of an element, or the first key if no element is given, with its element. `None` if there is none,
-    /// and if no key has the element.
+    /// The key after that of `element`, or the first key if no element is given, with the element of the key that is returned. `None` if
+    /// no key follows, or if no key has `element`.
     pub(crate) fn entry_after(&self, element: Option<u32>) -> Option<(KeyRef<'_>, u32)>
         ensures { option_map shown_entry result ≡ next_entry element (keys_in self.now).entries }
     {

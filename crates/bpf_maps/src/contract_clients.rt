@@ -58,7 +58,8 @@ fn delete(maps: &mut Maps, map: MapKey, key: &[u8], part: &[u8]) -> Result<(), M
     Ok(())
 }
 
-/// A law: if no value of an element of a map differs in the parts `before` and `after`, the map is the same in both.
+/// A law: if no value of an element of a map differs in the parts `before` and `after`, the map is the same in both. It does nothing when
+/// it runs.
 fn is_unchanged(maps: &Maps, map: MapKey, before: &[u8], after: &[u8])
     requires live { IsSome (live_at maps.now map) }
     requires values { SameValues maps.now before.now maps.now after.now }
@@ -77,6 +78,7 @@ fn make_first(alloc: Global, shape: MapShape, part: &mut [u8]) -> Result<MapKey,
     let Ok(mut maps) = Maps::new(alloc, HashSeed::new(0, 0)) else {
         return Err(MapFault::Memory);
     };
+    // The contract of `area` bounds it, so there is room for the first map.
     let _area = shape.area();
     maps.create(shape, part)
 }
@@ -98,7 +100,8 @@ fn make_again(maps: &mut Maps, map: MapKey, part: &mut [u8]) -> Result<MapKey, M
     maps.create(shape, part)
 }
 
-/// Creates a map and releases it: the creation of any map then has the same fault as before, or none. The other maps are unchanged.
+/// Creates a map and releases it. The creation of any map then ends as it would have before: with the same fault (`create_fault`), or
+/// without one. Each map that was live is unchanged.
 fn make_and_release(maps: &mut Maps, shape: MapShape, part: &mut [u8])
     requires { length part.old ≡ PART }
     ensures room { (other : MapShape) → create_fault maps.new other ≡ create_fault maps.old other }
@@ -111,7 +114,7 @@ fn make_and_release(maps: &mut Maps, shape: MapShape, part: &mut [u8])
     }
 }
 
-/// Adds a reference to a map and drops it: no map has changed.
+/// Adds a reference to a map and drops it: each map that was live still is, with the same keys and values.
 fn hold_and_release(maps: &mut Maps, map: MapKey, part: &mut [u8])
     requires live { IsSome (live_at maps.old map) }
     requires few { holds_at maps.old map < 2 ^ 32 - 1 }

@@ -11,8 +11,8 @@ use crate::array_map::{INDEX_SIZE, index_of};
 use crate::maps::{MapKey, Maps};
 use tagged_model::{MapKind, MapShape};
 
-/// The elements of a map: how many there are, none if it is a hash map, and the distance from the start of one value to the start of
-/// the next, in bytes. They stay the same as long as the map is live.
+/// The elements of a map: how many a run finds without the map, and the distance from the start of one value to the start of the next, in
+/// bytes. The count of a hash map is 0: only the map finds its keys. They stay the same as long as the map is live.
 #[derive(Clone, Copy, Debug, PartialEq, Eq)]
 pub struct Elements {
     pub count: u32,
@@ -20,7 +20,7 @@ pub struct Elements {
 }
 
 impl Elements {
-    /// The elements of a map of this shape.
+    /// The elements of a map of this shape. The count is 0 for a hash map: only the map finds its keys.
     #[inline(always)]
     pub fn of(shape: MapShape) -> Elements
         ensures { result ≡ elements_of shape }

@@ -110,16 +110,16 @@ impl HashMap {
         self.index.get(key)
     }
 
-    /// The key that follows the one of an element, or the first key if no element is given, with its element. `None` if there is none,
-    /// and if no key has the element.
+    /// The key after that of `element`, or the first key if no element is given, with the element of the key that is returned. `None` if
+    /// no key follows, or if no key has `element`.
     pub(crate) fn entry_after(&self, element: Option<u32>) -> Option<(KeyRef<'_>, u32)>
         ensures { option_map shown_entry result ≡ next_entry element self.now.entries }
     {
         self.index.entry_after(element)
     }
 
-    /// Claims a free element for a new key, which goes to the end. `TooBig` if no element is free; then nothing has changed. Not inlined,
-    /// as the rest of an update is: that of a present key needs none of it.
+    /// Claims a free element for a new key, which goes to the end. `TooBig` if no element is free; then nothing has changed. The flags of
+    /// the update are 0 (`ANY`) in the contract. Not inlined, though the rest of an update is: a present key doesn't need it.
     #[cold]
     #[inline(never)]
     #[tactic(auto, using(crate::proofs::Kept::sound))]

@@ -62,8 +62,8 @@ impl LongIndex {
         Some(following.bytes())
     }
 
-    /// The key that follows the one of an element, or the first key if no element is given, with its element. `None` if there is none,
-    /// and if no key has the element.
+    /// The key after that of `element`, or the first key if no element is given, with the element of the key that is returned. `None` if
+    /// no key follows, or if no key has `element`.
     pub(crate) fn entry_after(&self, element: Option<u32>) -> Option<(&[u8], u32)>
         ensures { option_map lent_entry result ≡ next_entry element self.now.entries }
     {
@@ -71,7 +71,7 @@ impl LongIndex {
         Some((key.bytes(), element))
     }
 
-    /// Adds a new key at the end. It takes no memory.
+    /// Adds a new key at the end. It allocates nothing: `new` made room for `bound` keys.
     pub(crate) fn insert(&mut self, key: &[u8], element: u32)
         requires short { length key.now ≤ LONGEST_LONG }
         requires absent { found key.now self.old.entries ≡ None }

@@ -398,8 +398,8 @@ impl Maps {
         self.stored(map).map.key_after(key)
     }
 
-    /// The key that follows the one of an element, or the first key if no element is given, with its element. `None` if there is none,
-    /// if no key has the element, and if the map isn't live.
+    /// The key after that of `element`, or the first key if no element is given, with the element of the key that is returned. `None` if
+    /// no key follows, if no key has `element`, or if the map isn't live.
     pub fn entry_after(&self, map: MapKey, element: Option<u32>) -> Option<(KeyRef<'_>, u32)>
         ensures entry { option_map shown_entry result
             ≡ next_entry element (keys_at self.now map).entries }

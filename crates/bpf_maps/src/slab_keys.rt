@@ -8,7 +8,7 @@ ghost use Rattle.bpf_maps.specs.inside.SlabKeys.{key_in};
 use crate::part::MAPS;
 use std::marker::Model;
 
-// The word for no key: each key of a slab is less than its capacity.
+// The word for no key. No key of a slab is this number: each is less than the slab's capacity.
 const NO_KEY: usize = usize::MAX;
 
 /// The slab's key of each handle, if it has one. Contracts see a list of `MAPS` options.

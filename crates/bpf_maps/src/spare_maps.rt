@@ -95,7 +95,7 @@ impl SpareMaps {
         HashMap::new(alloc, shape, seed)
     }
 
-    /// The index of a map with the same size of keys and as many entries, if there is one.
+    /// The index of a spare map with this shape's size of keys and as many entries, if there is one.
     fn position(&self, shape: MapShape) -> Option<usize>
         ensures { IfSome result (λ at. IsLike shape (slice_get self.now.maps.items at)) }
     {
@@ -107,7 +107,7 @@ impl SpareMaps {
         None
     }
 
-    /// How many entries these maps can have.
+    /// How many entries the spare maps can have.
     fn entries(&self) -> usize {
         let mut sum: usize = 0;
         for at in 0..self.maps.len() {
@@ -116,7 +116,7 @@ impl SpareMaps {
         sum
     }
 
-    /// Whether there is room for these live maps besides the kept ones.
+    /// Whether the spare maps and these live ones are together at most `MAPS`, with at most `MOST_ENTRIES` entries.
     fn has_room(&self, live: LiveHashMaps) -> bool {
         self.maps.len().saturating_add(live.maps) <= MAPS
             && self.entries().saturating_add(live.entries) <= MOST_ENTRIES
@@ -128,7 +128,7 @@ impl SpareMaps {
         entries.saturating_sub(MOST_ENTRIES)
     }
 
-    /// Frees maps until there is room for these live ones.
+    /// Frees spare maps until the others and these live ones are few enough (`has_room`). Once a turn frees none, no later one does.
     fn make_room(&mut self, live: LiveHashMaps) {
         for _ in 0..self.maps.len() {
             if !self.maps.is_empty() && !self.has_room(live) {

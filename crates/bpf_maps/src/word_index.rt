@@ -76,8 +76,8 @@ impl WordIndex {
         Some(ShortKey::of_word(*word, self.size))
     }
 
-    /// The key that follows the one of an element, or the first key if no element is given, with its element. `None` if there is none,
-    /// and if no key has the element.
+    /// The key after that of `element`, or the first key if no element is given, with the element of the key that is returned. `None` if
+    /// no key follows, or if no key has `element`.
     pub(crate) fn entry_after(&self, element: Option<u32>) -> Option<(ShortKey, u32)>
         ensures { result ≡ next_entry element self.now.entries }
     {
@@ -85,7 +85,7 @@ impl WordIndex {
         Some((ShortKey::of_word(*word, self.size), element))
     }
 
-    /// Adds a new key at the end. It takes no memory.
+    /// Adds a new key at the end. It allocates nothing: `new` made room for `bound` keys.
     pub(crate) fn insert(&mut self, key: &[u8], element: u32)
         requires size { length key.now ≡ self.old.size }
         requires absent { found key.now self.old.entries ≡ None }

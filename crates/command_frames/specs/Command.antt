@@ -8,7 +8,9 @@ use Rattle.command_frames.specs.declared.command.BadFrame.TheVariants.{TooLong, 
 use Rattle.command_frames.specs.Frame.{head_length}
 use Rattle.words.specs.Context.{given_words}
 
--- a command with its fields: fd is a descriptor; key, value, slots and packet are lists of bytes
+-- a command with its fields: fd is a descriptor, kind the type of a map or of a program, and sizes
+-- are in bytes; words are those of a context, without the packet's length, which is the first. Key,
+-- value, slots and packet are lists of bytes
 pub data Command : Type 0 where
   map_create : (kind key_size value_size max_entries flags : ℕ) → Command
   map_lookup : (fd : ℕ) (key : List ℕ) → Command
@@ -34,7 +36,7 @@ create_body = 20
 abbrev pub before_key_and_value : ℕ
 before_key_and_value = 12
 
--- the length of the context words in a test run's body
+-- the length of the context words in a test run's body: all but the first, the packet's length
 abbrev pub context_length : ℕ
 context_length = given_words * word_length
 
@@ -61,15 +63,16 @@ unfoldable pub words : ℕ → List ℕ → List ℕ
 words zero bytes = []
 words (suc n) bytes = little_number 4 bytes ∷ words n (drop 4 bytes)
 
--- the command if its body has exactly n bytes
+-- the command if its body has exactly n bytes; Body if not
 abbrev pub exactly : ℕ → List ℕ → Command → Result Command BadFrame
 exactly n body command = if length body == n then Ok command else Err Body
 
--- the command if its body has n bytes or more
+-- the command if its body has n bytes or more; Body if not
 abbrev pub at_least : ℕ → List ℕ → Command → Result Command BadFrame
 at_least n body command = if nat_le n (length body) then Ok command else Err Body
 
--- the command of number n with this body; the fault if there is none
+-- the command of number n with this body; Unknown if no command has this number, and Body if the
+-- body's length is wrong
 abbrev pub command_in : ℕ → List ℕ → Result Command BadFrame
 command_in n body =
     if n == 0 then exactly create_body body
@@ -95,7 +98,7 @@ command_in n body =
 
 -- ---- the frame
 
--- the command of a frame with a head
+-- the command of a frame that has a head, or why the frame carries none
 abbrev pub parsed : List ℕ → Result Command BadFrame
 parsed frame =
     if nat_lt longest_frame (length frame)

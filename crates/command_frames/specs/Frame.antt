@@ -13,7 +13,8 @@ framed frame = little_bytes 4 (length frame) ++ frame
 abbrev pub IsFrame : List ℕ → Type 0
 IsFrame frame = length frame < 2 ^ 32
 
--- the bytes don't begin with a whole frame
+-- the bytes don't begin with a whole frame: they are fewer than the four of a length, or fewer than
+-- these four and as many as the length is
 abbrev pub IsPartial : List ℕ → Type 0
 IsPartial bytes = (length bytes < 4) ⊎ (length bytes < 4 + little_number 4 bytes)
 
@@ -23,7 +24,7 @@ IsPartial bytes = (length bytes < 4) ⊎ (length bytes < 4 + little_number 4 byt
 abbrev pub head_length : ℕ
 head_length = 4
 
--- the head of a frame; None in fewer bytes
+-- the head of a frame; None if the frame has fewer than four bytes
 abbrev pub head_of : List ℕ → Option Head
 head_of frame =
     if nat_lt (length frame) head_length

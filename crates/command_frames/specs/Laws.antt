@@ -14,20 +14,21 @@ pub record IsStream (bytes : List ℕ) (frames : List (List ℕ)) (rest : List �
   pub partial : IsPartial rest
   pub spelled : bytes ≡ flat_map framed frames ++ rest
 
--- all bytes are a stream
+-- all bytes, a list of numbers below 256, are a stream: frames, and a rest that is no whole frame
 abbrev pub EachIsStream : Type 0
 EachIsStream =
     (bytes : List ℕ) → ((i : ℕ) → slice_index bytes i < 256)
     → (frames : List (List ℕ)) × (rest : List ℕ) × IsStream bytes frames rest
 
--- bytes are a stream in one way at most: they determine its frames and its rest
+-- bytes are a stream in one way at most: if they are one of `frames` and `rest`, and one of
+-- `others` and `left`, the frames are the same, and so is the rest
 abbrev pub OneStream : Type 0
 OneStream =
     (bytes : List ℕ) (frames others : List (List ℕ)) (rest left : List ℕ)
     → IsStream bytes frames rest → IsStream bytes others left → (frames ≡ others) × (rest ≡ left)
 
--- whole frames at the front of a stream's bytes are its first ones, and what follows them is a
--- stream of the others
+-- if the bytes of a stream begin with whole frames (`first`), these are its first ones, and what
+-- follows them (`left`) is a stream of its other frames (`more`) with the same rest
 abbrev pub FramesInFront : Type 0
 FramesInFront =
     (bytes : List ℕ) (first frames : List (List ℕ)) (left rest : List ℕ)
@@ -62,7 +63,8 @@ pub record IsReply (tenant command : ℕ) (status : ℤ) (payload : List ℕ) : 
   pub status_fits : FitsSigned w32 status
   pub short : length payload ≤ longest_payload
 
--- bytes begin with one reply at most: they determine its fields and the bytes after it
+-- bytes begin with one reply at most: if they are a reply and a rest, and also another reply and
+-- what is left, both replies have the same fields, and the bytes after them are the same
 abbrev pub OneReplyInFront : Type 0
 OneReplyInFront =
     (tenant other command number : ℕ) (status sign : ℤ) (payload load rest left : List ℕ)

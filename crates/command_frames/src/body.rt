@@ -36,8 +36,8 @@ fn word(bytes: &[u8], at: usize) -> u32
     LittleEndian::read_u32(&bytes[at..])
 }
 
-/// Reads the body of MAP_CREATE, command 0: the type of the map, the sizes of a key and of a value in bytes, the most entries, and the flags,
-/// four bytes each. `Body` if the body has another length.
+/// Reads the body of MAP_CREATE, command 0: the type of the map, the sizes of a key and of a value in bytes, the most entries, and the
+/// flags, four bytes each. `Body` if the body has another length.
 fn map_create(body: &[u8]) -> Result<Command<'_>, BadFrame>
     ensures { shown_result result ≡ command_in 0 body.now }
 {
@@ -66,8 +66,8 @@ fn map_lookup(body: &[u8]) -> Result<Command<'_>, BadFrame>
     })
 }
 
-/// Reads the body of MAP_UPDATE, command 2: a descriptor, eight bytes of flags, then the key and the value. `Body` if it is too short for the
-/// descriptor and the flags.
+/// Reads the body of MAP_UPDATE, command 2: a descriptor, eight bytes of flags, then the key and the value. `Body` if it is too short for
+/// the descriptor and the flags.
 fn map_update(body: &[u8]) -> Result<Command<'_>, BadFrame>
     ensures { shown_result result ≡ command_in 2 body.now }
 {
@@ -120,7 +120,7 @@ fn prog_load(body: &[u8]) -> Result<Command<'_>, BadFrame>
     })
 }
 
-/// Reads the words of the context, in order, without its first one, which is the packet's length.
+/// Reads the ten words of the context that a frame has, in order: all but the context's first one, which is the packet's length.
 fn given_words(bytes: &[u8]) -> [u32; GIVEN_WORDS]
     requires { context_length ≤ length bytes.now }
     ensures { result ≡ words given_words bytes.now }

@@ -2,7 +2,7 @@
 
 use words::GIVEN_WORDS;
 
-/// The tenant of a frame, and the number of its command. The reply has the same.
+/// The tenant of a frame, and the number of its command. The reply to the frame repeats both.
 #[derive(Clone, Copy, Debug, PartialEq, Eq)]
 pub struct Head {
     pub tenant: u16,
@@ -27,6 +27,7 @@ pub enum Command<'a> {
     MapUpdate {
         fd: u32,
         flags: u64,
+        /// The key, and the value after it. The map, which has their lengths, is not known yet, so they are not split.
         key_and_value: &'a [u8],
     },
     MapDelete {
@@ -39,6 +40,7 @@ pub enum Command<'a> {
     },
     ProgLoad {
         kind: u32,
+        /// The bytes of the program, eight for each slot.
         slots: &'a [u8],
     },
     ProgTestRun {

@@ -23,7 +23,7 @@ fn append(frame: &mut Vec<u8>, number: u32) -> Result<(), AllocError>
     frame.extend_from_slice(&number.to_le_bytes())
 }
 
-/// Writes the tenant and the number of a command, which replace the buffer's contents.
+/// Replaces the buffer's contents by the head of a frame: the tenant and the number of the command, two bytes each, little-endian.
 #[inline(always)]
 fn begin(frame: &mut Vec<u8>, tenant: u16, command: u16) -> Result<(), AllocError>
     ensures { OnOk result (frame.new.items ≡ little_bytes 2 tenant ++ little_bytes 2 command) }
@@ -33,7 +33,8 @@ fn begin(frame: &mut Vec<u8>, tenant: u16, command: u16) -> Result<(), AllocErro
     frame.extend_from_slice(&command.to_le_bytes())
 }
 
-/// Writes a frame whose body is a number in four bytes, a descriptor or a type, and then these bytes.
+/// Replaces the buffer's contents by a frame to `tenant`. `command` is the number of its command, and its body is `number` in four bytes, a
+/// descriptor or the type of a program, and then `bytes`.
 #[inline(always)]
 fn write_named(
     frame: &mut Vec<u8>,
@@ -60,7 +61,7 @@ fn append_words(frame: &mut Vec<u8>, words: [u32; GIVEN_WORDS]) -> Result<(), Al
     frame.extend_from_slice(&bytes)
 }
 
-/// Writes the frame of a test run: a descriptor, the words of the context, and the packet.
+/// Replaces the buffer's contents by the frame of a test run, command 10: a descriptor, the words of the context, and the packet.
 #[inline(always)]
 fn write_run(
     frame: &mut Vec<u8>,
@@ -79,8 +80,8 @@ fn write_run(
     frame.extend_from_slice(packet)
 }
 
-/// Writes the frame of a command to a tenant, without its length before it, which replaces the buffer's contents. `parse` reads this command
-/// from the frame, if that is at most `LONGEST_FRAME` bytes long. `AllocError`: out of memory.
+/// Replaces the contents of `frame` by the frame of a command to a tenant, without the length that precedes it on a stream. `parse` reads
+/// this command from the frame, if that is at most `LONGEST_FRAME` bytes long. `AllocError`: out of memory.
 #[inline(always)]
 pub fn write_command(
     tenant: u16,

@@ -3,32 +3,35 @@
 ghost use Rattle.command_frames.specs.Laws.{EachIsStream, OneStream, FramesInFront, EncodingInvertsParsing};
 ghost use Rattle.command_frames.specs.Laws.{FramesHaveOwners, OneReplyInFront};
 
-/// All bytes are a list of frames and a rest that is no whole frame.
+/// A law: all bytes can be split into frames, each after its length, and a rest that does not begin with a whole frame.
 pub fn each_is_stream()
     ensures { EachIsStream }
 {}
 
-/// The frames and the rest of a stream are unique.
+/// A law: bytes can be split into frames and a rest that does not begin with a whole frame in one way at most.
 pub fn one_stream()
     ensures { OneStream }
 {}
 
-/// Whole frames at the front of a stream's bytes are its first ones, and what follows them is a stream of the others.
+/// A law: if the bytes of a stream begin with whole frames, these are its first ones, and the bytes after them are a stream of its other
+/// frames with the same rest.
 pub fn frames_in_front()
     ensures { FramesInFront }
 {}
 
-/// The frame of a command is parsed as this command, and a frame that is parsed as a command is the frame of this command.
+/// A law: the frame of a command is parsed as this command, if its numbers fit and it is at most `LONGEST_FRAME` bytes long. A frame that
+/// is parsed as a command is the frame of this command to its owner, the number in its first two bytes.
 pub fn encoding_inverts_parsing()
     ensures { EncodingInvertsParsing }
 {}
 
-/// The frame of a command to a tenant has this tenant as its owner, the number in its first two bytes.
+/// A law: the frame of a command to a tenant, a number below 2^16, has this tenant as its owner, which is the number in its first two
+/// bytes.
 pub fn frames_have_owners()
     ensures { FramesHaveOwners }
 {}
 
-/// Bytes begin with one reply at most: they determine its tenant, command, status and payload.
+/// A law: bytes begin with one reply at most. They determine its tenant, command, status and payload, and the bytes after it.
 pub fn one_reply_in_front()
     ensures { OneReplyInFront }
 {}

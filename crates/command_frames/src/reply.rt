@@ -51,7 +51,8 @@ impl ReplyBuf {
         })
     }
 
-    /// Takes over a vector; `None` if its capacity is less than the longest reply, 4,108 bytes. Its contents are dropped.
+    /// The buffer with the memory of a vector, whose contents are dropped; `None` if its capacity is less than the longest reply, 4,108
+    /// bytes.
     pub fn from_vec(bytes: Vec<u8>) -> Option<ReplyBuf>
         ensures some { IfSome result (λ reply.
             (reply ≡ []) × (longest_reply ≤ vec_capacity bytes)) }
@@ -90,7 +91,7 @@ impl ReplyBuf {
         self.bytes.clear();
     }
 
-    /// Appends bytes, for which there is room.
+    /// Appends bytes, for which there is room, so `unwrap` never meets an error.
     fn append(&mut self, bytes: &[u8])
         requires { length self.old + length bytes.now ≤ longest_reply }
         ensures { self.new ≡ self.old ++ bytes.now }
@@ -99,7 +100,8 @@ impl ReplyBuf {
     }
 }
 
-/// The bytes of a reply before its payload: `length`, which counts the bytes after it, the tenant, the command and the status.
+/// The bytes of a reply before its payload: `length`, the tenant, the command and the status, all little-endian. `length` is the number of
+/// bytes after the length field.
 fn front(head: Head, status: i32, length: u32) -> [u8; FRONT_LENGTH]
     ensures { result ≡ front_bytes head.tenant head.command status length }
 {

@@ -3,7 +3,7 @@ use Rattle.std.specs.Prelude.{◌≡◌, ℕ, ◌<◌, is_none, List, Option, No
 use Rattle.std.specs.Int.{bit_at}
 use Rattle.fd_table.specs.Table.{most}
 
--- a bit is 0 if its entry is free, and 1 if it is taken
+-- for each index below 64, the bit of the word is 0 if the entry is free, and 1 if it is taken
 abbrev pub TellsTaken : {A : Type 0} → ℕ → List (Option A) → Type 0
 TellsTaken word entries =
     (index : ℕ)

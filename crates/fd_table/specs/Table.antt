@@ -12,8 +12,8 @@ abbrev pub most : ℕ
 most = 64
 
 module _ {A : Type 0} where
-  -- a table has what is open at each index, and a descriptor is 3 above its index: this one has
-  -- nothing
+  -- the table with nothing open. The entry of a table at index k, from 0, is what descriptor 3 + k
+  -- names, and None if that is free
   abbrev pub nothing_open : List (Option A)
   nothing_open = replicate most None
 
@@ -21,14 +21,14 @@ module _ {A : Type 0} where
   abbrev pub flattened : Option (Option A) → Option A
   flattened o = option_and_then (λ x. x) o
 
-  -- what a descriptor names, if it is open
+  -- what a number names: the object that is open at it, and None if it is free or no descriptor
   abbrev pub named : List (Option A) → ℕ → Option A
   named table fd =
       if nat_lt fd first_descriptor
       then None
       else flattened (slice_get table (fd - first_descriptor))
 
-  -- the lowest descriptor that is not open
+  -- the lowest descriptor that is free; None if all are open
   abbrev pub lowest : List (Option A) → Option ℕ
   lowest table = option_map (λ index. first_descriptor + index) (position is_none table)
 
@@ -36,13 +36,13 @@ module _ {A : Type 0} where
   abbrev pub with_open : List (Option A) → ℕ → A → List (Option A)
   with_open table fd x = slice_set table (fd - first_descriptor) (Some x)
 
-  -- the table with descriptor fd closed; it is unchanged if fd is not open
+  -- the table with descriptor fd closed; it is unchanged if fd is free or no descriptor
   abbrev pub with_closed : List (Option A) → ℕ → List (Option A)
   with_closed table fd =
       if nat_lt fd first_descriptor then table else slice_set table (fd - first_descriptor) None
 
-  -- x is opened at the lowest free descriptor; if no descriptor is free, x is returned and the
-  -- table is unchanged
+  -- the first argument is the lowest free descriptor of the table `old`, at which x is opened; if
+  -- it is None, no descriptor is free, x is returned as an error, and the table is unchanged
   abbrev pub OpensLowest : Option ℕ → List (Option A) → A → Result ℕ A → List (Option A) → Type 0
   OpensLowest (Some fd) old x answer new = (answer ≡ Ok fd) × (new ≡ with_open old fd x)
   OpensLowest None old x answer new = (answer ≡ Err x) × (new ≡ old)

@@ -57,7 +57,8 @@ impl<T: Drop> FdTable<T> {
         })
     }
 
-    /// The index of the lowest free entry, which is that of the lowest bit of `taken` that is not set; `None` if all are taken.
+    /// The index of the lowest free entry, which is that of the lowest bit of `taken` that is not set. `None` if all entries are taken:
+    /// then all 64 bits are ones.
     fn free_index(&self) -> Option<usize>
         ensures value { result ≡ position is_none self.now }
         ensures bound { IfSome result (λ index. index < most) }
@@ -73,7 +74,7 @@ impl<T: Drop> FdTable<T> {
         self.free_index().is_none()
     }
 
-    /// Opens `object` at the lowest free descriptor, which it returns.
+    /// Opens `object` at the lowest free descriptor, and returns this number, 3 to 66.
     ///
     /// # Errors
     ///
@@ -91,7 +92,7 @@ impl<T: Drop> FdTable<T> {
         Ok(FIRST + index as u32)
     }
 
-    /// The object that `fd` names; `None` if it is not open.
+    /// The object that `fd` names; `None` if this number is not open, or no descriptor (below 3 or above 66).
     pub fn get(&self, fd: u32) -> Option<&T>
         ensures { option_copied result ≡ named self.now fd }
     {
@@ -99,7 +100,8 @@ impl<T: Drop> FdTable<T> {
         self.entries.get(index)?.as_ref()
     }
 
-    /// Closes `fd`, which is free from then on, and returns what it named; `None` if it is not open.
+    /// Closes `fd`, which is free from then on, and returns what it named. `None`, and nothing changes, if this number is not open, or no
+    /// descriptor (below 3 or above 66).
     pub fn close(&mut self, fd: u32) -> Option<T>
         ensures named { result ≡ named self.old fd }
         ensures closed { self.new ≡ with_closed self.old fd }

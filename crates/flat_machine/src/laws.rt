@@ -11,7 +11,7 @@ use crate::map_words::BoundMaps;
 use arena::Arena;
 use insn_codec::RawSlot;
 
-/// Registers hold words of 64 bits.
+/// A law: the value of each register is less than 2^64.
 #[inline(always)]
 pub(crate) fn words_fit(registers: &Registers)
     ensures { AreWords registers.now }
@@ -19,7 +19,7 @@ pub(crate) fn words_fit(registers: &Registers)
     let _ = registers[0];
 }
 
-/// Bytes are below 256.
+/// A law: each byte is less than 256.
 #[inline(always)]
 pub(crate) fn bytes_fit(bytes: &[u8])
     ensures { (k : ℕ) → slice_index bytes.now k < 256 }
@@ -27,8 +27,8 @@ pub(crate) fn bytes_fit(bytes: &[u8])
     let _ = bytes.len();
 }
 
-/// If there is a next instruction with these maps and this memory, there is one of which only the maps are known, only the memory, or
-/// neither: each arm requires no more than its step reads.
+/// A law: if there is a next instruction with these maps and this memory (`HasNext`), there is one with only the maps known, one with only
+/// the memory known, and one with neither. Each arm requires no more than its step reads.
 #[inline(always)]
 pub(crate) fn has_some_next(maps: BoundMaps, rest: &[RawSlot], registers: &Registers, arena: &Arena)
     requires { HasNext rest.now registers.now

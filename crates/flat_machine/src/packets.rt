@@ -31,8 +31,8 @@ pub enum PacketFault {
     TooLong,
 }
 
-/// Packets that lie one after another in some bytes, of at most `LONGEST_PACKET` bytes each, with the words of their contexts: the
-/// same for all, or an array for each. Contracts see the list of packets, each with its words.
+/// Packets that lie one after another in some bytes, of at most `LONGEST_PACKET` bytes each, with the words of their contexts:
+/// `contexts` has one array for all packets, or one for each. Contracts see the list of packets, each with its words.
 #[derive(Drop)]
 pub struct Packets<'a> {
     pub(crate) contexts: &'a [[u32; GIVEN_WORDS]],
@@ -53,7 +53,7 @@ impl<'a> Model for Packets<'a> {
         ≡ None };
 }
 
-/// Whether so many arrays of words of context are one for all packets, or one for each.
+/// Whether this number of arrays of words of context is 1, one for all packets, or that of the packets, one for each.
 #[inline(always)]
 fn are_enough(contexts: usize, packets: usize) -> bool
     ensures { result ≡ are_contexts contexts packets }
@@ -62,7 +62,8 @@ fn are_enough(contexts: usize, packets: usize) -> bool
 }
 
 /// Whether it is seen at once that packets with these ends are in order, in `many` bytes, and shorter than `LONGEST_PACKET`: the bits of
-/// all lengths and of all ends are collected, without a test for each packet. A negative length has the highest bit. `false` means nothing.
+/// all lengths and of all ends are collected, without a test for each packet. A negative length has the highest bit. If it is `false`, the
+/// packets may still be accepted.
 #[inline(always)]
 fn are_plain(many: usize, ends: &[usize]) -> bool
     ensures { result ≡ true → packets_fault many 0 ends.now ≡ None }
@@ -97,8 +98,8 @@ fn first_fault(many: usize, ends: &[usize]) -> Option<PacketFault>
     None
 }
 
-/// Why packets with these ends, in `many` bytes, are refused; `None` if they are not. Most are seen to be right at once; a packet of just
-/// `LONGEST_PACKET` bytes is not.
+/// Why packets with these ends, in `many` bytes, are refused; `None` if they are not. Most are accepted at once (`are_plain`), but not
+/// those with a packet of just `LONGEST_PACKET` bytes: they are tested in turn.
 #[inline(always)]
 fn fault_of(many: usize, ends: &[usize]) -> Option<PacketFault>
     ensures { result ≡ packets_fault many 0 ends.now }

@@ -21,7 +21,8 @@ abbrev pub HasInsn : List ℕ → Type 0
 HasInsn bytes = (i : Insn) × IsInsn i × Begins i bytes
 
 -- the bytes begin with no instruction, and this is the reason; a register field has room for 0 to
--- 15, section 3.1, of which 10 is the last register. The kinds that are left are of whole programs
+-- 15, section 3.1, of which 10 is the last register. Empty, TooLong and Memory are kinds of whole
+-- programs, and never the reason
 abbrev pub HasFault : List ℕ → FaultKind → Type 0
 HasFault bytes Ragged = length bytes < 8
 HasFault bytes Opcode = (8 ≤ length bytes) × ¬ HasOpcode bytes

@@ -46,7 +46,7 @@ pub(crate) fn check_fields(is_listed: bool, slot: &RawSlot) -> Result<(), FaultK
 }
 
 /// Reads an operation on two operands into `entry`; it has no second slot (`None`). `op` is the operator of the opcode at offset 0: another
-/// offset makes a division or a remainder signed, and is the number of bits from which a move extends the sign.
+/// offset makes a division or a remainder signed, and is the number of bits from which a move extends the sign, 8, 16 or 32 (`_`).
 #[inline(always)]
 fn read_operation(
     wide: bool,
@@ -113,7 +113,8 @@ fn read_negation(wide: bool, entry: &mut Insn, slot: &RawSlot) -> Result<Option<
     Ok(None)
 }
 
-/// Reads a byte-order conversion into `entry`; it has no second slot (`None`). The immediate is the number of bits that it keeps.
+/// Reads a byte-order conversion into `entry`; it has no second slot (`None`). The immediate is the number of bits that it keeps,
+/// 16, 32 or 64 (`_`).
 #[inline(always)]
 fn read_byte_order(
     how: ByteOrder,
@@ -143,7 +144,7 @@ fn read_byte_order(
 }
 
 /// Reads a negation (code 8) or a byte-order conversion (code 13) into `entry`; it has no second slot (`None`). No operator with two
-/// operands has these codes; the fault of another one is `Opcode`.
+/// operands has these codes. All that is left is no instruction's opcode, so the fault is `Opcode`. `wide` is class ALU64.
 fn read_one_operand(
     wide: bool,
     entry: &mut Insn,
@@ -275,7 +276,8 @@ fn read_exit(entry: &mut Insn, slot: &RawSlot) -> Result<Option<RawSlot>, FaultK
 }
 
 /// Reads a jump without a condition (code 0), a call (code 8) or the exit (code 9) into `entry`; it has no second slot (`None`). No
-/// condition has these codes; the fault of another one is `Opcode`. `wide` is class JMP, which has all three; JMP32 has only the jump.
+/// condition has these codes. `wide` is class JMP, which has all three; JMP32 has only the jump. All that is left is no
+/// instruction's opcode, so the fault is `Opcode`.
 fn read_unconditional(
     wide: bool,
     entry: &mut Insn,
@@ -371,7 +373,8 @@ pub(crate) fn read_store(
     Ok(None)
 }
 
-/// Reads an atomic operation into `entry` (RFC 9669, section 5.3); it has no second slot (`None`). The immediate selects the operation.
+/// Reads an atomic operation into `entry` (RFC 9669, section 5.3); it has no second slot (`None`). The immediate selects the operation; if
+/// it selects none, `check_fields` has returned the fault before `op` is taken.
 fn read_atomic(
     size: AtomicSize,
     entry: &mut Insn,

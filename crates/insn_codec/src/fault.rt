@@ -13,7 +13,8 @@ pub enum FaultKind {
     Reserved = 2,
     /// A register's number is above 10.
     Register = 3,
-    /// The second slot of a wide instruction is missing, or is not all zero, except for a number that the instruction uses.
+    /// The second slot of a wide instruction is missing, or has a field that is not zero. The immediate may be any number, if the
+    /// instruction uses it.
     SecondSlot = 4,
     /// The number of bytes is no multiple of eight.
     Ragged = 5,
@@ -36,7 +37,8 @@ impl FaultKind {
     }
 }
 
-/// A fault and its slot; for a wide instruction, its first slot.
+/// A fault and its slot, which is the first slot of a faulty instruction. Of other faults it is 0 for `Empty` and `Memory`, the maximum
+/// number of slots for `TooLong`, and the number of whole slots for `Ragged`.
 #[derive(Clone, Copy, Debug, PartialEq, Eq)]
 pub struct CodecFault {
     pub slot: usize,

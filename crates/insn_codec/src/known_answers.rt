@@ -17,14 +17,14 @@ fn wide(value: u64) -> Insn
     Insn::Const { dst, value }
 }
 
-/// The kinds of faults have the numbers 1 to 8.
+/// The first kind of fault, `Opcode`, has number 1, and the last one, `Memory`, number 8.
 fn kinds_of_faults() {
     let (first, last) = (FaultKind::Opcode.number(), FaultKind::Memory.number());
     prove!(first == 1);
     prove!(last == 8);
 }
 
-/// The exit is written in 8 bytes, and the bytes after them are unchanged. A wide load of 0xffff_ffff_0000_0007 is written in 16: the low
+/// The exit is written in 8 bytes, and the byte after them is unchanged. A wide load of 0xffff_ffff_0000_0007 is written in 16: the low
 /// half of the number begins at byte 4, and the high half ends at byte 15.
 #[tactic(auto, unfolding(insn_set::specs::Spelling::spelling))]
 fn written_instructions() {
@@ -46,7 +46,7 @@ fn read_instruction() {
     prove!(is_exit);
 }
 
-/// The kind of the fault at the front, by the contract of `decode`.
+/// The kind of the fault at the front of the bytes, by the contract of `decode`; `None` if they begin with an instruction.
 fn kind_at_front(bytes: &[u8]) -> Option<FaultKind>
     ensures { (kind : AnyKind) → HasFault bytes.now kind → result ≡ Some kind }
 {
@@ -85,7 +85,7 @@ fn places_of_a_program(alloc: Global) -> Result<(), CodecFault> {
     Ok(())
 }
 
-/// The slots for a run of a wide load have the low half of its number in the first one, and the high half in the second.
+/// A wide load in `run_slots`: its first slot has the register and the low half of the number, its second the high half.
 fn spelled_program(alloc: Global) -> Result<(), CodecFault> {
     let program = Program::new(alloc, &[wide(0x7_0000_0009), Insn::Exit])?;
     let run_slots = program.run_slots();
@@ -96,7 +96,7 @@ fn spelled_program(alloc: Global) -> Result<(), CodecFault> {
     Ok(())
 }
 
-/// Of the eight bytes of an exit a program of one slot is read. The memory for it may be refused.
+/// The eight bytes of an exit are read as a program of one slot, unless the memory for it is refused.
 fn read_program_of_an_exit(alloc: Global) -> Result<(), CodecFault> {
     let program = read_program(alloc, &[0x95, 0, 0, 0, 0, 0, 0, 0])?;
     let slots = program.slots();

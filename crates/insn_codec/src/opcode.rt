@@ -34,7 +34,7 @@ impl SourceBit {
         }
     }
 
-    /// Whether the operand field that is not used is zero.
+    /// Whether the operand field that this source bit does not select is zero.
     pub(crate) fn lists_operand(self, slot: &RawSlot) -> bool
         ensures { result ≡ one_operand self (fields slot.now) }
     {
@@ -44,7 +44,7 @@ impl SourceBit {
         }
     }
 
-    /// The second operand of a slot; `src` is the register of its source field.
+    /// The second operand of a slot, whose unused operand field is zero; `src` is the register of its source field.
     pub(crate) fn operand(self, slot: &RawSlot, src: Reg) -> Operand
         requires listed { IsTrue (one_operand self (fields slot.now)) }
         requires src { (fields slot.now).src ≡ src }
@@ -70,7 +70,7 @@ pub(crate) fn lists_offset(op: AluOp, wide: bool, source: SourceBit, offset: u16
 }
 
 /// Whether an instruction with the opcode of this operator may have this offset, which is not 0: 1 is for a signed division or remainder,
-/// and 8, 16 or 32 are the bits from which a move extends the sign.
+/// and 8, 16 or 32 are the bits from which a move extends the sign. Other operators have only offset 0.
 fn lists_other_offset(op: AluOp, wide: bool, source: SourceBit, offset: u16) -> bool
     requires { offset ≢ 0 }
     ensures { result ≡ offset_listed wide op source offset }
@@ -82,7 +82,8 @@ fn lists_other_offset(op: AluOp, wide: bool, source: SourceBit, offset: u16) -> 
     }
 }
 
-/// The signed operator that shares the opcode of this one, a division or a remainder: at offset 1 it is meant.
+/// The signed operator with the opcode of `op`, which is meant at offset 1. By the precondition an offset of 1 is allowed, so `op` is `Div`
+/// or `Mod`.
 pub(crate) fn signed_form(op: AluOp) -> AluOp
     requires { IsTrue (offset_listed false op source_variant.Imm 1) }
     ensures number { alu_number result ≡ alu_number op }
@@ -108,8 +109,8 @@ pub(crate) fn size_at(code: u8) -> AccessSize
     }
 }
 
-/// Whether a slot is the second slot of a wide load with this source field: all fields are zero, except for a number that the load
-/// uses (RFC 9669, section 5.4).
+/// Whether `next` is the second slot of a wide load with source field `src`: all fields are zero, except for the immediate, which a load of
+/// a number (0) or of an address in a value (2) uses, and a load of a map (1) does not (RFC 9669, section 5.4).
 pub(crate) fn lists_second(src: u8, next: &RawSlot) -> bool
     ensures { result ≡ is_second src (fields next.now) }
 {

@@ -20,7 +20,8 @@ use insn_set::{Insn, RawSlot, Reg};
 
 /// Reads a wide instruction into `entry` (RFC 9669, section 5.4). `slot` is its first slot, whose fields are checked, `dst` the register in
 /// its destination field, and `rest` the bytes after it. Returns the second slot, which is at the front of `rest`; `SecondSlot` if it is
-/// missing or wrong. The source field is 0 for a number of 64 bits, 1 for a map, and 2 for an address in the first value of a map.
+/// missing or wrong. The source field is 0 for a number of 64 bits, 1 for a map, and 2 for an address in the first value of a map; by the
+/// precondition `listed` it is no other, so `_` is 2.
 fn read_wide(entry: &mut Insn, slot: &RawSlot, dst: Reg, rest: &[u8]) -> Result<RawSlot, FaultKind>
     requires opcode { slot.now.opcode ≡ 0x18 }
     requires listed { IsTrue (listed Wide (fields slot.now)) }
@@ -56,8 +57,8 @@ fn read_wide(entry: &mut Insn, slot: &RawSlot, dst: Reg, rest: &[u8]) -> Result<
     Ok(next)
 }
 
-/// Reads an instruction of class LD into `entry`: a wide load, whose opcode is 0x18. `slot` is its first slot, and `rest` the bytes after
-/// that. Returns its second slot.
+/// Reads an instruction of class LD into `entry`: a wide load, whose opcode is 0x18; another opcode has the fault `Opcode`. `slot` is its
+/// first slot, and `rest` the bytes after that. Returns its second slot, never `None`.
 #[tactic(auto, unfolding(crate::specs::inside::Form::form_at))]
 fn read_class_ld(
     entry: &mut Insn,
@@ -81,7 +82,8 @@ fn read_class_ld(
 }
 
 /// Reads the instruction whose first slot is `slot` into `entry`, by its class, the opcode's low three bits (RFC 9669, section 3.3). `rest`
-/// are the bytes after that slot. Returns its second slot if it is wide, else `None`.
+/// are the bytes after that slot. The classes 0 to 7 are LD, LDX, ST, STX, ALU, JMP, JMP32 and ALU64. Returns the second slot if the
+/// instruction is wide, else `None`.
 #[inline(always)]
 #[tactic(auto, unfolding(crate::specs::inside::Form::form_at))]
 fn read_slot(entry: &mut Insn, slot: &RawSlot, rest: &[u8]) -> Result<Option<RawSlot>, FaultKind>
@@ -104,8 +106,8 @@ fn read_slot(entry: &mut Insn, slot: &RawSlot, rest: &[u8]) -> Result<Option<Raw
     }
 }
 
-/// Reads the instruction at the front of the bytes into `entry`: without a copy, since an instruction is as large as two slots. `first` is the
-/// slot in their first eight bytes. Returns whether the instruction is wide.
+/// Reads the instruction at the front of the bytes into `entry`: without a copy, since an instruction is as large as two slots. `first` is
+/// the slot in their first eight bytes. Returns whether the instruction is wide.
 #[inline(always)]
 #[tactic(auto, unfolding(crate::specs::inside::FirstFault::first_fault))]
 pub(crate) fn read_from(entry: &mut Insn, first: &RawSlot, bytes: &[u8]) -> Result<bool, FaultKind>
@@ -140,10 +142,10 @@ fn read_front(entry: &mut Insn, bytes: &[u8]) -> Result<(), FaultKind>
 /// Always at slot 0: `Ragged` if there are fewer than eight bytes, else the lowest of `Opcode`, `Reserved`, `Register` and
 /// `SecondSlot` that applies (RFC 9669, section 3: unused fields are zero).
 pub fn decode(bytes: &[u8]) -> Result<(Insn, usize), CodecFault>
-    // What is returned is spelled at the front.
+    // The bytes begin with the spelling of the instruction that is returned.
     ensures found { IfOk result (λ found. IsInsn found.0 × Begins found.0 bytes.now
         × (found.1 ≡ length (slots found.0))) }
-    // What is spelled at the front is returned.
+    // If the bytes begin with the spelling of an instruction, it is returned.
     ensures only { (insn : Insn) → IsInsn insn → Begins insn bytes.now → result
         ≡ Ok (insn, length (slots insn)) }
     // An error is the fault at the front.

@@ -10,7 +10,7 @@ ghost use Rattle.insn_set.specs.Numbers.{opcode as opcode_from, memory_opcode, a
 use insn_set::{Insn, Operand, RawSlot, alu_number, alu_offset, condition_number};
 use words::{AccessSize, ByteOrder};
 
-/// The code of a size (RFC 9669, section 5).
+/// The code of a size, two bits of an opcode (RFC 9669, section 5).
 fn size_number(size: AccessSize) -> u8
     ensures value { result ≡ size_number size }
     ensures bound { result ≤ 3 }
@@ -117,7 +117,9 @@ fn raw_slot(opcode: u8, dst: u8, src: u8, offset: u16, imm: u32) -> RawSlot
 }
 
 /// The first slot of an instruction. `raw_slot` takes the opcode, the destination, the source, the offset and the immediate, of which those
-/// that the instruction does not use are 0.
+/// that the instruction does not use are 0. Code 11 with source bit 1 is a move of a register, code 8 a negation; the modes are 3 (MEM), 4
+/// (MEMSX, a load that extends the sign) and 6 (ATOMIC). The source field of a wide load is 0 for a number, 1 for a map, 2 for an address
+/// in its value.
 fn first(insn: &Insn) -> RawSlot
     ensures { fields result ≡ first_slot insn.now }
 {
@@ -209,7 +211,8 @@ fn first(insn: &Insn) -> RawSlot
     }
 }
 
-/// The second slot of an instruction, if it is wide: all fields are 0, except for the immediate (RFC 9669, section 5.4).
+/// The second slot of an instruction; `None` if it has one slot. All fields are 0, except for the immediate: the high half of a number, or
+/// the offset in a map's value (RFC 9669, section 5.4).
 fn second(insn: &Insn) -> Option<RawSlot>
     ensures { second_slot insn.now ≡ map fields (option_to_list result) }
 {

@@ -19,7 +19,7 @@ order_name Swap bits.Bits16 = codes "bswap16"
 order_name Swap bits.Bits32 = codes "bswap32"
 order_name Swap bits.Bits64 = codes "bswap64"
 
--- the name of the sign extension from this many low bits
+-- the name of the sign extension that starts from this many low bits
 abbrev pub narrow_name : ExtendedBits → List ℕ
 narrow_name narrow.Bits8 = codes "s8"
 narrow_name narrow.Bits16 = codes "s16"

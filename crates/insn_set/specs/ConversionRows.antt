@@ -7,7 +7,7 @@ use Rattle.words.specs.declared.operator.ExtendedBits.{ExtendedBits}
 use Rattle.insn_set.specs.declared.conversion.TheConstants.{ORDERS, EXTENSIONS}
 use Rattle.insn_set.specs.Table.{named}
 
--- each name and its byte-order conversion
+-- the rows of the code (`ORDERS`): each name and its byte-order conversion
 abbrev pub orders : List (List ℕ × (ByteOrder × KeptBits))
 orders = map (λ row. (row.0.now, row.1)) ORDERS
 
@@ -15,10 +15,11 @@ orders = map (λ row. (row.0.now, row.1)) ORDERS
 abbrev pub order_by_name : List ℕ → Option (ByteOrder × KeptBits)
 order_by_name n = named orders n
 
--- each name and its sign extension
+-- the rows of the code (`EXTENSIONS`): each name and the number of bits from which its sign
+-- extension starts
 abbrev pub extensions : List (List ℕ × ExtendedBits)
 extensions = map (λ row. (row.0.now, row.1)) EXTENSIONS
 
--- the number of bits of the sign extension with this name, if there is one
+-- the number of low bits from which the sign extension with this name starts, if there is one
 abbrev pub narrow_by_name : List ℕ → Option ExtendedBits
 narrow_by_name n = named extensions n

@@ -21,7 +21,8 @@ natural (negsuc n) = None
 abbrev pub falls_to : Insn → ℕ → ℕ
 falls_to i at = at + length (slots i)
 
--- the distance of the jump, in slots from the next one; 0 if there is no jump
+-- the distance of the jump among an instruction's successors, in slots from the next one; 0 if
+-- there is no jump
 abbrev pub offset_by : Successors → ℤ
 offset_by Next = pos 0
 offset_by (Jump off) = off
@@ -32,12 +33,12 @@ offset_by Nothing = pos 0
 abbrev pub jump_offset : Insn → ℤ
 jump_offset i = offset_by (profile i).successors
 
--- the slot at the distance of an instruction's jump from the slot after it, for an instruction at
--- this slot; None below slot 0
+-- the slot to which an instruction at this slot jumps: at its distance from the slot after this
+-- one; None below slot 0. It is meant for jumps: the distance of another instruction is 0
 abbrev pub jumps_to : Insn → ℕ → Option ℕ
 jumps_to i at = natural (pos (at + 1) +ℤ jump_offset i)
 
--- whether control may pass to the next instruction
+-- whether control may pass to the next instruction, by an instruction's successors
 abbrev pub falls_by : Successors → Bool
 falls_by Next = true
 falls_by (Jump off) = false
@@ -48,7 +49,7 @@ falls_by Nothing = false
 abbrev pub falls : Insn → Bool
 falls i = falls_by (profile i).successors
 
--- whether control may pass to a jump's target
+-- whether control may pass to a jump's target, by an instruction's successors
 abbrev pub jumps_by : Successors → Bool
 jumps_by Next = false
 jumps_by (Jump off) = true
@@ -75,13 +76,13 @@ jump_target i at = target_by (profile i).successors at
 abbrev pub written_register : Insn → Option ℕ
 written_register i = (profile i).written
 
--- the descriptor of the map that is named, itself or by its first value, if any
+-- the descriptor of the map that is named, or whose first value is; None if there is none
 abbrev pub descriptor_by : Reference → Option ℕ
 descriptor_by names.Nothing = None
 descriptor_by (names.Helper id) = None
 descriptor_by (names.Map fd) = Some fd
 descriptor_by (names.Value fd off) = Some fd
 
--- the descriptor of the map that an instruction names, itself or by its first value, if any
+-- the descriptor of the map that an instruction names, or whose first value it names, if any
 abbrev pub descriptor : Insn → Option ℕ
 descriptor i = descriptor_by (profile i).reference

@@ -4,7 +4,7 @@ use Rattle.words.specs.declared.stack.AccessSize.{AccessSize}
 use Rattle.words.specs.declared.stack.AccessSize.TheVariants as size
 use Rattle.insn_set.specs.Numbers.{load_mode, memory_opcode}
 
--- the opcode of a load, by whether it extends the sign and its size
+-- the opcode of a load (class LDX, 1), by whether it extends the sign and its size
 abbrev pub load_opcode : Bool → AccessSize → ℕ
 load_opcode signed s = memory_opcode (load_mode signed) s 1
 

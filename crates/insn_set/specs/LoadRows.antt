@@ -5,7 +5,8 @@ use Rattle.words.specs.declared.stack.AccessSize.{AccessSize}
 use Rattle.insn_set.specs.declared.load.TheConstants.{LOADS}
 use Rattle.insn_set.specs.Table.{Row, by_number, by_symbol}
 
--- each load, its opcode and the name of its size
+-- the rows of the code (`LOADS`): each load, by whether it extends the sign and its size, its
+-- opcode and the name of its size
 abbrev pub load_rows : List (Row (Bool × AccessSize))
 load_rows = map (λ row. (row.0, row.1, row.2.now)) LOADS
 

@@ -7,16 +7,18 @@ use Rattle.words.specs.declared.operator.ByteOrder.TheVariants.{Little, Big, Swa
 use Rattle.words.specs.declared.stack.AccessSize.{AccessSize}
 use Rattle.words.specs.declared.stack.AccessSize.TheVariants as size
 
--- arithmetic and jumps, section 4: four bits of code, one of source, three of class
+-- the opcode of an arithmetic instruction or a jump, section 4: four bits of code, one of source,
+-- three of class
 abbrev pub opcode : ℕ → ℕ → ℕ → ℕ
 opcode code source class = 16 * code + 8 * source + class
 
--- section 3.3: ALU64, on 64 bits, or ALU, on 32
+-- the class of an arithmetic instruction, section 3.3: ALU64 if it works on 64 bits (`true`), ALU
+-- if on 32
 abbrev pub alu_class : Bool → ℕ
 alu_class true = 7
 alu_class false = 4
 
--- section 3.3: JMP, which compares 64 bits, or JMP32
+-- the class of a conditional jump, section 3.3: JMP if it compares 64 bits (`true`), JMP32 if 32
 abbrev pub jump_class : Bool → ℕ
 jump_class true = 5
 jump_class false = 6
@@ -28,18 +30,20 @@ size_number size.Half = 1
 size_number size.Byte = 2
 size_number size.Double = 3
 
--- section 4.2: the opcode of a byte-order conversion: class ALU with source bit 0 or 1, and ALU64
+-- the opcode of a byte-order conversion, section 4.2, of code 13: class ALU with source bit 0 to
+-- little-endian and 1 to big-endian, class ALU64 for a swap
 abbrev pub end_opcode : ByteOrder → ℕ
 end_opcode Little = opcode 13 0 4
 end_opcode Big = opcode 13 1 4
 end_opcode Swap = opcode 13 0 7
 
--- section 5: the mode of a load, MEM, or MEMSX if it extends the sign
+-- the mode of a load, section 5: MEM, or MEMSX if it extends the sign (`true`)
 abbrev pub load_mode : Bool → ℕ
 load_mode false = 3
 load_mode true = 4
 
--- loads and stores, section 5: three bits of mode, two of size, three of class
+-- the opcode of a load, a store or an atomic operation, section 5: three bits of mode, two of size,
+-- three of class
 abbrev pub memory_opcode : ℕ → AccessSize → ℕ → ℕ
 memory_opcode mode s class = 32 * mode + 8 * size_number s + class
 

@@ -5,7 +5,8 @@ use Rattle.words.specs.declared.operator.AluOp.{AluOp}
 use Rattle.words.specs.declared.operator.AluOp.TheVariants.{Add, Sub, Mul, Div, SignedDiv, Or, And, ShiftLeft}
 use Rattle.words.specs.declared.operator.AluOp.TheVariants.{ShiftRight, Mod, SignedMod, Xor, Mov, SignedShiftRight}
 
--- the code of an operator, the upper four bits of its opcode; a signed one has the unsigned one's
+-- the code of an operator, the upper four bits of its opcode; signed division and remainder have
+-- that of the unsigned ones
 abbrev pub alu_number : AluOp → ℕ
 alu_number Add = 0
 alu_number Sub = 1
@@ -22,7 +23,8 @@ alu_number Xor = 10
 alu_number Mov = 11
 alu_number SignedShiftRight = 12
 
--- the offset in the slot of an operator: division and remainder are signed at offset 1
+-- the offset field that selects an operator among those of its code: 1 for signed division and
+-- remainder, else 0
 abbrev pub alu_offset : AluOp → ℕ
 alu_offset SignedDiv = 1
 alu_offset SignedMod = 1

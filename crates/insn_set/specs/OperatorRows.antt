@@ -5,11 +5,11 @@ use Rattle.words.specs.declared.operator.AluOp.{AluOp}
 use Rattle.insn_set.specs.declared.operator.TheConstants.{OPERATORS}
 use Rattle.insn_set.specs.Table.{Row, by_number, by_symbol}
 
--- each operator, its code and its symbol
+-- the rows of the code (`OPERATORS`): each operator, its code and its symbol
 abbrev pub alu_rows : List (Row AluOp)
 alu_rows = map (λ row. (row.0, row.1, row.2.now)) OPERATORS
 
--- the first operator with this code: of two, the unsigned one
+-- the first operator with this code, the unsigned one of two; None if no operator has it
 abbrev pub alu_by_number : ℕ → Option AluOp
 alu_by_number n = by_number alu_rows n
 

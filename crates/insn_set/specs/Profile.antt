@@ -15,8 +15,9 @@ use Rattle.insn_set.specs.declared.profile.Reference.{Reference}
 use Rattle.insn_set.specs.declared.profile.Reference.TheVariants as names
 use Rattle.insn_set.specs.declared.profile.Profile.{Profile}
 
--- the row of an instruction: the registers of its first and its second operand, if it reads them,
--- the register that it writes, its successors, what it names, and the number of its slots
+-- the row of an instruction with these fields: the registers of its first and its second operand,
+-- if it reads them; the register that it writes; its successors; what it names; the number of its
+-- slots
 abbrev pub row : Option ℕ → Option ℕ → Option ℕ → Successors → Reference → ℕ → Profile
 row first second written successors reference slots =
     record {
@@ -28,35 +29,39 @@ row first second written successors reference slots =
       slots = slots;
     }
 
--- the register of an operand, if it is one
+-- the register of an operand; None for a constant
 abbrev pub register_of : Operand → Option ℕ
 register_of (Imm n) = None
 register_of (Reg r) = Some r
 
--- the first operand of an operation, if it reads one: a move does not, section 4.1
+-- the register of an operation's first operand, its destination; None for a move, which does not
+-- read it (section 4.1)
 abbrev pub first_operand : AluOp → ℕ → Option ℕ
 first_operand Mov dst = None
 first_operand op dst = Some dst
 
--- what a wide load names
+-- what a wide load names: nothing if it loads a number, else a map or a byte in the first value of
+-- one
 abbrev pub reference_of : WideValue → Reference
 reference_of (immediate n) = names.Nothing
 reference_of (map_ref fd) = names.Map fd
 reference_of (value_ref fd off) = names.Value fd off
 
--- the register of the value that an access writes, if it is in one
+-- the source register of an access, if it has one: that of a store of a register, or of an atomic
+-- operation
 abbrev pub stored_register : Access → Option ℕ
 stored_register (loads size signed dst) = None
 stored_register (stores size src) = register_of src
 stored_register (changes size op src) = Some src
 
--- the register that an access writes: only a load has one
+-- the register into which an access loads, if it is a load
 abbrev pub loaded_register : Access → Option ℕ
 loaded_register (loads size signed dst) = Some dst
 loaded_register (stores size src) = None
 loaded_register (changes size op src) = None
 
--- the row of an instruction, by what it does (`view`)
+-- the row of an instruction, by what it does (`view`). An exit reads register 0, the result; the
+-- row of a call has neither the arguments that it reads nor the registers that it changes
 abbrev pub profile_of : View → Profile
 profile_of (binary wide op dst src) =
     row (first_operand op dst) (register_of src) (Some dst) to.Next names.Nothing 1
@@ -70,6 +75,7 @@ profile_of (wide_load dst value) = row None None (Some dst) to.Next (reference_o
 profile_of (call id) = row None None None to.Next (names.Helper id) 1
 profile_of exit = row (Some 0) None None to.Nothing names.Nothing 1
 
--- the row of an instruction
+-- the row of an instruction: what it reads, writes and names, its successors, and the number of its
+-- slots
 abbrev pub profile : Insn → Profile
 profile i = profile_of (view i)

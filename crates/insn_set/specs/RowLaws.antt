@@ -43,11 +43,11 @@ pub atomic_symbol_again : (op : AtomicOp) → atomic_by_symbol (atomic_symbol op
 atomic_symbol_again Add = refl
 atomic_symbol_again _ = refl
 
--- an atomic operation that is found by an immediate has it
+-- the atomic operation that is found by an immediate has this immediate
 pub atomic_number_is : (n : ℕ) (op : AtomicOp) → atomic_by_number n ≡ Some op → atomic_number op ≡ n
 atomic_number_is n op e = number_of atomic_number atomic_rows n op refl e
 
--- an atomic operation that is found by a symbol has it
+-- the atomic operation that is found by a symbol has this symbol
 pub atomic_symbol_is : (s : List ℕ) (op : AtomicOp)
     → atomic_by_symbol s ≡ Some op
     → atomic_symbol op ≡ s
@@ -65,13 +65,13 @@ pub condition_symbol_again : (c : Condition) → condition_by_symbol (condition_
 condition_symbol_again Equal = refl
 condition_symbol_again _ = refl
 
--- a condition that is found by a code has it
+-- the condition that is found by a code has this code
 pub condition_number_is : (n : ℕ) (c : Condition)
     → condition_by_number n ≡ Some c
     → condition_number c ≡ n
 condition_number_is n c e = number_of condition_number condition_rows n c refl e
 
--- a condition that is found by a symbol has it
+-- the condition that is found by a symbol has this symbol
 pub condition_symbol_is : (s : List ℕ) (c : Condition)
     → condition_by_symbol s ≡ Some c
     → condition_symbol c ≡ s
@@ -79,7 +79,8 @@ condition_symbol_is s c e = symbol_of condition_symbol condition_rows s c refl e
 
 -- ---- operators: of two with one code, the unsigned one is found
 
--- the operator with the same code as this one, and offset 0
+-- the operator at offset 0 with this operator's code: the unsigned one of two, else the operator
+-- itself
 abbrev pub unsigned_of : AluOp → AluOp
 unsigned_of op.SignedDiv = op.Div
 unsigned_of op.SignedMod = op.Mod
@@ -95,17 +96,17 @@ pub alu_symbol_again : (o : AluOp) → alu_by_symbol (alu_symbol o) ≡ Some o
 alu_symbol_again op.Add = refl
 alu_symbol_again _ = refl
 
--- an operator that is found by a code has it
+-- the operator that is found by a code has this code
 pub alu_number_is : (n : ℕ) (o : AluOp) → alu_by_number n ≡ Some o → alu_number o ≡ n
 alu_number_is n o e = number_of alu_number alu_rows n o refl e
 
--- an operator that is found by a symbol has it
+-- the operator that is found by a symbol has this symbol
 pub alu_symbol_is : (s : List ℕ) (o : AluOp) → alu_by_symbol s ≡ Some o → alu_symbol o ≡ s
 alu_symbol_is s o e = symbol_of alu_symbol alu_rows s o refl e
 
 -- ---- loads: a double word has no sign extension
 
--- a load is found by its opcode
+-- a load is found by its opcode; no load is a double word with sign extension
 pub load_opcode_again : (signed : Bool) (s : AccessSize)
     → IsTrue (not (signed && is_double s))
     → load_by_opcode (load_opcode signed s) ≡ Some (signed, s)
@@ -113,7 +114,8 @@ load_opcode_again true Double h = absurd (false≢true h)
 load_opcode_again false Byte h = refl
 load_opcode_again _ _ h = refl
 
--- the size of a load is found by its name
+-- the size of a load, and whether it extends the sign, are found by its name; no load is a double
+-- word with sign extension
 pub size_name_again : (signed : Bool) (s : AccessSize)
     → IsTrue (not (signed && is_double s))
     → size_by_name (size_name signed s) ≡ Some (signed, s)
@@ -121,7 +123,7 @@ size_name_again true Double h = absurd (false≢true h)
 size_name_again false Byte h = refl
 size_name_again _ _ h = refl
 
--- a load that is found by an opcode has it
+-- the load that is found by an opcode has this opcode
 pub load_opcode_is : (n : ℕ) (l : Bool × AccessSize)
     → load_by_opcode n ≡ Some l
     → load_opcode l.0 l.1 ≡ n
@@ -139,7 +141,7 @@ pub size_listed : (s : List ℕ) (l : Bool × AccessSize)
     → IsTrue (not (l.0 && is_double l.1))
 size_listed s l e = found_symbol (λ l _. not (l.0 && is_double l.1)) load_rows s l refl e
 
--- a size that is found by a name has it
+-- the size that is found by a name has this name
 pub size_name_is : (s : List ℕ) (l : Bool × AccessSize)
     → size_by_name s ≡ Some l
     → size_name l.0 l.1 ≡ s
@@ -155,7 +157,7 @@ order_name_again Big Bits16 = refl
 order_name_again Swap Bits16 = refl
 order_name_again _ _ = refl
 
--- a byte-order conversion that is found by a name has it
+-- the byte-order conversion that is found by a name has this name
 pub order_name_is : (s : List ℕ) (o : ByteOrder × KeptBits)
     → order_by_name s ≡ Some o
     → order_name o.0 o.1 ≡ s
@@ -166,6 +168,6 @@ pub narrow_name_again : (b : ExtendedBits) → narrow_by_name (narrow_name b) �
 narrow_name_again narrow.Bits8 = refl
 narrow_name_again _ = refl
 
--- a sign extension that is found by a name has it
+-- the sign extension that is found by a name has this name
 pub narrow_name_is : (s : List ℕ) (b : ExtendedBits) → narrow_by_name s ≡ Some b → narrow_name b ≡ s
 narrow_name_is s b e = name_of narrow_name extensions s b refl e

@@ -17,17 +17,17 @@ use Rattle.words.specs.Operate.{extended_bits, kept_bits}
 
 -- ---- the second operand, section 4: the source bit, and the field that it selects
 
--- 0 for a constant, 1 for a register
+-- the source bit of an operand: 0 for a constant, 1 for a register
 abbrev pub source_bit : Operand → ℕ
 source_bit (Imm n) = 0
 source_bit (Reg r) = 1
 
--- the source register's field, which is 0 with a constant: section 3.1
+-- the source register's field of an operand: the register, or 0 with a constant (section 3.1)
 abbrev pub src_field : Operand → ℕ
 src_field (Imm n) = 0
 src_field (Reg r) = r
 
--- the immediate, which is 0 with a register: section 3.1
+-- the immediate field of an operand: the constant, or 0 with a register (section 3.1)
 abbrev pub imm_field : Operand → ℕ
 imm_field (Imm n) = imm_bits n
 imm_field (Reg r) = 0
@@ -35,9 +35,11 @@ imm_field (Reg r) = 0
 -- ---- the grammar: one case for each form, section 4 (arithmetic, jumps) and section 5 (loads,
 -- stores, atomic operations)
 
--- the first slot: its opcode is of a code, the source bit and a class (`opcode`), or of a mode, a
--- size and a class (`memory_opcode`); then the destination, the source, the offset and the
--- immediate, of which those that are not used are 0
+-- an instruction's first slot: its opcode is of a code, the source bit and a class (`opcode`), or
+-- of a mode, a size and a class (`memory_opcode`); then the destination, the source, the offset and
+-- the immediate, of which those that are not used are 0. A sign extension has its bits as offset, a
+-- byte-order conversion as immediate. In a wide load (0x18) the source field is 0 for a number, 1
+-- for a map, and 2 for a value
 abbrev pub first : Insn → SlotFields
 first (Alu wide op dst src) =
     slot (opcode (alu_number op) (source_bit src) (alu_class wide)) dst (src_field src)
@@ -63,22 +65,23 @@ first (Const dst value) = slot 0x18 dst 0 0 (value % 2 ^ 32)
 first (MapFd dst fd) = slot 0x18 dst 1 0 (imm_bits fd)
 first (MapValue dst fd off) = slot 0x18 dst 2 0 (imm_bits fd)
 
--- the second slot, which only wide loads have: section 5.4
+-- an instruction's second slot, which only wide loads have (section 5.4): its immediate is the high
+-- 32 bits of a number, 0 for a map, the offset in a value; its other fields are 0
 abbrev pub second : Insn → List SlotFields
 second (Const dst value) = slot 0 0 0 0 (value / 2 ^ 32) ∷ []
 second (MapFd dst fd) = slot 0 0 0 0 0 ∷ []
 second (MapValue dst fd off) = slot 0 0 0 0 off ∷ []
 second _ = []
 
--- its one or two slots
+-- an instruction's one or two slots
 abbrev pub slots : Insn → List SlotFields
 slots i = first i ∷ second i
 
--- it takes two slots: section 3.2
+-- whether an instruction takes two slots: section 3.2
 abbrev pub is_wide : Insn → Bool
 is_wide i = length (slots i) == 2
 
--- its bytes: eight, or sixteen if it is wide
+-- an instruction's bytes: eight, or sixteen if it takes two slots
 unfoldable pub spelling : Insn → List ℕ
 spelling i = flat_map slot_bytes (slots i)
 
@@ -90,7 +93,8 @@ abbrev pub IsOperandUpTo : ℕ → Operand → Type 0
 IsOperandUpTo top (Imm n) = FitsSigned w32 n
 IsOperandUpTo top (Reg r) = r ≤ top
 
--- the numbers of an instruction fit their fields, with registers from 0 to `top`
+-- the numbers of an instruction fit their fields, with registers from 0 to `top`: 10, the last
+-- register, or 15, the most that a field of four bits has room for
 abbrev pub IsInsnUpTo : ℕ → Insn → Type 0
 IsInsnUpTo top (Alu wide op dst src) = (dst ≤ top) × IsOperandUpTo top src
 IsInsnUpTo top (Movsx m) = (m.dst ≤ top) × (m.src ≤ top)
@@ -117,6 +121,6 @@ IsOperand o = IsOperandUpTo 10 o
 abbrev pub IsInsn : Insn → Type 0
 IsInsn i = IsInsnUpTo 10 i
 
--- the bytes begin with the instruction's spelling
+-- the bytes begin with the bytes of the instruction (`spelling`)
 abbrev pub Begins : Insn → List ℕ → Type 0
 Begins i bytes = take (length (spelling i)) bytes ≡ spelling i

@@ -9,7 +9,8 @@ use Rattle.std.specs.Borrow.{Bor}
 abbrev pub Row : Type 0 → Type 0
 Row A = A × ℕ × List ℕ
 
--- the rows of a table of the code, whose symbols are borrowed text
+-- the rows of a table of the code as definitions read them: with the symbols that are borrowed in
+-- the code
 abbrev pub shown : {A : Type 0} → List (A × ℕ × Bor (List ℕ)) → List (Row A)
 shown rows = map (λ row. (row.0, row.1, row.2.now)) rows
 
@@ -25,7 +26,8 @@ by_symbol (row ∷ rows) s = if bytes_eq s row.2 then Some row.0 else by_symbol 
 
 -- ---- only with names
 
--- the rows of a table of the code that has only names, which are borrowed text
+-- the rows of a table of the code that has only names, as definitions read them: with the names
+-- that are borrowed in the code
 abbrev pub names : {A : Type 0} → List (Bor (List ℕ) × A) → List (List ℕ × A)
 names rows = map (λ row. (row.0.now, row.1)) rows
 

@@ -8,12 +8,12 @@ use Rattle.insn_set.specs.View.{view, IsView}
 use Rattle.insn_set.specs.Profile.{profile}
 use Rattle.insn_set.specs.Spelling.{slots, IsInsn}
 
--- the number of slots in the row of an instruction is right
+-- the number of slots in the row of an instruction is that of its spelling
 pub profile_slots : (i : Insn) → (profile i).slots ≡ length (slots i)
 profile_slots (Alu wide op dst src) = refl
 profile_slots _ = refl
 
--- what an instruction in range does has its numbers in range
+-- if an instruction's numbers are in range, a number that it loads has 64 bits (`IsView`)
 pub view_is : (i : Insn) → IsInsn i → IsView (view i)
 view_is (Const dst value) h = h.1
 view_is _ h = tt

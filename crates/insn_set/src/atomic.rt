@@ -14,14 +14,15 @@ pub enum AtomicOp {
     Xor,
 }
 
-/// The number of bytes that an atomic operation changes (RFC 9669, section 5.3): a word has four.
+/// The number of bytes that an atomic operation changes (RFC 9669, section 5.3): four (`Word`) or eight (`Double`).
 #[derive(Clone, Copy, Debug, PartialEq, Eq)]
 pub enum AtomicSize {
     Word,
     Double,
 }
 
-/// Each operation in the order of its variants, its immediate (RFC 9669, section 5.3), and the symbol that a line of text has for it.
+/// Each operation, its immediate (RFC 9669, section 5.3), and the symbol that a line of text has for it. The rows are in the order of the
+/// variants, so `op as usize` is the index of its row.
 const OPERATIONS: [(AtomicOp, u32, &str); 4] = [
     (AtomicOp::Add, 0x00, "+="),
     (AtomicOp::Or, 0x40, "|="),

@@ -7,7 +7,8 @@ ghost use Rattle.insn_set.specs.ConditionRows.{condition_by_number, condition_by
 use crate::table::by_symbol;
 use words::Condition;
 
-/// Each condition in the order of its variants, its code (RFC 9669, section 4.3), and the symbol that a line of text has for it.
+/// Each condition, its code (RFC 9669, section 4.3), and the symbol that a line of text has for it. The rows are in the order of the
+/// variants, so `condition as usize` is the index of its row.
 const CONDITIONS: [(Condition, u32, &str); 11] = [
     (Condition::Equal, 1, "=="),
     (Condition::NotEqual, 5, "!="),
@@ -51,7 +52,7 @@ pub fn condition_number(condition: Condition) -> u8
     CONDITIONS[condition as usize].1 as u8
 }
 
-/// The condition with this code, if there is one.
+/// The condition with this code; `None` for 0, 8, 9, and 14 and above, which no condition has.
 pub fn condition_by_number(number: u8) -> Option<Condition>
     ensures value { result ≡ condition_by_number number }
     ensures inverse { IfSome result (λ c. condition_number c ≡ number) }

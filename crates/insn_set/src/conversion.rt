@@ -28,14 +28,15 @@ const EXTENSIONS: [(&str, ExtendedBits); 3] = [
     ("s32", ExtendedBits::Bits32),
 ];
 
-/// The name of a byte-order conversion, of which `bits` low bits are kept, in a line of text.
+/// The name of a byte-order conversion, which keeps `bits` low bits, in a line of text. Each `ByteOrder` has three rows of `ORDERS`, one
+/// for each `KeptBits`.
 pub fn order_name(how: ByteOrder, bits: KeptBits) -> &'static str
     ensures { result.now ≡ order_name how bits }
 {
     ORDERS[3 * (how as usize) + bits as usize].0
 }
 
-/// The byte-order conversion with this name, if there is one.
+/// The byte-order conversion with this name, and the number of low bits that it keeps; `None` if there is none.
 pub fn order_by_name(name: &str) -> Option<(ByteOrder, KeptBits)>
     ensures value { result ≡ order_by_name name.now }
     ensures inverse { IfSome result (λ o. order_name o.0 o.1 ≡ name.now) }
@@ -43,14 +44,14 @@ pub fn order_by_name(name: &str) -> Option<(ByteOrder, KeptBits)>
     named(&ORDERS, name)
 }
 
-/// The name of a sign extension in a line of text.
+/// The name of the sign extension from `bits` low bits in a line of text.
 pub fn narrow_name(bits: ExtendedBits) -> &'static str
     ensures { result.now ≡ narrow_name bits }
 {
     EXTENSIONS[bits as usize].0
 }
 
-/// The sign extension with this name, if there is one.
+/// The number of low bits from which the sign extension with this name starts; `None` if there is none.
 pub fn narrow_by_name(name: &str) -> Option<ExtendedBits>
     ensures value { result ≡ narrow_by_name name.now }
     ensures inverse { IfSome result (λ b. narrow_name b ≡ name.now) }

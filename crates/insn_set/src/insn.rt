@@ -55,7 +55,8 @@ pub enum Operand {
     Reg(Reg),
 }
 
-/// A move with sign extension, from `bits` to 64 bits (`wide`) or 32 (RFC 9669, section 4.1). Only the wide one may start from 32 bits.
+/// A move with sign extension, from `bits` to 64 bits (`wide`) or 32 (RFC 9669, section 4.1). Only the wide one may start from 32 bits:
+/// `listed`, which only contracts see.
 ///
 /// It is a struct of its own, as is `Load`, because enum variants have no ghost fields to state such restrictions.
 #[derive(Clone, Copy, Debug, PartialEq, Eq)]
@@ -68,7 +69,7 @@ pub struct Movsx {
 }
 
 /// A load into `dst` from the address in `src` plus `off` bytes, with sign extension if `signed` (RFC 9669, sections 5.1 and 5.2). A double
-/// word has none.
+/// word has no sign extension: `listed`, which only contracts see.
 #[derive(Clone, Copy, Debug, PartialEq, Eq)]
 pub struct Load {
     pub size: AccessSize,
@@ -96,7 +97,7 @@ pub enum Insn {
         wide: bool,
         dst: Reg,
     },
-    /// A byte-order conversion of `dst`, in place (RFC 9669, section 4.2).
+    /// A byte-order conversion of `dst`, in place: its `bits` low bits in another order, and the others 0 (RFC 9669, section 4.2).
     End {
         how: ByteOrder,
         bits: KeptBits,
@@ -164,7 +165,8 @@ impl Insn {
     ghost use Rattle.std.specs.Prelude.{length};
     ghost use Rattle.insn_set.specs.Spelling.{slots, is_wide, IsInsn};
 
-    /// Whether the instruction takes two slots (RFC 9669, section 3.2).
+    /// Whether the instruction takes two slots (RFC 9669, section 3.2). The width of 64 bits, which is also called wide, is another
+    /// property.
     pub fn is_wide(&self) -> bool
         ensures { result ≡ is_wide self.now }
     {
@@ -180,7 +182,8 @@ impl Insn {
         self.profile().slots
     }
 
-    /// A law: the numbers of an instruction lie in the ranges of its fields. It does nothing when it runs.
+    /// A law, for proofs that have an instruction of the code: its numbers lie in the ranges of its fields. Each arm only names the
+    /// instruction's numbers, whose types, and `number` of a register, bound them; an exit has none. It does nothing when it runs.
     pub fn in_range(&self)
         ensures { IsInsn self.now }
     {
@@ -251,7 +254,8 @@ fn offset_in_range(offset: u32)
 impl Operand {
     ghost use Rattle.insn_set.specs.Spelling.{IsOperand};
 
-    /// A law: the number of the operand's register, if it is one, is 0 to 10, which `number` shows. Nothing is done when it runs.
+    /// A law: a register operand has a number from 0 to 10, by the contract of `number`, and a constant has 32 bits by its type. Nothing is
+    /// done when it runs.
     fn in_range(self)
         ensures { IsOperand self }
     {

@@ -14,7 +14,7 @@ const _: () = prove!(size_of::<Option<Insn>>() == 24);
 /// A raw slot takes the eight bytes in which it is spelled.
 const _: () = prove!(size_of::<RawSlot>() == 8);
 
-/// The number of a register is the one that it is made of.
+/// A register that is made of the number 10 has this number.
 fn registers() {
     let number = Reg::new(10).number();
     prove!(number == 10);
@@ -32,7 +32,7 @@ fn slots_of_instructions() {
     prove!(!is_exit_wide);
 }
 
-/// The limit of the code is that of the definitions.
+/// `MAX_SLOTS` of the code is `most_slots` of the definitions.
 fn slots_of_the_longest_program() -> usize
     ensures { result ≡ most_slots }
 {

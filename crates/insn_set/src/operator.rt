@@ -7,8 +7,8 @@ ghost use Rattle.insn_set.specs.OperatorRows.{alu_by_number, alu_by_symbol};
 use crate::table::by_symbol;
 use words::AluOp;
 
-/// Each operator in the order of its variants, its code (RFC 9669, section 4.1), and the symbol that a line of text has for it. If
-/// two share a code, the unsigned one comes first: the offset distinguishes them.
+/// Each operator, its code (RFC 9669, section 4.1), and the symbol that a line of text has for it. The rows are in the order of the
+/// variants, so `op as usize` is the index of its row. If two share a code, the unsigned one comes first: the offset distinguishes them.
 const OPERATORS: [(AluOp, u32, &str); 14] = [
     (AluOp::Add, 0, "+="),
     (AluOp::Sub, 1, "-="),
@@ -47,7 +47,7 @@ const OPERATORS_BY_CODE: [Option<AluOp>; 16] = [
     None,
 ];
 
-/// The code of an operator, the upper four bits of its opcode.
+/// The code of an operator, the upper four bits of its opcode. Signed division and remainder have that of the unsigned ones.
 pub fn alu_number(op: AluOp) -> u8
     ensures value { result ≡ alu_number op }
     ensures bound { result ≤ 12 }
@@ -65,7 +65,8 @@ pub fn alu_offset(op: AluOp) -> u16
     }
 }
 
-/// The operator with this code at offset 0, the unsigned one of two; `None` if no operator has it.
+/// The operator with this code at offset 0, the unsigned one of two; `None` for 8 and for 13 and above, which no operator of two operands
+/// has.
 pub fn alu_by_number(number: u8) -> Option<AluOp>
     ensures value { result ≡ alu_by_number number }
     ensures inverse { IfSome result (λ op. alu_number op ≡ number) }

@@ -36,12 +36,14 @@ pub enum Reference {
 /// The properties of an instruction that no register value affects.
 #[derive(Clone, Copy, Debug, PartialEq, Eq)]
 pub struct Profile {
-    /// The register of its first or only operand, or of the address of an access, if it reads one.
+    /// The register of its first or only operand, of the address of an access, or of the result (register 0, which an exit reads); `None`
+    /// if it reads none of them.
     pub first_read: Option<Reg>,
-    /// The register of its second operand, or of the value that an access writes, if it reads one. A call also reads its
-    /// helper's arguments, which are not included here.
+    /// The register of its second operand: of the value that a store writes, or that an atomic operation combines with the bytes in memory,
+    /// or that an operator or a condition reads. `None` if that is a constant, or there is none. A call also reads its helper's arguments,
+    /// which are not included here.
     pub second_read: Option<Reg>,
-    /// The register that it writes. A call's effect on registers 0 to 5 is not included here.
+    /// The register that it writes; `None` if there is none. A call's effect on registers 0 to 5 is not included here.
     pub written: Option<Reg>,
     /// Its possible successors.
     pub successors: Successors,
@@ -51,7 +53,7 @@ pub struct Profile {
     pub slots: usize,
 }
 
-/// A row of the table, from its fields in their order.
+/// The profile with these fields, in their order: a row of the table of instructions.
 #[inline(always)]
 fn row(
     first_read: Option<Reg>,
@@ -73,7 +75,7 @@ fn row(
     }
 }
 
-/// The register of a second operand; `None` if it is a constant.
+/// The register of a second operand, or of the value that a store writes; `None` if it is a constant.
 #[inline(always)]
 fn register_of(operand: Operand) -> Option<Reg>
     ensures { result ≡ register_of operand }
@@ -99,7 +101,8 @@ fn first_operand(op: AluOp, dst: Reg) -> Option<Reg>
 impl Insn {
     ghost use Rattle.insn_set.specs.Profile.{profile};
 
-    /// The instruction's row of the table.
+    /// What the instruction reads, writes and names, its successors, and the number of its slots: its row of the table. An exit reads
+    /// register 0, the program's result.
     #[inline(always)]
     pub fn profile(&self) -> Profile
         ensures { result ≡ profile self.now }
@@ -223,7 +226,8 @@ impl Successors {
         }
     }
 
-    /// The slot to which an instruction at `slot` may jump; `None` if there is no jump, or the target is below slot 0.
+    /// The slot to which an instruction at `slot` may jump; `None` if there is no jump, or the target is below slot 0. The bound of `slot`
+    /// keeps the next slot from overflowing.
     #[inline(always)]
     pub fn target(self, slot: usize) -> Option<usize>
         requires { slot ≤ MAX_SLOTS }
@@ -240,7 +244,7 @@ impl Successors {
 impl Reference {
     ghost use Rattle.insn_set.specs.Flow.{descriptor_by};
 
-    /// The descriptor of the map that is named, itself or by its first value; `None` if none is.
+    /// The descriptor of the map that the instruction names, or whose first value it names; `None` if it names neither.
     #[inline(always)]
     pub fn descriptor(self) -> Option<u32>
         ensures { result ≡ descriptor_by self }

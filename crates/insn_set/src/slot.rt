@@ -38,7 +38,7 @@ impl RawSlot {
         Some(RawSlot::in_front(bytes))
     }
 
-    /// The slot in the first eight bytes, of which there are enough.
+    /// Reads the slot in the first eight bytes; there are at least eight.
     #[inline(always)]
     #[tactic(auto, unfolding(crate::specs::Slot::slot_of))]
     fn in_front(bytes: &[u8]) -> RawSlot
@@ -57,7 +57,7 @@ impl RawSlot {
         }
     }
 
-    /// The number in the field of the destination register.
+    /// The number in the field of the destination register, the low four bits of `registers`: 0 to 15.
     #[inline(always)]
     pub fn dst(&self) -> u8
         ensures { result ≡ (fields self.now).dst }
@@ -65,7 +65,7 @@ impl RawSlot {
         self.registers % 16
     }
 
-    /// The number in the field of the source register.
+    /// The number in the field of the source register, the high four bits of `registers`: 0 to 15.
     #[inline(always)]
     pub fn src(&self) -> u8
         ensures { result ≡ (fields self.now).src }

@@ -3,7 +3,7 @@
 ghost use Rattle.std.specs.Prelude.{◌≡◌};
 ghost use Rattle.insn_set.specs.Table.{shown, by_number, by_symbol, names, named};
 
-/// The value of the first row with this number; `None` if there is no such row.
+/// The value of the first row with this number; `None` if there is no such row. A row has a value, its number and its symbol.
 #[inline(always)]
 pub(crate) fn by_number<T: Copy>(rows: &[(T, u32, &str)], number: u32) -> Option<T>
     ensures { result ≡ by_number (shown rows.now) number }
@@ -16,7 +16,7 @@ pub(crate) fn by_number<T: Copy>(rows: &[(T, u32, &str)], number: u32) -> Option
     None
 }
 
-/// The value of the first row with this symbol; `None` if there is no such row.
+/// The value of the first row with this symbol; `None` if there is no such row. A row has a value, its number and its symbol.
 pub(crate) fn by_symbol<T: Copy>(rows: &[(T, u32, &str)], symbol: &str) -> Option<T>
     ensures { result ≡ by_symbol (shown rows.now) symbol.now }
 {

@@ -9,11 +9,11 @@ use Rattle.interval.specs.Ranges.{IsMember, hull}
 use Rattle.interval.specs.Table.{range_of}
 use Rattle.interval.specs.Refine.{RangePair, refined, IsPairOn}
 
--- the members of r are words
+-- the members of r are words, below 2 ^ 64
 abbrev pub IsOfWords : Range → Type 0
 IsOfWords r = r.hi < 2 ^ 64
 
--- the result on n bits of two members is a member of the table's range
+-- the result on n bits of two members is a member of the range that the table (`range_of`) gives
 abbrev pub ResultsAreMembers : ℕ → Type 0
 ResultsAreMembers n =
     (op : Operator) (a b : Range) (x y : ℕ)
@@ -23,12 +23,13 @@ ResultsAreMembers n =
     → IsMember y b
     → IsMember (operate n op x y) (range_of n op a b)
 
--- the table's range for ranges of words is a range of words
+-- the range that the table (`range_of`) gives for ranges of words is a range of words, on n bits
 abbrev pub ResultsAreWords : ℕ → Type 0
 ResultsAreWords n =
     (op : Operator) (a b : Range) → IsOfWords a → IsOfWords b → IsOfWords (range_of n op a b)
 
--- two members that take an edge of a comparison on n bits are members of the ranges on it
+-- two members that take an edge of a comparison on n bits are members of the ranges on it: of the
+-- first edge if the comparison holds, of the second if it fails
 abbrev pub EdgesKeepMembers : ℕ → Type 0
 EdgesKeepMembers n =
     (condition : Condition) (a b : Range) (x y : ℕ)
@@ -39,12 +40,12 @@ EdgesKeepMembers n =
     (IsTrue (compares n condition x y) → IsPairOn (refined n condition a b).0 x y)
     × (IsFalse (compares n condition x y) → IsPairOn (refined n condition a b).1 x y)
 
--- the ranges on an edge are ranges of words, if it can be taken
+-- the ranges on an edge are ranges of words; an edge that can't be taken has none
 abbrev pub IsPairOfWords : Option RangePair → Type 0
 IsPairOfWords None = Unit {0}
 IsPairOfWords (Some p) = IsOfWords p.0 × IsOfWords p.1
 
--- the ranges on both edges of a comparison of ranges of words are ranges of words
+-- the ranges on both edges of a comparison on n bits of ranges of words are ranges of words
 abbrev pub EdgesAreWords : ℕ → Type 0
 EdgesAreWords n =
     (condition : Condition) (a b : Range)
@@ -52,13 +53,13 @@ EdgesAreWords n =
     → IsOfWords b
     → IsPairOfWords (refined n condition a b).0 × IsPairOfWords (refined n condition a b).1
 
--- the hull includes the members of both
+-- the hull of two ranges includes the members of both
 abbrev pub HullHoldsBoth : Type 0
 HullHoldsBoth =
     (a b : Range) (x : ℕ)
     → (IsMember x a → IsMember x (hull a b)) × (IsMember x b → IsMember x (hull a b))
 
--- every range that includes the members of both includes those of the hull
+-- a range c that includes the members of both ranges includes those of their hull
 abbrev pub HullIsLeast : Type 0
 HullIsLeast =
     (a b c : Range)

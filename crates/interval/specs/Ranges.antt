@@ -8,7 +8,7 @@ pub record IsMember (x : ℕ) (r : Range) : Type 0 where
   pub from : r.lo ≤ x
   pub to : x ≤ r.hi
 
--- the numbers from lo to hi, or only lo if hi is below it
+-- the numbers from lo to hi, or only lo if hi is below it, so that each two numbers give a range
 abbrev pub span : ℕ → ℕ → Range
 span lo hi = record { lo = lo; hi = max lo hi; ordered = at_most_max lo hi }
 
@@ -24,6 +24,6 @@ is_constant r = r.lo == r.hi
 abbrev pub full : ℕ → Range
 full n = record { lo = 0; hi = 2 ^ n - 1; ordered = at_least_zero (2 ^ n - 1) }
 
--- the join: from the lesser low end to the greater high end
+-- the join of two ranges: from the lesser low end to the greater high end
 abbrev pub hull : Range → Range → Range
 hull a b = record { lo = min a.lo b.lo; hi = max a.hi b.hi; ordered = hull_ordered a b }

@@ -18,7 +18,8 @@ abbrev pub swapped : Option RangePair → Option RangePair
 swapped None = None
 swapped (Some p) = Some (p.1, p.0)
 
--- r without v, if the rest is still one range, else r; None if no member is left
+-- r without v, if the rest is still one range; None if no member is left; r if v is none of its
+-- ends, as a number between them can't be taken out of a range
 abbrev pub except : Range → ℕ → Option Range
 except r v =
     if (r.lo == v) && (r.hi == v) then None else
@@ -27,7 +28,8 @@ except r v =
 
 -- ---- one refinement for each comparison
 
--- the edge on which the operands are equal: both are in the intersection of the ranges
+-- the edge on which the operands are equal: both are in the intersection of the ranges, and None if
+-- it is empty
 abbrev pub where_equal : Range → Range → Option RangePair
 where_equal a b =
     let lo = max a.lo b.lo in
@@ -35,20 +37,22 @@ where_equal a b =
     if nat_le lo hi then Some (span lo hi, span lo hi) else None
 
 -- the edge on which the operands differ: if one is one number, the range of the other loses it at
--- its ends
+-- its ends; None if both are this number
 abbrev pub where_different : Range → Range → Option RangePair
 where_different a b =
     if is_constant b then option_map (λ r. (r, b)) (except a b.lo) else
     (if is_constant a then option_map (λ r. (a, r)) (except b a.lo) else Some (a, b))
 
--- the edge on which the first operand is above the second
+-- the edge on which the first operand is above the second: the first is above the least member of
+-- b, the second below the greatest of a; None if no member of a is above one of b
 abbrev pub where_above : Range → Range → Option RangePair
 where_above a b =
     if nat_le a.hi b.lo
     then None
     else Some (span (max a.lo (b.lo + 1)) a.hi, span b.lo (min b.hi (a.hi - 1)))
 
--- the edge on which the first operand is at most the second
+-- the edge on which the first operand is at most the second: the first is at most the greatest
+-- member of b, the second at least the least of a; None if all members of a are above those of b
 abbrev pub where_at_most : Range → Range → Option RangePair
 where_at_most a b =
     if nat_lt b.hi a.lo then None else Some (span a.lo (min a.hi b.hi), span (max a.lo b.lo) b.hi)
@@ -63,8 +67,8 @@ EdgePairs = Option RangePair × Option RangePair
 abbrev pub unchanged : Range → Range → EdgePairs
 unchanged a b = (Some (a, b), Some (a, b))
 
--- the ranges on both edges, for operands of the width of the comparison: signed comparisons and the
--- test of a common bit refine nothing
+-- the ranges on both edges, first of the edge on which the comparison holds, for operands of its
+-- width; signed comparisons and the test of a common bit refine nothing
 abbrev pub edges : Condition → Range → Range → EdgePairs
 edges Equal a b = (where_equal a b, where_different a b)
 edges NotEqual a b = (where_different a b, where_equal a b)
@@ -78,12 +82,13 @@ edges SignedBelow a b = unchanged a b
 edges SignedBelowOrEqual a b = unchanged a b
 edges CommonBit a b = unchanged a b
 
--- a comparison on n bits reads only the low n bits, so ranges with greater members are not changed
+-- the ranges on both edges of a comparison on n bits, first of the edge on which it holds. It reads
+-- only the low n bits, so ranges with greater members are not changed
 abbrev pub refined : ℕ → Condition → Range → Range → EdgePairs
 refined n condition a b =
     if nat_lt a.hi (2 ^ n) && nat_lt b.hi (2 ^ n) then edges condition a b else unchanged a b
 
--- x and y are members of the ranges on the edge; false for an edge that can't be taken
+-- x and y are members of the ranges on the edge; not so on an edge that can't be taken (None)
 abbrev pub IsPairOn : Option RangePair → ℕ → ℕ → Type 0
 IsPairOn None x y = ⊥
 IsPairOn (Some p) x y = IsMember x p.0 × IsMember y p.1

@@ -33,12 +33,12 @@ product_range n a b =
     if nat_lt (a.hi * b.hi) (2 ^ n) then span (a.lo * b.lo) (a.hi * b.hi) else full n
 
 -- the unsigned quotients of members: from 0 to the greatest dividend if the divisor may be 0, since
--- a quotient by 0 is 0
+-- a quotient by 0 is 0 and no quotient is above its dividend
 abbrev pub quotient_range : Range → Range → Range
 quotient_range a b = if nat_le 1 b.lo then span (a.lo / b.hi) (a.hi / b.lo) else span 0 a.hi
 
--- the unsigned remainders of members: below the greatest divisor if no divisor is 0; a remainder by
--- 0 is the dividend
+-- the unsigned remainders of members: from 0 to the greatest dividend, and below the greatest
+-- divisor if no divisor is 0; a remainder by 0 is the dividend
 abbrev pub remainder_range : Range → Range → Range
 remainder_range a b = if nat_le 1 b.lo then span 0 (min a.hi (b.hi - 1)) else span 0 a.hi
 
@@ -63,7 +63,8 @@ or_range a b = span (max a.lo b.lo) (digits_end a b)
 abbrev pub xor_range : Range → Range → Range
 xor_range a b = span 0 (digits_end a b)
 
--- the members of a times 2 ^ k; all numbers if the greatest times 2 ^ k is not below 2 ^ n
+-- the members of a times 2 ^ k, that is, shifted left by k bits; all numbers if the greatest is no
+-- longer below 2 ^ n
 abbrev pub scaled_range : ℕ → Range → ℕ → Range
 scaled_range n a k =
     if nat_lt (a.hi * 2 ^ k) (2 ^ n) then span (a.lo * 2 ^ k) (a.hi * 2 ^ k) else full n
@@ -73,14 +74,14 @@ scaled_range n a k =
 abbrev pub shift_left_range : ℕ → Range → Range → Range
 shift_left_range n a b = if is_constant b then scaled_range n a (b.lo % n) else full n
 
--- the members of a shifted right by members of b, without sign: from 0 to the greatest one if b is
--- not one number
+-- the members of a shifted right by members of b, with zeros from the left; from 0 to the greatest
+-- member of a if b is not one number, as a shift by 0 leaves a member as it is
 abbrev pub shift_right_range : ℕ → Range → Range → Range
 shift_right_range n a b =
     if is_constant b then span (a.lo / 2 ^ (b.lo % n)) (a.hi / 2 ^ (b.lo % n)) else span 0 a.hi
 
--- the members of a shifted right by members of b, with the sign bit copied: all numbers if a sign
--- bit may be 1
+-- the members of a shifted right by members of b, with the sign bit copied: all numbers if the sign
+-- bit of a member may be 1, else as for a shift with zeros
 abbrev pub signed_shift_right_range : ℕ → Range → Range → Range
 signed_shift_right_range n a b =
     if nat_lt a.hi (2 ^ (n - 1)) then shift_right_range n a b else full n
@@ -90,7 +91,8 @@ signed_shift_right_range n a b =
 abbrev pub sign_extend_range : ℕ → ℕ → Range → Range
 sign_extend_range n k b = if nat_lt b.hi (2 ^ (k - 1)) then b else full n
 
--- the results of an operator of two operands on n bits, by the ends of their ranges
+-- the results of an operator of two operands on n bits, by the ends of their ranges; signed
+-- quotients and remainders may be all numbers, and the result of a move is the second operand
 abbrev pub alu_range : ℕ → AluOp → Range → Range → Range
 alu_range n Add a b = sum_range n a b
 alu_range n Sub a b = difference_range n a b
@@ -107,7 +109,8 @@ alu_range n Xor a b = xor_range a b
 alu_range n Mov a b = b
 alu_range n SignedShiftRight a b = signed_shift_right_range n a b
 
--- the results of an operator on n bits, by the ends of its operands' ranges
+-- the results of an operator on n bits, by the ends of its operands' ranges; a change of sign may
+-- give all numbers of n bits, a byte-order conversion all of the bits that it keeps
 abbrev pub general_range : ℕ → Operator → Range → Range → Range
 general_range n (Binary op) a b = alu_range n op a b
 general_range n Neg a b = full n
@@ -116,20 +119,22 @@ general_range n (End how kept) a b = full (kept_bits kept)
 
 -- ---- the table
 
--- each operand that the operator reads is one number: a move only reads the second
+-- whether each operand that an operator of two operands reads is one number: a move only reads the
+-- second
 abbrev pub are_alu_constants : AluOp → Range → Range → Bool
 are_alu_constants Mov a b = is_constant b
 are_alu_constants op a b = is_constant a && is_constant b
 
--- each operand that the operator reads is one number
+-- whether each operand that the operator reads is one number: a sign extension only reads the
+-- second, a change of sign and a byte-order conversion only the first
 abbrev pub are_constants : Operator → Range → Range → Bool
 are_constants (Binary op) a b = are_alu_constants op a b
 are_constants Neg a b = is_constant a
 are_constants (SignExtend from) a b = is_constant b
 are_constants (End how kept) a b = is_constant a
 
--- the range of the results on n bits, for operands of as many bits as the operator reads: constants
--- give a constant
+-- the range of the results on n bits, for operands of as many bits as the operator reads: one
+-- number, the result, if each operand that it reads is one number, else by the ends of the ranges
 abbrev pub result_range : ℕ → Operator → Range → Range → Range
 result_range n op a b =
     if are_constants op a b then constant (combined n op a.lo b.lo) else general_range n op a b
@@ -140,7 +145,8 @@ abbrev pub range_modulo : ℕ → Range → Range
 range_modulo n r =
     if nat_lt r.hi (2 ^ n) then r else (if is_constant r then constant (r.lo % 2 ^ n) else full n)
 
--- the range of what an operation on n bits reads of the members: their low n bits, or whole words
+-- the range of what an operation on n bits reads of the members: their low n bits, or on 64 bits
+-- the members themselves, as words are below 2 ^ 64
 abbrev pub operand_range : ℕ → Range → Range
 operand_range n r = if nat_lt n 64 then range_modulo n r else r
 

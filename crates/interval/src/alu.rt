@@ -26,8 +26,8 @@ pub fn alu64(op: Operator, a: Range, b: Range) -> Range
     }
 }
 
-/// The range of the results of an operator of two operands on 64 bits. Most operators are such, so they have a function of their own, with
-/// one dispatch.
+/// The range of the results of an operator of two operands on 64 bits: one number if each operand that `op` reads is one, else that of
+/// `alu_range`. Most operators are such, so they have a function of their own, with one dispatch.
 fn binary64(op: AluOp, a: Range, b: Range) -> Range
     ensures exact { result ≡ range_of 64 (Binary op) a b }
     ensures sound { (x y : ℕ) → IsMember x a → IsMember y b
@@ -40,7 +40,8 @@ fn binary64(op: AluOp, a: Range, b: Range) -> Range
     }
 }
 
-/// The range of the results of any operator on 64 bits.
+/// The range of the results of any operator on 64 bits: one number if each operand that `op` reads is one, else that of `general_range`.
+/// `alu64` calls it for operators of one operand, which have no case in `binary64`.
 fn any64(op: Operator, a: Range, b: Range) -> Range
     ensures exact { result ≡ range_of 64 op a b }
     ensures sound { (x y : ℕ) → IsMember x a → IsMember y b → IsMember (operate 64 op x y) result }
@@ -71,7 +72,8 @@ pub fn alu32(op: Operator, a: Range, b: Range) -> Range
     }
 }
 
-/// The range of the members' low 32 bits: all 32-bit numbers if a member is truncated, unless there is only one member.
+/// The range of the members' low 32 bits: the range itself if all members have 32 bits, one number if there is one member, else all 32-bit
+/// numbers.
 fn low_half(r: Range) -> Range
     ensures value { result ≡ operand_range 32 r }
     ensures bound { result.hi < 2 ^ 32 }
@@ -106,8 +108,8 @@ fn are_alu_constants(op: AluOp, a: Range, b: Range) -> bool
     }
 }
 
-/// The range of the results of an operator on 64 bits (`wide`) or 32, for operands of that width. If they are constants, callers compute
-/// the result instead.
+/// The range of the results of an operator on 64 bits (`wide`) or 32, for operands of that width. A change of sign may give all numbers. If
+/// the operands that the operator reads are constants, callers compute the result instead.
 fn general_range(wide: bool, op: Operator, a: Range, b: Range) -> Range
     requires first { a.hi < 2 ^ width wide }
     requires second { b.hi < 2 ^ width wide }
@@ -146,7 +148,7 @@ fn alu_range(wide: bool, op: AluOp, a: Range, b: Range) -> Range
     }
 }
 
-/// All numbers of `bits` bits.
+/// All numbers of `bits` bits, the range of a byte-order conversion that keeps these bits.
 fn full_of(bits: KeptBits) -> Range
     ensures { result ≡ full (kept_bits bits) }
 {

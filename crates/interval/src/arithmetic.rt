@@ -7,7 +7,8 @@ ghost use Rattle.interval.specs.Table.{sum_range, difference_range, product_rang
 
 use crate::range::{Range, greatest};
 
-/// The range of the sums of members, modulo 2^64 (`wide`) or 2^32: exact if none wraps or all do, else all numbers.
+/// The range of the sums of members, modulo 2^64 (`wide`) or 2^32: exact if none wraps or all do, else all numbers. The tests compare with
+/// differences from the greatest number, so nothing overflows.
 pub(crate) fn sum(wide: bool, a: Range, b: Range) -> Range
     requires first { a.hi < 2 ^ width wide }
     requires second { b.hi < 2 ^ width wide }
@@ -23,7 +24,8 @@ pub(crate) fn sum(wide: bool, a: Range, b: Range) -> Range
     }
 }
 
-/// The range of the differences of members, modulo 2^64 (`wide`) or 2^32: exact if none wraps or all do, else all numbers.
+/// The range of the differences of members, modulo 2^64 (`wide`) or 2^32: exact if none wraps or all do, else all numbers. If all wrap,
+/// 2^64 or 2^32 is added as the greatest number and 1, so nothing overflows.
 pub(crate) fn difference(wide: bool, a: Range, b: Range) -> Range
     requires first { a.hi < 2 ^ width wide }
     requires second { b.hi < 2 ^ width wide }
@@ -39,7 +41,8 @@ pub(crate) fn difference(wide: bool, a: Range, b: Range) -> Range
     }
 }
 
-/// The range of the products of members, modulo 2^64 (`wide`) or 2^32: all numbers if the greatest wraps.
+/// The range of the products of members, modulo 2^64 (`wide`) or 2^32: all numbers if the greatest wraps, which is so if it has more than
+/// 64 bits (`checked_mul`) or is above the greatest number of the width.
 pub(crate) fn product(wide: bool, a: Range, b: Range) -> Range
     requires first { a.hi < 2 ^ width wide }
     requires second { b.hi < 2 ^ width wide }
@@ -51,7 +54,8 @@ pub(crate) fn product(wide: bool, a: Range, b: Range) -> Range
     }
 }
 
-/// The range of the unsigned quotients of members: from 0 to the greatest dividend if the divisor may be 0, since a quotient by 0 is 0.
+/// The range of the unsigned quotients of members. If the divisor may be 0, it is from 0 to the greatest dividend, since a quotient by 0 is
+/// 0 and no quotient is above its dividend.
 pub(crate) fn quotient(a: Range, b: Range) -> Range
     ensures { result ≡ quotient_range a b }
 {

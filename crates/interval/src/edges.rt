@@ -12,9 +12,9 @@ use words::Condition;
 /// The ranges of the first and the second operand on an edge; `None`: no two members take it.
 pub type Edge = Option<(Range, Range)>;
 
-/// Refines the ranges of both operands of a conditional jump, on the edge that jumps and on the one that falls through.
-/// The ranges on an edge include every two members that take it. They are not changed if the condition is signed or
-/// a test of common bits, and on 32 bits if an operand may be 2^32 or more.
+/// Refines the ranges of both operands of a conditional jump on 64 bits (`wide`) or 32: the first result is the edge that jumps, the second
+/// the one that falls through. The ranges on an edge include every two members that take it. They are not changed if the condition is
+/// signed or a test of common bits, or if an operand may be 2^32 or more on 32 bits, as only its low half is compared.
 pub fn refine(condition: Condition, wide: bool, a: Range, b: Range) -> (Edge, Edge)
     ensures exact { result ≡ refined (width wide) condition a b }
 
@@ -42,7 +42,7 @@ pub fn refine(condition: Condition, wide: bool, a: Range, b: Range) -> (Edge, Ed
     }
 }
 
-/// The edge with its operands swapped: `a` below `b` is `b` above `a`.
+/// The edge with the ranges of its operands swapped: for `a` below `b`, which is `b` above `a`.
 fn swapped(edge: Edge) -> Edge
     ensures { result ≡ swapped edge }
 {
@@ -52,7 +52,7 @@ fn swapped(edge: Edge) -> Edge
     }
 }
 
-/// The edge on which the operands are equal: both are in the intersection of the ranges.
+/// The edge on which the operands are equal: both are in the intersection of the ranges, and `None` if it is empty.
 fn where_equal(a: Range, b: Range) -> Edge
     ensures { result ≡ where_equal a b }
 {
@@ -65,7 +65,8 @@ fn where_equal(a: Range, b: Range) -> Edge
     Some((both, both))
 }
 
-/// The edge on which the operands differ: if one is a constant, the other's range loses that number at its ends.
+/// The edge on which the operands differ: if one is a constant, the other's range loses that number at its ends. `None` if both are one and
+/// the same constant.
 fn where_different(a: Range, b: Range) -> Edge
     ensures { result ≡ where_different a b }
 {
@@ -80,7 +81,8 @@ fn where_different(a: Range, b: Range) -> Edge
     }
 }
 
-/// `r` without `value`, if the rest is still one range, else `r`; `None` if no member is left.
+/// `r` without `value`, if the rest is still one range; `None` if no member is left. `r` if `value` is no end of it: a number between the
+/// ends can't be taken out of a range.
 fn except(r: Range, value: u64) -> Option<Range>
     ensures { result ≡ except r value }
 {
@@ -95,7 +97,8 @@ fn except(r: Range, value: u64) -> Option<Range>
     }
 }
 
-/// The edge on which the first operand is above the second.
+/// The edge on which the first operand is above the second: the first is above the least member of `b`, the second below the greatest of
+/// `a`. `None` if no member of `a` is above one of `b`.
 fn where_above(a: Range, b: Range) -> Edge
     ensures { result ≡ where_above a b }
 {
@@ -107,7 +110,8 @@ fn where_above(a: Range, b: Range) -> Edge
     Some((above, below))
 }
 
-/// The edge on which the first operand is at most the second.
+/// The edge on which the first operand is at most the second: the first is at most the greatest member of `b`, the second at least the
+/// least of `a`. `None` if all members of `a` are above those of `b`.
 fn where_at_most(a: Range, b: Range) -> Edge
     ensures { result ≡ where_at_most a b }
 {

@@ -1,4 +1,4 @@
-//! Known answers, proved only from the contracts.
+//! Known answers, proved only from the contracts. Nothing calls these functions.
 
 use crate::{Range, alu32, alu64, hull, refine};
 use words::{AluOp, Condition, Operator};
@@ -28,8 +28,8 @@ fn range_of_both() {
     prove!(both.hi == 9);
 }
 
-/// If 0 to 255 is compared with 7, it is 8 to 255 on the edge on which it is above, and 0 to 7 on the other one. If 0 is compared with 1,
-/// the edge on which they are equal can't be taken.
+/// A number of 0 to 255 is compared with 7: on the edge on which it is above 7, its range is 8 to 255, on the other edge 0 to 7. Then 0 is
+/// compared with 1: the edge on which they are equal can't be taken.
 fn edges_of_a_jump() {
     let (above, at_most) = refine(
         Condition::Above,

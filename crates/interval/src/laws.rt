@@ -3,31 +3,35 @@
 ghost use Rattle.interval.specs.Laws.{ResultsAreMembers, ResultsAreWords, EdgesKeepMembers};
 ghost use Rattle.interval.specs.Laws.{EdgesAreWords, HullHoldsBoth, HullIsLeast, HullCommutes, HullAssociates};
 
-/// A law: the result of two members is a member of the range that the table of ranges (`range_of`) gives.
+/// A law, for the soundness of a transfer function: the result of two members, on 64 bits (`wide`) or 32 (`narrow`), is a member of the
+/// range that the table of ranges (`range_of`) gives.
 pub fn results_are_members()
     ensures wide { ResultsAreMembers 64 }
     ensures narrow { ResultsAreMembers 32 }
 {}
 
-/// A law: the range that the table of ranges (`range_of`) gives for ranges of words is a range of words.
+/// A law, so that facts have only ranges of words: the range that the table of ranges (`range_of`) gives for ranges of words is a range of
+/// words, on 64 bits (`wide`) and on 32 (`narrow`).
 pub fn results_are_words()
     ensures wide { ResultsAreWords 64 }
     ensures narrow { ResultsAreWords 32 }
 {}
 
-/// A law: two members that take an edge are members of the ranges on it.
+/// A law, for the soundness of a transfer function: two members that take an edge of a comparison, on 64 bits (`wide`) or 32 (`narrow`),
+/// are members of the ranges on it.
 pub fn edges_keep_members()
     ensures wide { EdgesKeepMembers 64 }
     ensures narrow { EdgesKeepMembers 32 }
 {}
 
-/// A law: the ranges on both edges of a comparison of ranges of words are ranges of words.
+/// A law, so that facts have only ranges of words: the ranges on both edges of a comparison of ranges of words, on 64 bits (`wide`) or 32
+/// (`narrow`), are ranges of words.
 pub fn edges_are_words()
     ensures wide { EdgesAreWords 64 }
     ensures narrow { EdgesAreWords 32 }
 {}
 
-/// A law: the hull is a join: it is the least range that includes the members of both, and it is commutative and associative.
+/// A law, for joins of facts: the hull is the least range that includes the members of both, and it is commutative and associative.
 pub fn hull_is_a_join()
     ensures holds_both { HullHoldsBoth }
     ensures least { HullIsLeast }

@@ -3,7 +3,7 @@
 ghost use Rattle.std.specs.Prelude.{◌≡◌, ◌+◌, ◌^◌, ◌≤◌};
 ghost use Rattle.words.specs.Widths.{width};
 
-/// The whole numbers from `lo` to `hi`, both included. There is at least one.
+/// The whole numbers from `lo` to `hi`, both included. There is at least one, by `ordered`, which only contracts see.
 #[derive(Clone, Copy, Debug, PartialEq, Eq)]
 pub struct Range {
     /// The least member.
@@ -53,7 +53,7 @@ impl Range {
     }
 }
 
-/// The greatest number of 64 bits (`wide`), or of 32.
+/// The greatest number of 64 bits (`wide`), or of 32. The contract names the number after it, a power of 2.
 pub(crate) fn greatest(wide: bool) -> u64
     ensures { result + 1 ≡ 2 ^ width wide }
 {

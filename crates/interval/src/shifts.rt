@@ -16,7 +16,8 @@ fn places(wide: bool, by: u64) -> u64
     if wide { by % 64 } else { by % 32 }
 }
 
-/// The range of the members of `a` shifted left by `places` bits; all numbers if the greatest loses a bit.
+/// The range of the members of `a` shifted left by `places` bits; all numbers if the greatest member loses a bit, that is, no longer fits
+/// 64 bits (`wide`) or 32.
 fn scaled(wide: bool, a: Range, places: u64) -> Range
     requires first { a.hi < 2 ^ width wide }
     requires bound { places < 64 }
@@ -41,7 +42,8 @@ pub(crate) fn shift_left(wide: bool, a: Range, b: Range) -> Range
     }
 }
 
-/// The range of the members of `a` shifted right by members of `b`, without sign: from 0 to the greatest one if `b` is no constant.
+/// The range of the members of `a` shifted right by members of `b`, with zeros from the left. If `b` is no constant, it is from 0 to the
+/// greatest member of `a`, as a shift by 0 leaves a member as it is.
 pub(crate) fn shift_right(wide: bool, a: Range, b: Range) -> Range
     ensures { result ≡ shift_right_range (width wide) a b }
 {

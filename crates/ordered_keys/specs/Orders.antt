@@ -55,7 +55,8 @@ module _ {K : Type 0} where
   first_key_of (e ∷ es) = Some e.0
 
   module _ (test : K → Bool) where
-    -- the key that follows the first one that passes the test; None if none does or it is last
+    -- the key that follows the first one that passes the test; None if that is the last, or if none
+    -- passes
     abbrev pub key_behind_passing : List (K × ℕ) → Option K
     key_behind_passing [] = None
     key_behind_passing (e ∷ es) = if test e.0 then first_key_of es else key_behind_passing es
@@ -73,12 +74,12 @@ module _ {K : Type 0} where
   first_entry [] = None
   first_entry (e ∷ es) = Some e
 
-  -- the entry that follows the one at element p; None if there is none, and if no entry is at p
+  -- the entry after the one with element p; None if that is the last, or if no entry has p
   abbrev pub entry_behind : ℕ → List (K × ℕ) → Option (K × ℕ)
   entry_behind p [] = None
   entry_behind p (e ∷ es) = if nat_eq p e.1 then first_entry es else entry_behind p es
 
-  -- the entry that follows the one at a given element, or the first if none is given
+  -- the entry after the one with a given element, or the first entry if no element is given
   abbrev pub next_entry : Option ℕ → List (K × ℕ) → Option (K × ℕ)
   next_entry None es = first_entry es
   next_entry (Some p) es = entry_behind p es

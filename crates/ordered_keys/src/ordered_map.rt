@@ -90,6 +90,7 @@ impl<K: Eq + Hash + Copy, S: BuildHasher> OrderedMap<K, S> {
         ensures { option_map (λ k. k.now) result
             ≡ key_following (Q.equivalent key) self.now.entries }
     {
+        // The keys of the table are distinct: this is in the contract of `len`.
         let _len = self.table.len();
         let Some(element) = self.table.get(key) else {
             return self.first();
@@ -104,8 +105,8 @@ impl<K: Eq + Hash + Copy, S: BuildHasher> OrderedMap<K, S> {
         key_at(&self.table, &self.indices, self.order.first())
     }
 
-    /// The key that follows the one of an element, or the first key if no element is given, with its element. `None` if there is none,
-    /// and if no key has the element.
+    /// The key after that of `element`, or the first key if no element is given, with the element of the key that is returned. `None` if
+    /// no key follows, or if no key has `element`.
     pub fn entry_after(&self, element: Option<u32>) -> Option<(&K, u32)>
         ensures { option_map lent_entry result ≡ next_entry element self.now.entries }
     {
@@ -114,7 +115,7 @@ impl<K: Eq + Hash + Copy, S: BuildHasher> OrderedMap<K, S> {
         Some((key, next))
     }
 
-    /// Adds a new key at the end. It takes no memory.
+    /// Adds a new key at the end. It allocates nothing: `new` made room for `bound` keys.
     pub fn insert(&mut self, key: K, element: u32)
         requires absent { lookup (K.eq key) self.old.entries ≡ None }
         requires within { element < self.old.bound }
@@ -146,7 +147,7 @@ impl<K: Eq + Hash + Copy, S: BuildHasher> OrderedMap<K, S> {
     {
         let index = self.table.get_index_of(key)?;
         let (_key, element) = take_out(&mut self.table, &mut self.rows, self.indices.len(), index);
-        // The last key has taken the index, unless it is the key that was removed.
+        // The last key has taken the index. If the removed key was the last, `moved` is its element, whose index now means nothing.
         let moved = element_at(&self.table, index, element);
         self.indices[moved as usize] = index as u32;
         self.order.remove(element);
@@ -154,7 +155,8 @@ impl<K: Eq + Hash + Copy, S: BuildHasher> OrderedMap<K, S> {
     }
 }
 
-/// Whether a key has this element, by the index that `indices` has for it, or 0 if it is out of range.
+/// Whether a key of the table has this element: whether the entry at the element's index does. An element out of range has no index, and 0
+/// is taken: in an `OrderedMap` the element of that entry is in range.
 fn has_element<K: Eq + Hash, S: BuildHasher>(
     table: &IndexMap<K, u32, S>,
     indices: &[u32],
@@ -169,7 +171,7 @@ fn has_element<K: Eq + Hash, S: BuildHasher>(
     }
 }
 
-/// The element that follows one, or the first if none is given. `None` if there is none, and if no key has the one given.
+/// The element after the given one, or the first if none is given. `None` if no element follows, or if no key has the given one.
 fn next_element<K: Eq + Hash, S: BuildHasher>(
     table: &IndexMap<K, u32, S>,
     indices: &[u32],
@@ -191,7 +193,7 @@ fn next_element<K: Eq + Hash, S: BuildHasher>(
     }
 }
 
-/// The key of an element, by its index in the table; `None` if no element is given.
+/// The key of an element, by its index in the table; `None` if no element is given, or the table has no entry at the index.
 fn key_at<'a, K: Eq + Hash, S: BuildHasher>(
     table: &'a IndexMap<K, u32, S>,
     indices: &[u32],
@@ -302,6 +304,7 @@ fn rebuild_without<K: Eq + Hash + Copy, S: BuildHasher>(
     table.swap_indices(index, len - 1);
     copy_entries(table, len / 2, rows);
     table.truncate(len / 2);
+    // The entry to take out was put at the end of the table, so it is the last of the rows.
     let Some(taken) = rows.pop() else {
         unreachable!()
     };

@@ -27,8 +27,8 @@ abbrev pub spilled : Kind → Slot
 spilled Unreadable = Bytes 0
 spilled k = Spill k
 
--- the join of stack slots: the bytes written in both, or the join of two spilled values; else no
--- byte
+-- the join of stack slots: the bytes written in both, or the join of two spilled values; no written
+-- byte if only one slot is a spill
 abbrev pub slot_join : Slot → Slot → Slot
 slot_join (Bytes x) (Bytes y) = Bytes (bit_and x y)
 slot_join (Spill j) (Spill k) = spilled (kind_join j k)
@@ -44,11 +44,12 @@ facts_join a b =
 abbrev pub stack_parts : ℕ
 stack_parts = 8
 
--- the part of stack slot i
+-- the number of the part of the stack that has stack slot i
 abbrev pub part_of : ℕ → ℕ
 part_of i = i / 8
 
--- what is known of stack slot i in facts a; in one part of the stack it is joined with facts b
+-- what is known of stack slot i once the part with number `part` in facts b is joined into that in
+-- facts a; the slots of all other parts are as in a
 abbrev pub part_joined : ℕ → Facts → Facts → ℕ → Slot
 part_joined part a b i =
     if part_of i == part then slot_join (slot_at a i) (slot_at b i) else slot_at a i

@@ -9,7 +9,7 @@ use Rattle.reg_kinds.specs.declared.kind.Slot.{Slot}
 use Rattle.reg_kinds.specs.declared.kind.Slot.TheVariants.{Bytes}
 use Rattle.reg_kinds.specs.declared.facts.Facts.{Facts}
 
--- a map, or a pointer, possibly null
+-- values of the kind are maps, or pointers, possibly null
 abbrev pub is_pointer : Kind → Bool
 is_pointer Unreadable = false
 is_pointer (Scalar r) = false

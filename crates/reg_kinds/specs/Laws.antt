@@ -23,6 +23,6 @@ FactsCommute = (a b : Facts) → facts_join a b ≡ facts_join b a
 abbrev pub FactsAssociate : Type 0
 FactsAssociate = (a b c : Facts) → facts_join (facts_join a b) c ≡ facts_join a (facts_join b c)
 
--- a second join with the same slot changes nothing
+-- once s is joined with t, joining it with t again changes nothing
 abbrev pub SlotsAbsorb : Type 0
 SlotsAbsorb = (s t : Slot) → slot_join (slot_join s t) t ≡ slot_join s t

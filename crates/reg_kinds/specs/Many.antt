@@ -13,7 +13,8 @@ use Rattle.reg_kinds.specs.declared.reason.Reason.TheVariants.{OutsideStack, Unw
 use Rattle.reg_kinds.specs.Kinds.{kind_at, slot_at, with_registers, with_slots}
 use Rattle.reg_kinds.specs.Stack.{bytes_over}
 
--- the mask of those of n bytes at start p that lie in slot i
+-- the mask of those of n bytes at start p that lie in slot i; a difference of natural numbers is 0
+-- if the second is greater
 abbrev pub bits_in : ℕ → ℕ → ℕ → ℕ
 bits_in p n i = (2 ^ (min 8 (p + n - 8 * i) - (p - 8 * i)) - 1) * 2 ^ (p - 8 * i)
 
@@ -27,7 +28,8 @@ abbrev pub is_touched_spill : Slot → Bool → Bool
 is_touched_spill (Bytes mask) touched = false
 is_touched_spill (Spill k) touched = touched
 
--- a byte of the mask may be unwritten; those of a spill are written
+-- a byte of the slot, of those of the mask `bits`, may be unwritten; all bytes of a spill are
+-- written
 abbrev pub lacks : Slot → ℕ → Bool
 lacks (Bytes mask) bits = not (bit_and mask bits == bits)
 lacks (Spill k) bits = false
@@ -42,8 +44,8 @@ stack_input f x n =
     (if any_below stack_slots
     (λ i. lacks (slot_at f i) (bits_in (byte_index x) n i)) then Err UnwrittenStack else Ok tt))
 
--- the facts after a write of lo to hi bytes at offset x: the first lo count as written, and of a
--- spill that may be touched no other byte does
+-- the facts after a write of lo to hi bytes at offset x from the stack's upper end: the first lo
+-- count as written, and of a spill that may be touched no other byte does
 abbrev pub filled : Facts → ℤ → ℕ → ℕ → Facts
 filled f x lo hi =
     with_slots f
@@ -52,12 +54,13 @@ filled f x lo hi =
     then bytes_over (slot_at f i) (bits_in (byte_index x) lo i)
     else slot_at f i)
 
--- the facts after a write of lo to hi bytes at offset x from the stack's upper end; rejected if hi
--- bytes don't lie in the stack
+-- the facts after a write of lo to hi bytes at offset x from the stack's upper end (`filled`), or
+-- OutsideStack if hi bytes there don't all lie in the stack
 abbrev pub stack_filled : Facts → ℤ → ℕ → ℕ → Result Facts Reason
 stack_filled f x lo hi = if is_in_stack x hi then Ok (filled f x lo hi) else Err OutsideStack
 
--- the kind of register r after a call with a result of kind k; registers 1 to 5 are unreadable
+-- the kind of register r after a call with a result of kind k, which register 0 has; registers 1 to
+-- 5, which a call clobbers, are unreadable, and the others keep their kinds
 abbrev pub call_kind : Facts → Kind → ℕ → Kind
 call_kind f k r = if r == 0 then k else (if nat_le r 5 then Unreadable else kind_at f r)
 

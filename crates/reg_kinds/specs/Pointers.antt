@@ -4,11 +4,12 @@ use Rattle.std.specs.Int.{int_min, int_max}
 use Rattle.reg_kinds.specs.declared.kind.ValuePointer.{ValuePointer}
 use Rattle.reg_kinds.specs.inside.Offsets.{at_most_max, offsets_ordered}
 
--- a pointer into a value of map m, at an offset from lo to hi, or only at lo if hi is below it
+-- a pointer into a value of map m, at an offset from lo to hi. If hi is below lo, the offset is lo,
+-- so that each lo and hi give a range that is not empty
 abbrev pub value_span : ℕ → ℤ → ℤ → ValuePointer
 value_span m lo hi = record { map = m; lo = lo; hi = int_max lo hi; ordered = at_most_max lo hi }
 
--- a pointer into a value of p's map, with the least range of offsets that includes both
+-- a pointer into a value of p's map, with the least range of offsets that includes those of p and q
 abbrev pub offsets_hull : ValuePointer → ValuePointer → ValuePointer
 offsets_hull p q =
     record {

@@ -9,7 +9,8 @@ use Rattle.reg_kinds.specs.declared.reason.Reason.TheVariants.{OutsideStack, Una
 use Rattle.reg_kinds.specs.declared.reason.Reason.TheVariants.{ContextAccess, PointerStored, PointerComparison, HelperArgument, LengthUnbounded}
 use Rattle.reg_kinds.specs.declared.reason.Reason.TheVariants.{UnalignedAtomic, Memory}
 
--- 1 to 9 for the shape of a program, 20 to 36 for its safety, 40 for memory
+-- the number of a reason: 1 to 9 for the shape of a program, 20 to 36 for its safety, 40 if the
+-- verifier is out of memory
 abbrev pub number : Reason → ℕ
 number JumpOutside = 1
 number JumpBackward = 2
@@ -39,7 +40,7 @@ number LengthUnbounded = 35
 number UnalignedAtomic = 36
 number Memory = 40
 
--- f of the value; a reason stays as it is
+-- f of the value, or the reason why there is no value
 abbrev pub and_then_ok : {A B : Type 0} → Result A Reason → (A → Result B Reason) → Result B Reason
 and_then_ok (Ok a) f = f a
 and_then_ok (Err e) f = Err e

@@ -15,8 +15,8 @@ abbrev pub settled_value : Bool → ℕ → Kind
 settled_value true m = Scalar (constant 0)
 settled_value false m = Value (value_span m (pos 0) (pos 0))
 
--- a register's kind after a null test of the look-up at slot `site`; only copies of its result
--- change
+-- a register's kind after a null test of the look-up at slot `site` found the result null (`null`)
+-- or not; only the kinds of copies of this result change
 abbrev pub kind_settled : ℕ → Bool → Kind → Kind
 kind_settled site null (MaybeValue m s) = if s == site then settled_value null m else MaybeValue m s
 kind_settled site null k = k
@@ -27,8 +27,8 @@ abbrev pub settled_spill : Bool → ℕ → Slot
 settled_spill true m = Bytes 0xff
 settled_spill false m = Spill (Value (value_span m (pos 0) (pos 0)))
 
--- a stack slot after a null test of the look-up at slot `site`; only spilled copies of its result
--- change
+-- a stack slot after a null test of the look-up at slot `site` found the result null (`null`) or
+-- not; only spilled copies of this result change
 abbrev pub slot_settled : ℕ → Bool → Slot → Slot
 slot_settled site null (Spill (MaybeValue m s)) =
     if s == site then settled_spill null m else Spill (MaybeValue m s)

@@ -19,7 +19,8 @@ use Rattle.reg_kinds.specs.Kinds.{is_pointer, slot_at, with_slot}
 abbrev pub byte_bits : ℕ → ℕ → ℕ
 byte_bits at n = (2 ^ n - 1) * 2 ^ (at % 8)
 
--- the stack slot of an access and the mask of its bytes there, or the reason why it may not be done
+-- the stack slot of an access and the mask of its bytes there, or the first reason against it; an
+-- aligned access is in one slot
 abbrev pub touched : ℤ → AccessSize → Result (ℕ × ℕ) Reason
 touched offset size =
     if not (is_in_stack offset (bytes_of size)) then Err OutsideStack else
@@ -28,13 +29,15 @@ touched offset size =
 
 -- ---- loads
 
--- the kind of a load of bytes that are no spill: any word if sign-extended (true), else a number of
--- this size
+-- the kind of a load of bytes that are no spill: any number of this size, or, if sign-extended
+-- (true), of 64 bits: as words the negative numbers are the greatest, so the least range with them
+-- and 0 has all
 abbrev pub loaded : AccessSize → Bool → Kind
 loaded size true = Scalar (full 64)
 loaded size false = Scalar (full (8 * bytes_of size))
 
--- the kind of a load from a slot, of the bytes of a mask; a spill is only loaded whole
+-- the kind of the value that a load of the bytes of mask `bits` from a slot gives; a spill is only
+-- loaded whole, and other bytes only if all are written
 abbrev pub read_slot : Slot → ℕ → AccessSize → Bool → Result Kind Reason
 read_slot (Spill k) bits size signed = if is_double size then Ok k else Err PartOfSpill
 read_slot (Bytes mask) bits size signed =
@@ -47,13 +50,14 @@ stack_read f offset size signed =
 
 -- ---- stores
 
--- the slot after a write of the bytes of a mask: other written bytes stay written, a spill is lost
+-- the slot after a write of its bytes of mask `bits`: other written bytes stay written, a spill is
+-- lost
 abbrev pub bytes_over : Slot → ℕ → Slot
 bytes_over (Bytes mask) bits = Bytes (bit_or mask bits)
 bytes_over (Spill k) bits = Bytes bits
 
--- the slot after a store of a value of kind k to the bytes of a mask; a pointer is spilled whole,
--- or the store is rejected
+-- slot s after a store of a value of kind k to its bytes of mask `bits`; a pointer is spilled
+-- whole, or the store is rejected
 abbrev pub slot_written : Slot → ℕ → AccessSize → Kind → Result Slot Reason
 slot_written s bits size k =
     if is_pointer k
@@ -65,12 +69,14 @@ abbrev pub facts_written : Facts → AccessSize → Kind → ℕ × ℕ → Resu
 facts_written f size k t =
     and_then_ok (slot_written (slot_at f t.0) t.1 size k) (λ s. Ok (with_slot f t.0 s))
 
--- the facts after a store at an offset from the stack's upper end, or the first reason against it
+-- the facts after a store of a value of kind k at an offset from the stack's upper end, or the
+-- first reason against it; that the value is unreadable comes before all others
 abbrev pub stack_write : Facts → ℤ → AccessSize → Kind → Result Facts Reason
 stack_write f offset size Unreadable = Err UnreadableRegister
 stack_write f offset size k = and_then_ok (touched offset size) (facts_written f size k)
 
--- the stack of facts g is that of facts f, except perhaps for slot i, if one is given
+-- the stack of facts g, after a change, is that of facts f, before it: in all slots (None), or in
+-- all except stack slot i
 abbrev pub ChangesAtMost : Option ℕ → Facts → Facts → Type 0
 ChangesAtMost None f g = g.slots ≡ f.slots
 ChangesAtMost (Some i) f g = (i < stack_slots) × ((k : ℕ) → k ≢ i → slot_at g k ≡ slot_at f k)

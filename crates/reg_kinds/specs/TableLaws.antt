@@ -22,12 +22,13 @@ pub length-tabulate : {X : Type 0} (f : ℕ → X) (n : ℕ) → length (tabulat
 unfolding tabulate
 length-tabulate f n = length-map-range_with_len f 0 n
 
--- past the end of the list the default is read
+-- an element read at i past the end of a list of f 0 to f (n - 1) is the default d
 tabulate-past : {X : Type 0} (f : ℕ → X) (n i : ℕ) (d : X) → n ≤ i → get_or (tabulate n f) i d ≡ d
 tabulate-past f n i d h =
     let l = length-tabulate f n in get_or_past (tabulate n f) i d (omega arith)
 
--- what holds of f i, and of the default past the end, holds of the element read at i
+-- what holds of f i, and of the default d, which is read past the end, holds of the element read at
+-- i of a list of f 0 to f (n - 1)
 pub in_table : {X : Type 0} (P : X → Type 0) (f : ℕ → X) (n i : ℕ) (d : X)
     → P (f i)
     → P d
@@ -40,7 +41,8 @@ in_table P f n i d here past =
 
 -- ---- a list with one element written
 
--- what holds of x, and of the default, holds of the element read at i once x is written there
+-- what holds of x, and of the default d, which is read past the end, holds of the element read at i
+-- once x is written at i
 set-at : {X : Type 0} (P : X → Type 0) (xs : List X) (i : ℕ) (x d : X)
     → P x
     → P d
@@ -52,8 +54,8 @@ set-at P xs i x d here past =
     subst P (sym (get_or_past (set xs i x) i d (let l = length-set xs i x in omega arith))) past)
     (cases_lt i (length xs))
 
--- a relation between elements and a function's values, and between x and y, holds once x and y are
--- written at i
+-- if the element at each k is related to g k, and both x and the default d, which is read past the
+-- end, to y, then the elements are related to the values of g also once x and y are written at i
 pub in_written : {X Y : Type 0} (P : X → Y → Type 0) (xs : List X) (g : ℕ → Y) (i : ℕ) (x d : X)
     (y : Y)
     → P x y
@@ -68,7 +70,8 @@ in_written P xs g i x d y here past others k =
     (set-at (λ z. P z y) xs i x d here past))
     (λ t. subst (λ z. P z (g k)) (sym (get_or-set_other xs i k x d (eqb-false k i t))) (others k))
 
--- what holds of the elements of a list, and of x, holds of the elements once x is written at i
+-- what holds of all elements, of x and of the default d, which is read past the end, holds of all
+-- elements once x is written at i
 pub in_set : {X : Type 0} (P : X → Type 0) (xs : List X) (i : ℕ) (x d : X)
     → P x
     → P d

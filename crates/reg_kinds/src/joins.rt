@@ -22,6 +22,7 @@ pub const STACK_PARTS: usize = STACK_SLOTS / PART_SLOTS;
 #[derive(Clone, Copy, Debug, PartialEq, Eq)]
 pub struct StackPart {
     pub number: usize,
+    /// For contracts: the part is one of the stack's.
     pub ghost within: { number < stack_parts },
 }
 
@@ -92,7 +93,7 @@ pub fn join_into(facts: &mut Facts, edge: &Facts)
     join_stack(facts, edge);
 }
 
-/// Whether the range `a` includes `b`.
+/// Whether the range `a` includes `b`; then a join of `b` into `a` changes nothing, since their hull is `a`.
 #[tactic(auto, using(crate::proofs::Absorption::hull_holds))]
 #[inline(always)]
 fn holds_range(a: &Range, b: &Range) -> bool
@@ -101,7 +102,8 @@ fn holds_range(a: &Range, b: &Range) -> bool
     a.lo <= b.lo && b.hi <= a.hi
 }
 
-/// Joins the kind `edge` into `known` in place. It is out of line: joins that change nothing are found inline, by `join_kind`.
+/// Joins the kind `edge` into `known`, in place if both are ranges, or offsets into values of one map. It is out of line: joins that change
+/// nothing are found inline, by `join_kind`.
 #[inline(never)]
 fn join_other_kind(known: &mut Kind, edge: &Kind)
     ensures { known.new ≡ kind_join known.old edge.now }
@@ -121,7 +123,8 @@ fn join_any_kinds(known: &mut Kind, edge: &Kind)
     *known = known.join(*edge);
 }
 
-/// Joins the kind `edge` into `known` in place. Nothing is written if that changes nothing.
+/// Joins the kind `edge` into `known`. Nothing is written if the join is `known`: a range or offsets that include those of `edge`,
+/// `Unreadable`, or the same kind.
 #[inline(always)]
 fn join_kind(known: &mut Kind, edge: &Kind)
     ensures { known.new ≡ kind_join known.old edge.now }
@@ -135,7 +138,7 @@ fn join_kind(known: &mut Kind, edge: &Kind)
     }
 }
 
-/// Joins register `r` of a further edge into that of `facts`.
+/// Joins the kind of register `r` in the facts of a further edge into that in `facts`.
 #[inline(always)]
 fn join_register(facts: &mut Facts, edge: &Facts, r: usize)
     requires { r < REGISTERS }
@@ -164,7 +167,8 @@ pub fn join_registers(facts: &mut Facts, edge: &Facts)
     join_register(facts, edge, 10);
 }
 
-/// Whether the range of offsets of `p` includes that of `q`.
+/// Whether the range of offsets of `p` includes that of `q`, for pointers into values of one map; then a join of `q` into `p` changes
+/// nothing.
 #[inline(always)]
 fn holds_offsets(p: &ValuePointer, q: &ValuePointer) -> bool
     ensures { result ≡ true → offsets_hull p.now q.now ≡ p.now }
@@ -190,7 +194,7 @@ fn are_same(known: &Kind, edge: &Kind) -> bool
     }
 }
 
-/// Counts no byte as written that is not in the mask `other`. Returns whether that changes the mask.
+/// Joins the mask `other` of written bytes into `mask`: only bytes in both count as written. Returns whether that changes `mask`.
 #[inline(always)]
 fn keep_common(mask: &mut u8, other: u8) -> bool
     ensures mask { mask.new ≡ bit_and mask.old other }
@@ -204,7 +208,7 @@ fn keep_common(mask: &mut u8, other: u8) -> bool
     true
 }
 
-/// Joins the stack slot `edge` into `known`, and returns whether it may have changed.
+/// Joins the stack slot `edge` into `known`. Returns false only if `known` is unchanged; a join out of line counts as a change.
 #[inline(always)]
 fn join_slot(known: &mut Slot, edge: &Slot) -> bool
     ensures slot { known.new ≡ slot_join known.old edge.now }
@@ -227,8 +231,8 @@ fn join_slot(known: &mut Slot, edge: &Slot) -> bool
     }
 }
 
-/// Joins the stack slot `edge` into `known`, a spill that may change. The joins that a program can force in many slots are done in place,
-/// the others out of line.
+/// Joins the stack slot `edge` into `known`, a spill that may change. The joins that a program can force in many slots, of offsets into
+/// values of one map and of a spill with bytes, are done in place, the others out of line.
 #[inline(never)]
 fn join_other_slots(known: &mut Slot, edge: &Slot)
     ensures { known.new ≡ slot_join known.old edge.now }
@@ -250,7 +254,7 @@ fn join_any_slots(known: &mut Slot, edge: &Slot)
     *known = known.join(*edge);
 }
 
-/// Joins a part of the stack of a further edge into that of `facts`. Returns whether it may have changed.
+/// Joins a part of the stack of a further edge into that of `facts`. Returns false only if no slot has changed.
 pub fn join_part(facts: &mut Facts, edge: &Facts, part: StackPart) -> bool
     ensures facts { facts.new ≡ with_slots facts.old (part_joined part.number facts.old edge.now) }
     ensures stack { result ≡ false → facts.new.slots ≡ facts.old.slots }
@@ -265,7 +269,7 @@ pub fn join_part(facts: &mut Facts, edge: &Facts, part: StackPart) -> bool
     changes
 }
 
-/// Joins the stack of a further edge into that of `facts`.
+/// Joins the stack of a further edge into that of `facts`. Whether a slot has changed is not used.
 fn join_stack(facts: &mut Facts, edge: &Facts)
     ensures { facts.new ≡ with_slots facts.old
         (λ i. slot_join (slot_at facts.old i) (slot_at edge.now i)) }

@@ -11,8 +11,9 @@ pub struct ValuePointer {
     pub map: u32,
     /// The least offset, in bytes from the start of the value.
     pub lo: i32,
-    /// The greatest offset.
+    /// The greatest offset, included.
     pub hi: i32,
+    /// For contracts: the range has an offset.
     pub ghost ordered: { lo ≤ℤ hi },
 }
 
@@ -66,7 +67,7 @@ impl Kind {
     ghost use Rattle.std.specs.Prelude.{◌≡◌};
     ghost use Rattle.reg_kinds.specs.Kinds.{is_pointer};
 
-    /// Whether it is a map reference, or a pointer, possibly null.
+    /// Whether values of the kind are map references, or pointers, possibly null: a store puts them into the stack whole or not at all.
     pub fn is_pointer(self) -> bool
         ensures { result ≡ is_pointer self }
     {

@@ -7,7 +7,7 @@ ghost use Rattle.reg_kinds.specs.Laws.{SlotsAssociate, SlotsAbsorb, FactsCommute
 
 use crate::facts::Facts;
 
-/// The joins of kinds, of stack slots and of facts are commutative.
+/// A law: the joins of kinds, of stack slots and of facts are commutative. Nothing is done when it runs.
 pub fn joins_commute()
     ensures kinds { KindsCommute }
     ensures slots { SlotsCommute }
@@ -16,7 +16,7 @@ pub fn joins_commute()
     interval::laws::hull_is_a_join();
 }
 
-/// The joins of kinds, of stack slots and of facts are associative.
+/// A law: the joins of kinds, of stack slots and of facts are associative. Nothing is done when it runs.
 pub fn joins_associate()
     ensures kinds { KindsAssociate }
     ensures slots { SlotsAssociate }
@@ -25,14 +25,14 @@ pub fn joins_associate()
     interval::laws::hull_is_a_join();
 }
 
-/// A join of stack slots that is joined with the second one again is unchanged.
+/// A law: once a stack slot is joined with another, joining it with this other one again changes nothing.
 pub fn slots_absorb()
     ensures { SlotsAbsorb }
 {
     joins_associate();
 }
 
-/// Facts have each of the 64 slots of the stack.
+/// A law, for accesses by the number of a stack slot: the list of slots in facts has 64 elements. Nothing is done when it runs.
 #[inline(always)]
 pub fn facts_have_all_slots(facts: &Facts)
     ensures { length facts.now.slots ≡ stack_slots }

@@ -15,7 +15,8 @@ use crate::reason::Reason;
 use crate::stack::{LOWEST, bytes_over};
 use words::{REGISTERS, STACK_SLOTS};
 
-/// Whether `count` bytes at `start` touch slot `index`.
+/// Whether `count` bytes, from byte index `start` on, touch stack slot `index`: one of them lies there. No bytes (0) touch the slot of
+/// `start`, unless that is its first byte.
 fn touches(start: usize, count: usize, index: usize) -> bool
     requires within { start + count ≤ stack_size }
     requires slot { index < stack_slots }
@@ -24,7 +25,7 @@ fn touches(start: usize, count: usize, index: usize) -> bool
     start < 8 * index + 8 && 8 * index < start + count
 }
 
-/// `count` one bits, from bit `from` on.
+/// The mask in which `count` bits are 1, from bit `from` on. A `u16` has room for a 1 at bit 8, from which 1 is subtracted.
 fn ones(count: usize, from: usize) -> u8
     requires { count + from ≤ 8 }
     ensures { result ≡ (2 ^ count - 1) * 2 ^ from }
@@ -32,7 +33,7 @@ fn ones(count: usize, from: usize) -> u8
     (((1_u16 << count) - 1) << from) as u8
 }
 
-/// The mask of those of `count` bytes at `start` that lie in slot `index`.
+/// The mask of those of `count` bytes, from byte index `start` on, that lie in stack slot `index`; 0 if none does.
 fn bits_in(start: usize, count: usize, index: usize) -> u8
     requires start { start ≤ stack_size }
     requires count { count < 2 ^ 32 }
@@ -56,7 +57,7 @@ fn start_of(offset: i32, count: u32) -> Option<usize>
     }
 }
 
-/// Whether the slot is a spill and is touched.
+/// Whether the slot is a spill, and the bytes of an access touch it (`touched`).
 fn is_touched_spill(slot: Slot, touched: bool) -> bool
     ensures { result ≡ is_touched_spill slot touched }
 {
@@ -66,7 +67,7 @@ fn is_touched_spill(slot: Slot, touched: bool) -> bool
     }
 }
 
-/// Whether a byte of the mask `bits` may be unwritten. Those of a spill are written.
+/// Whether a byte of the slot, of those of the mask `bits`, may be unwritten. All bytes of a spill are written.
 fn lacks(slot: Slot, bits: u8) -> bool
     ensures { result ≡ lacks slot bits }
 {
@@ -76,7 +77,7 @@ fn lacks(slot: Slot, bits: u8) -> bool
     }
 }
 
-/// The number of the stack slots up to the end of `count` bytes at `start`: the slots from this one on are not touched.
+/// How many stack slots, from the lowest on, there are up to the end of `count` bytes at `start`. The bytes touch none above these.
 fn past_touched(start: usize, count: usize) -> usize
     requires { start + count ≤ stack_size }
     ensures bytes { start + count ≤ 8 * result }
@@ -85,7 +86,7 @@ fn past_touched(start: usize, count: usize) -> usize
     (start + count).div_ceil(8)
 }
 
-/// Whether `count` bytes at `start` touch a spill.
+/// Whether `count` bytes at `start` touch a spill. The slots below and above those of the loop are not touched.
 fn touch_a_spill(facts: &Facts, start: usize, count: usize) -> bool
     requires { start + count ≤ stack_size }
     ensures { result ≡ any_below stack_slots
@@ -99,7 +100,7 @@ fn touch_a_spill(facts: &Facts, start: usize, count: usize) -> bool
     false
 }
 
-/// Whether one of `count` bytes at `start` may be unwritten.
+/// Whether one of `count` bytes at `start` may be unwritten. The slots below and above those of the loop have none of them.
 fn are_missing(facts: &Facts, start: usize, count: usize) -> bool
     requires { start + count ≤ stack_size }
     ensures { result ≡ any_below stack_slots
@@ -113,7 +114,7 @@ fn are_missing(facts: &Facts, start: usize, count: usize) -> bool
     false
 }
 
-/// Checks a read of `count` stack bytes at `offset` from the stack's upper end. The error is the first that applies: they
+/// Checks a helper's read of `count` stack bytes at `offset` from the stack's upper end. The error is the first that applies: the bytes
 /// don't all lie in the stack (`OutsideStack`), they touch a spill (`PartOfSpill`), one may be unwritten (`UnwrittenStack`).
 pub fn read_many(facts: &Facts, offset: i32, count: u32) -> Result<(), Reason>
     ensures { result ≡ stack_input facts.now offset count }
@@ -130,8 +131,8 @@ pub fn read_many(facts: &Facts, offset: i32, count: u32) -> Result<(), Reason>
     }
 }
 
-/// The facts after a write of at least `least` and at most `most` bytes at `offset` of the stack: the first `least` count as
-/// written, and of a spill that may be touched no other byte does. `OutsideStack`, and nothing changes, if `most` bytes
+/// Changes the facts to those after a write of at least `least` and at most `most` bytes at `offset` from the stack's upper end: the first
+/// `least` count as written, and of a spill that may be touched no other byte does. `OutsideStack`, and nothing changes, if `most` bytes
 /// don't all lie in the stack. If `least` is above `most`, no write has such a length, and the facts describe no run.
 pub fn fill_stack(facts: &mut Facts, offset: i32, least: u32, most: u32) -> Result<(), Reason>
     ensures { MatchResult (stack_filled facts.old offset least most)
@@ -143,8 +144,8 @@ pub fn fill_stack(facts: &mut Facts, offset: i32, least: u32, most: u32) -> Resu
     Ok(())
 }
 
-/// Stack slot `index` after a write of `least` to `most` bytes at `start`: the first `least` count as written, and of a spill that may be
-/// touched no other byte does.
+/// What is known of stack slot `index`, which was `slot`, after a write of `least` to `most` bytes at `start`: the first `least` count as
+/// written, and of a spill that may be touched no other byte does. A slot that none of `most` bytes touches is unchanged.
 fn filled_slot(slot: Slot, start: usize, least: usize, most: usize, index: usize) -> Slot
     requires least { least < 2 ^ 32 }
     requires within { start + most ≤ stack_size }
@@ -159,7 +160,7 @@ fn filled_slot(slot: Slot, start: usize, least: usize, most: usize, index: usize
     }
 }
 
-/// Sets each stack slot to that after a write of `least` to `most` bytes at `start`.
+/// Changes each stack slot to what is known of it after a write of `least` to `most` bytes at `start`: see `filled_slot`.
 fn fill_slots(facts: &mut Facts, start: usize, least: usize, most: usize)
     requires least { least < 2 ^ 32 }
     requires within { start + most ≤ stack_size }
@@ -172,7 +173,8 @@ fn fill_slots(facts: &mut Facts, start: usize, least: usize, most: usize)
     }
 }
 
-/// The kind of `register`, which was `kind`, after a call whose result is of the kind `result_kind`.
+/// The kind of `register`, which was `kind`, after a call whose result is of the kind `result_kind`: register 0 has the result, and a call
+/// clobbers registers 1 to 5.
 fn called_kind(kind: Kind, result_kind: Kind, register: usize) -> Kind
     ensures { result ≡ (if register == 0 then result_kind
         else (if nat_le register 5 then Unreadable else kind)) }
@@ -186,7 +188,8 @@ fn called_kind(kind: Kind, result_kind: Kind, register: usize) -> Kind
     }
 }
 
-/// Changes the facts to those after a call whose result is of the kind `given`: register 0 has it, and registers 1 to 5 are unreadable.
+/// Changes the facts to those after a call whose result is of the kind `given`: register 0 has it, and registers 1 to 5, which a call
+/// clobbers, are unreadable. The stack is unchanged: what a helper writes there is a matter of `fill_stack`.
 pub fn facts_after_call(facts: &mut Facts, given: Kind)
     ensures { facts.new ≡ called_facts facts.old given }
 {

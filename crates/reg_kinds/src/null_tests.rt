@@ -9,8 +9,8 @@ use crate::kind::{Kind, Slot, ValuePointer};
 use interval::Range;
 use words::{REGISTERS, STACK_SLOTS};
 
-/// Settles all copies of the result of the look-up at slot `site`. If `null`, a register has the number 0, and a spill is
-/// eight written bytes; else each copy is a pointer to the start of a value.
+/// Settles all copies of the result of the look-up at slot `site`, after a test that found it null (`null`) or not. If `null`, a register
+/// has the number 0, and a spill is eight written bytes; else each copy is a pointer to the start of a value. No other kind changes.
 pub fn settle(facts: &mut Facts, site: usize, null: bool)
     ensures { facts.new ≡ facts_settled site null facts.old }
 {
@@ -40,7 +40,7 @@ fn settle_stack(facts: &mut Facts, site: usize, null: bool)
 }
 
 /// Settles the kind of a register, if it has the result of the look-up at slot `site`: the number 0 if `null`, else a pointer to the start
-/// of a value.
+/// of a value. Any other kind, also the result of another look-up, is unchanged.
 #[inline(always)]
 fn settle_kind(kind: &mut Kind, site: usize, null: bool)
     ensures { kind.new ≡ kind_settled site null kind.old }
@@ -58,7 +58,7 @@ fn settle_kind(kind: &mut Kind, site: usize, null: bool)
 }
 
 /// Settles a stack slot, if it has the spilled result of the look-up at slot `site`: eight written bytes if `null`, else a pointer to the
-/// start of a value.
+/// start of a value. Any other slot, also with the result of another look-up, is unchanged.
 #[inline(always)]
 fn settle_slot(slot: &mut Slot, site: usize, null: bool)
     ensures { slot.new ≡ slot_settled site null slot.old }
@@ -115,7 +115,7 @@ fn settle_both_stacks(facts: &mut Facts, taken: &mut Facts, site: usize, null: b
 }
 
 /// Settles a register's kind, of which `taken` is a copy: in `taken` for a result of the look-up at slot `site` that is null exactly if
-/// `null`, in `kind` for the opposite.
+/// `null`, in `kind` for the opposite. Any other kind is unchanged in both.
 #[inline(always)]
 fn settle_both_kinds(kind: &mut Kind, taken: &mut Kind, site: usize, null: bool)
     requires { taken.now ≡ kind.now }
@@ -132,7 +132,7 @@ fn settle_both_kinds(kind: &mut Kind, taken: &mut Kind, site: usize, null: bool)
 }
 
 /// Settles a stack slot, of which `taken` is a copy: in `taken` for a result of the look-up at slot `site` that is null exactly if `null`,
-/// in `slot` for the opposite.
+/// in `slot` for the opposite. Any other slot is unchanged in both.
 #[inline(always)]
 fn settle_both_slots(slot: &mut Slot, taken: &mut Slot, site: usize, null: bool)
     requires { taken.now ≡ slot.now }

@@ -37,7 +37,7 @@ pub enum Reason {
     UnalignedStack,
     /// A read of a stack byte that may be unwritten.
     UnwrittenStack,
-    /// An access to a part of a spilled pointer.
+    /// A load of a part of a spilled pointer, a store of a part of a pointer, or a read of a spill by an atomic operation or a helper.
     PartOfSpill,
     /// An access outside a map's value.
     OutsideValue,

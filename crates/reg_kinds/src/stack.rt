@@ -15,9 +15,9 @@ use words::{AccessSize, STACK_SIZE};
 /// The offset of the stack's lowest byte from its upper end: -512.
 pub(crate) const LOWEST: i32 = -(STACK_SIZE as i32);
 
-/// The kind of a load at `offset` from the stack's upper end, sign-extending if `signed`. The error is the first that
-/// applies: it is not in the stack (`OutsideStack`), it is not aligned to its size (`UnalignedStack`), it reads a part of a
-/// spill (`PartOfSpill`), a byte may be unwritten (`UnwrittenStack`).
+/// The kind of the value that a load at `offset` from the stack's upper end gives; a number is sign-extended if `signed`. The error is the
+/// first that applies: the load is not in the stack (`OutsideStack`), it is not aligned to its size (`UnalignedStack`), it reads a part of
+/// a spill (`PartOfSpill`), a byte may be unwritten (`UnwrittenStack`).
 pub fn read_stack(
     facts: &Facts,
     offset: i32,
@@ -30,8 +30,8 @@ pub fn read_stack(
     read_slot(facts.slot(index), bits, size, signed)
 }
 
-/// The kind of a load from `slot`, of the bytes of the mask `bits`. A spill is only loaded whole (`PartOfSpill`), and other bytes only if
-/// all are written (`UnwrittenStack`).
+/// The kind of the value that a load of the bytes of the mask `bits` from `slot` gives; a number is sign-extended if `signed`. A spill is
+/// only loaded whole, else `PartOfSpill`; other bytes only if all are written, else `UnwrittenStack`.
 fn read_slot(slot: Slot, bits: u8, size: AccessSize, signed: bool) -> Result<Kind, Reason>
     ensures { result ≡ read_slot slot bits size signed }
 {
@@ -43,10 +43,10 @@ fn read_slot(slot: Slot, bits: u8, size: AccessSize, signed: bool) -> Result<Kin
     }
 }
 
-/// The facts after a store of a value of this kind at `offset` from the stack's upper end. Returns the slot of the store; no other
-/// slot changes. The error is the first that applies, and then nothing changes: the value is unreadable (`UnreadableRegister`), the
-/// store is not in the stack (`OutsideStack`), it is not aligned to its size (`UnalignedStack`), it stores a part of a pointer
-/// (`PartOfSpill`).
+/// Changes the facts to those after a store of a value of this kind at `offset` from the stack's upper end. Returns the stack slot of the
+/// store; no other slot changes. The error is the first that applies, and then nothing changes: the value is unreadable
+/// (`UnreadableRegister`), the store is not in the stack (`OutsideStack`), it is not aligned to its size (`UnalignedStack`), it stores a
+/// part of a pointer (`PartOfSpill`).
 pub fn write_stack(
     facts: &mut Facts,
     offset: i32,
@@ -67,8 +67,8 @@ pub fn write_stack(
     Ok(index)
 }
 
-/// The stack slot of an access at `offset` from the stack's upper end, and the mask of its bytes there. `OutsideStack` if it is not in the
-/// stack, else `UnalignedStack` if it is not aligned to its size.
+/// The stack slot of an access at `offset` from the stack's upper end, and the mask of its bytes there. The error is `OutsideStack` if the
+/// access is not in the stack, else `UnalignedStack` if it is not aligned to its size. An aligned access is in one slot.
 fn touched(offset: i32, size: AccessSize) -> Result<(usize, u8), Reason>
     ensures value { result ≡ touched offset size }
     ensures bound { IfOk result (λ t. t.0 < stack_slots) }
@@ -97,7 +97,8 @@ fn byte_bits(start: usize, size: AccessSize) -> u8
     }
 }
 
-/// The kind of a load of bytes that are no spill: a number of `size` bytes, or any 64-bit number if sign-extended.
+/// The kind of a load of bytes that are no spill: a number of `size` bytes, or, if sign-extended (`signed`), any 64-bit number: as words
+/// the negative numbers are the greatest, so the least range with them and 0 has all.
 pub fn loaded(size: AccessSize, signed: bool) -> Kind
     ensures { result ≡ loaded size signed }
 {
@@ -108,7 +109,7 @@ pub fn loaded(size: AccessSize, signed: bool) -> Kind
     }
 }
 
-/// The numbers of `size` bytes.
+/// The range of the numbers of `size` bytes: what a load that zero-extends can give.
 fn zero_extended(size: AccessSize) -> Range
     ensures { result ≡ full (8 * bytes_of size) }
 {
@@ -120,7 +121,8 @@ fn zero_extended(size: AccessSize) -> Range
     }
 }
 
-/// The slot after a store of `value` to the bytes of the mask `bits`. `PartOfSpill` if it stores a part of a pointer.
+/// What is known of `slot` after a store of a value of kind `value` to its bytes of the mask `bits`. A number makes them written, a pointer
+/// is spilled whole; `PartOfSpill` if only a part of a pointer is stored.
 fn slot_written(slot: Slot, bits: u8, size: AccessSize, value: Kind) -> Result<Slot, Reason>
     ensures { result ≡ slot_written slot bits size value }
 {
@@ -133,7 +135,7 @@ fn slot_written(slot: Slot, bits: u8, size: AccessSize, value: Kind) -> Result<S
     }
 }
 
-/// The slot after a write of the bytes of the mask `bits`: other written bytes stay written, a spill is lost.
+/// What is known of `slot` after a write of its bytes of the mask `bits`: other written bytes stay written, a spill is lost.
 pub(crate) fn bytes_over(slot: Slot, bits: u8) -> Slot
     ensures { result ≡ bytes_over slot bits }
 {

@@ -26,7 +26,7 @@ half_at bs i =
     slice_index bs i + slice_index bs (i + 1) * 256 + slice_index bs (i + 2) * 65536
     + slice_index bs (i + 3) * 16777216
 
--- a shift to the left, modulo 2 ^ 64
+-- x shifted to the left by this number of bits, modulo 2 ^ 64
 abbrev pub shifted : ℕ → ℕ → ℕ
 shifted x by = (x * 2 ^ by) % 2 ^ 64
 
@@ -34,8 +34,8 @@ shifted x by = (x * 2 ^ by) % 2 ^ 64
 unfoldable pub word_at : List ℕ → ℕ → ℕ
 word_at bs i = bit_or (half_at bs i) (shifted (half_at bs (i + 4)) 32)
 
--- at most eight bytes as one number: of the first and last four, or of one to three bytes the
--- first, the middle and the last
+-- at most eight bytes as one number: the first four and the last four, or of one to three bytes the
+-- first, the middle and the last; 0 for no bytes
 unfoldable pub short_word : List ℕ → ℕ
 short_word bs =
     let n = length bs in

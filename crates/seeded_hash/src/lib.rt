@@ -167,8 +167,8 @@ fn word_at(bytes: &[u8], at: usize) -> u64
     half_at(bytes, at) | half_at(bytes, at + 4) << 32
 }
 
-/// At most eight bytes as one number, by reads that may overlap: the first and last four, or of one to three bytes the first, the middle
-/// and the last.
+/// At most eight bytes as one number, by reads that may overlap: the first four and the last four, or of one to three bytes the first, the
+/// middle and the last; 0 for no bytes.
 #[inline(always)]
 fn short_word(bytes: &[u8]) -> u64
     ensures { result ≡ hashing.short_word bytes.now }

@@ -10,12 +10,12 @@ use Rattle.words.specs.Stack.{bytes_of, touches}
 use Rattle.tagged_model.specs.declared.value.Tagged.{Tagged}
 use Rattle.tagged_model.specs.declared.value.Tagged.TheVariants.{Scalar}
 
--- a pointer or a map kept whole, or bytes, any of which may be absent
+-- a cell: a pointer or a map kept whole, or eight bytes by their index, each of which may be absent
 pub data Cell : Type 0 where
   holds : Tagged → Cell
   bytes : (ℕ → Option ℕ) → Cell
 
--- applies f if there is a value
+-- f of the value if there is one, else None
 abbrev pub and_then : {A B : Type 0} → Option A → (A → Option B) → Option B
 and_then None f = None
 and_then (Some x) f = f x
@@ -36,30 +36,34 @@ abbrev pub widened : AccessSize → Bool → ℕ → ℕ
 widened size true n = sign_extend 64 (8 * bytes_of size) n
 widened size false n = n
 
--- the number of these bytes, if there are any, as a word: sign-extended (true), or zero-extended
+-- the number of these bytes, little-endian, as a word: sign-extended (true), or zero-extended; None
+-- without bytes
 abbrev pub number_from : AccessSize → Bool → Option (List ℕ) → Option Tagged
 number_from size signed o = option_map (λ bs. Scalar (widened size signed (number_of bs))) o
 
--- the value of a load at byte j of a cell; None for a part of a value kept whole, or an absent byte
+-- the value of a load at byte j of a cell; None for a part of a value kept whole, or an absent
+-- byte. An aligned double word is the whole cell
 abbrev pub read_cell : Cell → ℕ → AccessSize → Bool → Option Tagged
 read_cell (holds v) j Double signed = Some v
 read_cell (holds v) j _ signed = None
 read_cell (bytes b) j size signed = number_from size signed (gathered b j (bytes_of size))
 
--- the cell with these bytes written over it at offset j; a value kept whole is lost
+-- the cell with these bytes written over it at offset j; a value kept whole is lost, and its other
+-- bytes are absent
 abbrev pub written_over : Cell → ℕ → List ℕ → Cell
 written_over c j bs =
     bytes
     (λ k. if nat_le j k && nat_lt k (j + length bs) then slice_get bs (k - j) else byte_at c k)
 
--- the cell after a store of v at its byte j; None for a store of a part of a pointer or map
+-- the cell after a store of v at its byte j; None for a store of a part of a pointer or map. An
+-- aligned double word is the whole cell
 abbrev pub write_cell : Cell → ℕ → AccessSize → Tagged → Option Cell
 write_cell c j size (Scalar n) = Some (written_over c j (low_bytes (bytes_of size) n))
 write_cell c j Double v = Some (holds v)
 write_cell c j _ v = None
 
 -- cell c, stack slot i, after these bytes are written at byte index p of the stack; if they touch
--- it, a value kept whole is lost
+-- it, a value kept whole is lost, and its other bytes are absent
 abbrev pub cell_over : ℕ → Cell → ℕ → List ℕ → Cell
 cell_over i c p bs =
     if touches p (length bs) i

@@ -49,8 +49,8 @@ number_of_found id helper e =
 
 -- ---- what a call leaves
 
--- a map after a call: the same, or with bytes written into a value, or after an update or a delete,
--- whatever its result
+-- a map that a call may leave of map t: t unchanged, t with bytes written into one value, or t
+-- after an update or a delete, whether it succeeds or fails
 pub data MapAfterCall (t : RunMap) : RunMap → Type 0 where
   unchanged : MapAfterCall t t
   written : (number : ℕ) (offset : ℤ) (bs value : List ℕ)
@@ -62,35 +62,38 @@ pub data MapAfterCall (t : RunMap) : RunMap → Type 0 where
       → MapAfterCall t (updated t key value flags).map
   after_delete : (key : List ℕ) → MapAfterCall t (removed t key).map
 
--- a descriptor has a map after a call exactly if it had one before
+-- what a descriptor has before a call and after it: no map both times, or a map and one that a call
+-- may leave of it
 abbrev pub EntryAfterCall : Option RunMap → Option RunMap → Type 0
 EntryAfterCall None None = Unit {0}
 EntryAfterCall (Some t) (Some u) = MapAfterCall t u
 EntryAfterCall _ _ = ⊥
 
--- a state after a call, from the state before it: the words of the context are the same, and each
--- map is one after a call
+-- t is a state after a call from s: it has the context words of s, and each map is one that a call
+-- may leave of the map in s. Registers, stack and packet may be any
 pub record IsAfterCall (s t : RunState) : Type 0 where
   pub words : t.words ≡ s.words
   pub maps : (m : ℕ) → EntryAfterCall (s.maps m) (t.maps m)
 
--- the state that a call leaves, if there is one, is a state after a call from s
+-- a computation leaves a state after a call from s, or no state (None): then it faults, and nothing
+-- is required
 abbrev pub LeavesAfterCall : RunState → Option RunState → Type 0
 LeavesAfterCall s None = Unit {0}
 LeavesAfterCall s (Some t) = IsAfterCall s t
 
 -- ---- a state and its parts
 
--- an unchanged entry is one after a call
+-- a call may leave a descriptor what it had, a map or none
 entry_same : (o : Option RunMap) → EntryAfterCall o o
 entry_same None = tt
 entry_same (Some t) = unchanged
 
--- an unchanged state is one after a call
+-- s itself is a state after a call from s: a call may change nothing
 state_same : (s : RunState) → IsAfterCall s s
 state_same s = record { words = refl; maps = λ m. entry_same (s.maps m) }
 
--- if one map changes as by a call, each entry is one after a call
+-- if the map t of descriptor m is replaced by u, which a call may leave of t, then each descriptor
+-- k has what a call may leave it
 entry_set : (s : RunState) (m : ℕ) (t u : RunMap)
     → s.maps m ≡ Some t
     → MapAfterCall t u
@@ -103,18 +106,20 @@ entry_set s m t u there change k =
     (sym (ap s.maps (eqb-true k m b) ∙ there)) change)
     (λ _. entry_same (s.maps k))
 
--- the state is one after a call, if the map of descriptor m is replaced by that map after a call
+-- s with the map t of descriptor m replaced by u, which a call may leave of t, is a state after a
+-- call from s
 map_changed : (s : RunState) (m : ℕ) (t u : RunMap)
     → s.maps m ≡ Some t
     → MapAfterCall t u
     → IsAfterCall s (with_map s m u)
 map_changed s m t u there change = record { words = refl; maps = entry_set s m t u there change }
 
--- a state after a call is also one with a result in register 0
+-- a state after a call remains one when v is put into register 0 and registers 1 to 5 are emptied
 returned : (s t : RunState) (v : Tagged) → IsAfterCall s t → IsAfterCall s (returns t v)
 returned s t v h = record { words = h.words; maps = h.maps }
 
--- the state is one after a call, if map m and register 0 are replaced by those of the reply
+-- s with the map t of descriptor m replaced by that of the reply, which a call may leave of t, and
+-- with the reply's result in register 0 is a state after a call from s
 replied : (s : RunState) (m : ℕ) (t : RunMap) (reply : MapReply)
     → s.maps m ≡ Some t
     → MapAfterCall t reply.map
@@ -124,14 +129,16 @@ replied s m t reply there change = record {
   maps = entry_set s m t reply.map there change;
 }
 
--- a computation of two parts leaves a state after a call, if its second part does
+-- a computation that continues with f of the value of o leaves a state after a call, if f of this
+-- value does; without a value there is no state
 then_leaves : {A : Type 0} (s : RunState) (o : Option A) (f : A → Option RunState)
     → ((x : A) → o ≡ Some x → LeavesAfterCall s (f x))
     → LeavesAfterCall s (and_then o f)
 then_leaves s None f h = tt
 then_leaves s (Some x) f h = h x refl
 
--- a state after a call, if there is one, is also one with a result in register 0
+-- if a computation leaves a state after a call, it still does when v is then put into register 0
+-- and registers 1 to 5 are emptied
 return_leaves : (s : RunState) (o : Option RunState) (v : Tagged)
     → LeavesAfterCall s o
     → LeavesAfterCall s (and_then o (λ t. Some (returns t v)))
@@ -140,8 +147,8 @@ return_leaves s (Some t) v h = returned s t v h
 
 -- ---- arguments
 
--- a call that continues with a map argument leaves a state after a call, if it does for each map of
--- the state
+-- a call that reads the map in register r and continues with f leaves a state after a call, if f
+-- does for each map of the state
 map_leaves : (s : RunState) (r : ℕ) (f : GivenMap → Option RunState)
     → ((m : ℕ) (t : RunMap)
     → s.maps m ≡ Some t
@@ -164,12 +171,12 @@ map_leaves s r f h = by (argument s r map_given)
     by None = tt
     by (Some m) = at m (s.maps m) refl
 
--- the number of bytes is n, if there are any bytes
+-- a read gave n bytes, or None, a fault
 abbrev HasLength : ℕ → Option (List ℕ) → Type 0
 HasLength n None = Unit {0}
 HasLength n (Some bs) = length bs ≡ n
 
--- if each of the n bytes from index p on is present, n bytes are gathered
+-- the bytes that are gathered from index p on are n, or None if one of them is absent
 gathered_long : (byte : ℕ → Option ℕ) (p n : ℕ) → HasLength n (gathered byte p n)
 unfolding gathered
 gathered_long byte p zero = refl
@@ -182,20 +189,21 @@ gathered_long byte p (suc n) = by (byte p) (gathered byte (suc p) n) (gathered_l
     by (Some b) None h = tt
     by (Some b) (Some bs) h = ap suc h
 
--- a read of n bytes of a value gives n bytes
+-- a read of n bytes at offset y of a value gives n bytes, or faults
 value_long : (value : List ℕ) (y : ℤ) (n : ℕ) → HasLength n (value_bytes value y n)
 value_long value (pos y) n =
     cond_both (nat_le (y + n) (length value)) (Some (bytes_at value y n)) None (HasLength n)
     (λ fits. length-bytes_at value y n (leb-true (y + n) (length value) fits)) (λ _. tt)
 value_long value (negsuc y) n = tt
 
--- a read of n bytes of an object gives n bytes
+-- a read of n bytes at offset y of object `number` gives n bytes, or faults, as it does if there is
+-- no map (o is None)
 object_long : (o : Option RunMap) (number : ℕ) (y : ℤ) (n : ℕ)
     → HasLength n (and_then o (λ t. value_bytes (t.values number) y n))
 object_long None number y n = tt
 object_long (Some t) number y n = value_long (t.values number) y n
 
--- a helper that reads n bytes gets n bytes
+-- a helper that reads n bytes at p gets n bytes, or faults
 input_long : (s : RunState) (p : Tagged) (n : ℕ) → HasLength n (input s p n)
 input_long s (Pointer object.Stack x) n =
     cond_both (is_in_stack x n) (gathered (stack_byte s) (byte_index x) n) None (HasLength n)
@@ -203,8 +211,8 @@ input_long s (Pointer object.Stack x) n =
 input_long s (Pointer (object.Value m number) x) n = object_long (s.maps m) number x n
 input_long s p n = tt
 
--- a call that continues with n bytes at argument r leaves a state after a call, if it does for any
--- n bytes
+-- a call that reads n bytes at the pointer in register r and continues with f leaves a state after
+-- a call, if f does for any n bytes
 bytes_leave : (s : RunState) (r n : ℕ) (f : List ℕ → Option RunState)
     → ((bs : List ℕ) → length bs ≡ n → LeavesAfterCall s (f bs))
     → LeavesAfterCall s (and_then (argument s r (λ p. input s p n)) f)
@@ -218,7 +226,8 @@ bytes_leave s r n f h = by (s.registers r)
     by None = tt
     by (Some p) = read (input s p n) (input_long s p n)
 
--- a write of a helper leaves a state after a call
+-- a helper that writes bytes at p leaves a state after a call, or faults, as it does if p is no
+-- pointer into the stack or a value
 output_leaves : (s : RunState) (p : Tagged) (bs : List ℕ) → LeavesAfterCall s (output s p bs)
 output_leaves s (Pointer object.Stack x) bs =
     cond_both (is_in_stack x (length bs))
@@ -236,7 +245,7 @@ output_leaves s p bs = tt
 
 -- ---- the calls
 
--- what a call of any helper leaves, if it is no fault, is a state after a call
+-- a call of any helper leaves a state after a call, or faults
 pub call_leaves : (helper : Helper) (s : RunState) → LeavesAfterCall s (called helper s)
 call_leaves LookUp s =
     map_leaves s 1 _

@@ -35,7 +35,7 @@ helper_of id = find (λ h. int_eq id (pos (id_of h))) known_helpers
 
 -- ---- results
 
--- the errors of bpf(2); a helper returns them negated, modulo 2 ^ 64
+-- the number of each error of bpf(2), which a helper returns negated, modulo 2 ^ 64
 abbrev pub errno : MapFault → ℕ
 errno NoEntry = 2
 errno TooBig = 7
@@ -44,15 +44,15 @@ errno Exists = 17
 errno Invalid = 22
 errno NoSpace = 28
 
--- EFAULT: the bytes to load lie outside the packet
+-- EFAULT, the number of the error if the bytes to load lie outside the packet
 abbrev pub outside : ℕ
 outside = 14
 
--- the number n negated, modulo 2 ^ 64
+-- the number n of an error, which is not 0, negated modulo 2 ^ 64
 abbrev pub negative : ℕ → ℕ
 negative n = 2 ^ 64 - n
 
--- the result of a call of a map, and the map after it
+-- the result of an update or a delete, which register 0 gets, and the map after it
 pub record MapReply : Type 0 where
   pub answer : ℕ
   pub map : RunMap
@@ -67,12 +67,13 @@ succeeds t = record { answer = 0; map = t }
 
 -- ---- the calls of a map
 
--- the result of a look-up in map m: a pointer to the value, or null
+-- the result of a look-up in the map of descriptor m, from the number of the object that it found:
+-- a pointer to the object's start, or null if the key is absent
 abbrev pub looked_up : ℕ → Option ℕ → Tagged
 looked_up m None = Scalar 0
 looked_up m (Some number) = Pointer (object.Value m number) (pos 0)
 
--- the map with a new key and a new object
+-- the map with a new key, whose object has the count so far as its number and `value` as its bytes
 abbrev pub with_object : RunMap → List ℕ → List ℕ → RunMap
 with_object t key value = record {
   table = with_new t.table key t.count;
@@ -106,7 +107,8 @@ removed t key = taken_out t key (removal t.table key)
 
 -- ---- bytes of the packet
 
--- n bytes at an offset lie in the packet; the offset is read as 32 bits and may not be negative
+-- n bytes at an offset lie in the packet; the offset is read as a signed number of 32 bits, and a
+-- negative one, from 2 ^ 31 on, is in no packet
 abbrev pub is_in_packet : List ℕ → ℕ → ℕ → Bool
 is_in_packet packet offset n =
     nat_le (offset % 2 ^ 32) (2 ^ 31 - 1) && nat_le (offset % 2 ^ 32 + n) (length packet)
@@ -116,33 +118,34 @@ abbrev pub packet_bytes : List ℕ → ℕ → ℕ → List ℕ
 packet_bytes packet offset n =
     if is_in_packet packet offset n then bytes_at packet (offset % 2 ^ 32) n else replicate n 0
 
--- the result of a load of n bytes: 0, or the negated error
+-- the result of a load of n bytes of the packet: 0, or EFAULT negated
 abbrev pub packet_answer : List ℕ → ℕ → ℕ → ℕ
 packet_answer packet offset n = if is_in_packet packet offset n then 0 else negative outside
 
 -- ---- arguments: a register's value, if it has the kind that is required
 
--- the number that a value is
+-- the number that a value is; None for a map or a pointer
 abbrev pub number_given : Tagged → Option ℕ
 number_given (Scalar n) = Some n
 number_given _ = None
 
--- a length is a number other than 0
+-- the length that a value is, a number other than 0; None for 0, a map or a pointer
 abbrev pub length_given : Tagged → Option ℕ
 length_given (Scalar n) = if n == 0 then None else Some n
 length_given _ = None
 
--- the descriptor of the map that a value is
+-- the descriptor of the map that a value is; None if it is no map
 abbrev pub map_given : Tagged → Option ℕ
 map_given (Map m) = Some m
 map_given _ = None
 
--- the value is the pointer to the start of the context
+-- Some if the value is the pointer to the start of the context, None for any other value
 abbrev pub context_given : Tagged → Option (Unit {0})
 context_given (Pointer object.Context x) = if int_eq x (pos 0) then Some tt else None
 context_given _ = None
 
--- the argument in register r, read by `given`; None if it is not of the required kind
+-- the argument in register r, read by `given`; None if the register is empty, or its value is not
+-- of the kind that `given` requires
 abbrev pub argument : {A : Type 0} → RunState → ℕ → (Tagged → Option A) → Option A
 argument s r given = and_then (s.registers r) given
 
@@ -151,7 +154,8 @@ pub record GivenMap : Type 0 where
   pub descriptor : ℕ
   pub map : RunMap
 
--- the map in register r, and its descriptor; None if it holds none
+-- the map in register r, and its descriptor; None if the register has no map, or the run has none
+-- of this descriptor
 abbrev pub map_argument : RunState → ℕ → Option GivenMap
 map_argument s r =
     and_then (argument s r map_given)
@@ -159,11 +163,12 @@ map_argument s r =
 
 -- ---- the calls
 
--- after a call register 0 has its result, and registers 1 to 5 are empty
+-- register r after a call with result v, which register 0 has; registers 1 to 5 are empty, the
+-- others unchanged
 abbrev pub after_call : (ℕ → Option Tagged) → Tagged → ℕ → Option Tagged
 after_call registers v r = if r == 0 then Some v else (if nat_le r 5 then None else registers r)
 
--- the state after a call with result v
+-- the state after a call with result v: registers 0 to 5 change
 abbrev pub returns : RunState → Tagged → RunState
 returns s v = record s { registers = after_call s.registers v }
 
@@ -171,7 +176,8 @@ returns s v = record s { registers = after_call s.registers v }
 abbrev pub replies : RunState → ℕ → MapReply → RunState
 replies s m reply = returns (with_map s m reply.map) (Scalar reply.answer)
 
--- the state after a call of a helper; None if an argument is not of the required kind
+-- the state after a call of a helper; None, a fault, if an argument is not of the required kind, or
+-- the bytes at a pointer do not all lie in its object or, to be read, are not all present
 abbrev pub called : Helper → RunState → Option RunState
 called LookUp s =
     and_then (map_argument s 1) (λ g.

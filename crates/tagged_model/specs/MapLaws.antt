@@ -6,8 +6,9 @@ use Rattle.tagged_model.specs.declared.shape.MapShape.{MapShape}
 use Rattle.tagged_model.specs.declared.fault.MapFault.TheVariants.{Memory}
 use Rattle.tagged_model.specs.Table as map
 
--- whatever values the objects represent, such as elements or bytes: the results are those of the
--- map of these values, and that map changes as the definition says
+-- a map of objects refines the map that has the value of each object instead of it (`with_values`):
+-- each call gives the same result on both, with values for objects, and changes both alike.
+-- `value` gives the value that an object represents, such as its element or its bytes
 pub record CallsRefineValues (A B : Type 0) : Type 0 where
   pub new : (value : A → B) (object : ℕ → A) (shape : MapShape)
       → map.with_values value (map.new_table object shape)

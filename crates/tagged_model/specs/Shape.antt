@@ -49,7 +49,7 @@ fits value max = nat_le (area value max) largest_area
 abbrev pub is_shape : MapKind → ℕ → ℕ → ℕ → Bool
 is_shape kind key value max = is_valid kind key value max 0 && fits value max
 
--- the fault of the fields; None if a map may have them
+-- why no map may have these fields and flags, Invalid before TooBig; None if a map may have them
 abbrev pub shape_fault : MapKind → ℕ → ℕ → ℕ → ℕ → Option ShapeFault
 shape_fault kind key value max flags =
     if is_valid kind key value max flags

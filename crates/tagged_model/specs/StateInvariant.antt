@@ -13,7 +13,8 @@ use Rattle.tagged_model.specs.State.{RunState, RunMap, context_words}
 abbrev pub AreBytes : List ℕ → Type 0
 AreBytes bs = All (λ b. b < 256) bs
 
--- the bytes in a state are below 256, and the context has its words of 32 bits
+-- the bytes of the stack, of values and of the packet are below 256, and the context has eleven
+-- words, each below 2 ^ 32
 pub record IsInRange (s : RunState) : Type 0 where
   pub bytes : (i j b : ℕ) → byte_at (s.cells i) j ≡ Some b → b < 256
   pub words : All (λ w. w < 2 ^ 32) s.words
@@ -28,8 +29,8 @@ abbrev pub KeysHaveObjects : ℕ → List (List ℕ × ℕ) → Type 0
 KeysHaveObjects count [] = Unit {0}
 KeysHaveObjects count (e ∷ es) = (e.1 < count) × KeysHaveObjects count es
 
--- t is a map of this shape: an array has all its indices, and each object, also a deleted one, has
--- the size of a value
+-- t is a map of this shape: an array has all its indices, the object of each key has a number below
+-- the count, and each object, also a deleted one, has the size of a value
 pub record IsMapOf (shape : MapShape) (t : RunMap) : Type 0 where
   pub shaped : t.table.shape ≡ shape
   pub indices : shape.kind ≡ Array

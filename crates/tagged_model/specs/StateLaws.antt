@@ -16,7 +16,7 @@ use Rattle.tagged_model.specs.StateInvariant.{KeysHaveObjects}
 
 -- ---- offsets
 
--- a near offset is at most the farthest away
+-- an offset that `is_near` accepts is from minus the farthest offset to the farthest offset
 pub near_parts : (x : ℤ)
     → is_near x ≡ true
     → (neg_ℤ (pos farthest_offset) ≤ℤ x) × (x ≤ℤ pos farthest_offset)
@@ -47,7 +47,7 @@ found_owned count key (x ∷ es) number owns e =
         let same : x.1 ≡ number = same_Some x.1 number e in let lt = owns.0 in omega arith
     by rest false e = rest e
 
--- objects that are numbered below n are numbered below a greater m
+-- if the objects of all keys are numbered below n, they are numbered below each m that is not less
 pub owns_more : (n m : ℕ) (es : List (List ℕ × ℕ))
     → n ≤ m
     → KeysHaveObjects n es
@@ -55,7 +55,8 @@ pub owns_more : (n m : ℕ) (es : List (List ℕ × ℕ))
 owns_more n m [] le h = tt
 owns_more n m (e ∷ es) le h = let lt = h.0 in (omega arith, owns_more n m es le h.1)
 
--- the objects of all keys are numbered below n, also after a new key with such an object
+-- if the objects of all keys are numbered below n, they still are when a key is added whose object
+-- is numbered below n
 pub owns_with : (n : ℕ) (key : List ℕ) (number : ℕ) (es : List (List ℕ × ℕ))
     → number < n
     → KeysHaveObjects n es
@@ -63,7 +64,7 @@ pub owns_with : (n : ℕ) (key : List ℕ) (number : ℕ) (es : List (List ℕ �
 owns_with n key number [] lt h = (lt, tt)
 owns_with n key number (e ∷ es) lt h = (h.0, owns_with n key number es lt h.1)
 
--- the objects of all keys are numbered below n, also after a key is removed
+-- if the objects of all keys are numbered below n, they still are when a key is removed
 pub owns_without : (n : ℕ) (key : List ℕ) (es : List (List ℕ × ℕ))
     → KeysHaveObjects n es
     → KeysHaveObjects n (without key es)
@@ -98,7 +99,8 @@ value_short shape =
     leb-true shape.value_size longest_value
     (and_parts (nat_le 1 shape.value_size) (nat_le shape.value_size longest_value) value.1).1
 
--- a direct value: its map has one entry, and the offset in it is below 4,096
+-- what is used of a shape that has a direct value at an offset: its maps have one entry, and the
+-- offset is below 4,096
 pub record IsDirect (shape : MapShape) (offset : ℕ) : Type 0 where
   pub one : shape.max_entries ≡ 1
   pub near : offset < 4096
@@ -116,7 +118,8 @@ is_direct shape offset e =
     let short = value_short shape in
     record { one = eqb-true shape.max_entries 1 front.1; near = omega arith }
 
--- the object of a direct value is that of index 0
+-- if map t has a direct value at an offset, its object is that of index 0, and the shape and the
+-- offset are as in `IsDirect`
 pub direct_is : (t : Table ℕ) (offset number : ℕ)
     → direct_object t offset ≡ Some number
     → IsDirect t.shape offset × (found (index_key 0) t.entries ≡ Some number)

@@ -58,12 +58,12 @@ module _ {A : Type 0} where
 unfoldable pub index_key : ℕ → List ℕ
 index_key i = low_bytes 4 i
 
--- n indices from `first` on, each with its object
+-- the keys of the n indices from `first` on, each with the object that `object` gives for the index
 unfoldable pub indexed : {A : Type 0} → (ℕ → A) → ℕ → ℕ → List (List ℕ × A)
 indexed object first zero = []
 indexed object first (suc n) = (index_key first, object first) ∷ indexed object (first + 1) n
 
--- a new array has all its indices, and a new hash map has no key
+-- the entries of a new map: an array has all its indices, `max` in number, a hash map has no key
 abbrev pub new_entries : {A : Type 0} → (ℕ → A) → MapKind → ℕ → List (List ℕ × A)
 new_entries object Array max = indexed object 0 max
 new_entries object Hash max = []
@@ -101,7 +101,8 @@ module _ {A : Type 0} where
   abbrev pub of_present : ℕ → A → Verdict A
   of_present flags a = if flags == no_exist then Refused Exists else Present a
 
-  -- the verdict on an update of an absent key, which in an array is an index out of range
+  -- the verdict on an update of an absent key, which in an array is an index out of range; `full`:
+  -- the hash map has no room for a new key
   abbrev pub of_absent : MapKind → Bool → ℕ → Verdict A
   of_absent Array full flags = Refused TooBig
   of_absent Hash full flags =
@@ -143,7 +144,7 @@ module _ {A : Type 0} where
   abbrev pub removal : Table A → List ℕ → Result A MapFault
   removal t key = removal_of t.shape.kind (look_up t key)
 
-  -- the map without the key; the object counts until the run ends
+  -- the map without the key; its object counts among the entries until the run ends (`is_full`)
   abbrev pub with_deleted : Table A → List ℕ → Table A
   with_deleted t key = record {
     shape = t.shape;
@@ -171,6 +172,7 @@ module _ {A : Type 0} where
 -- of an array of one element, at an offset in it, as the kernel's array maps have it
 -- (map_direct_value_addr)
 
+-- whether maps of this kind are arrays
 abbrev pub is_array : MapKind → Bool
 is_array Array = true
 is_array Hash = false
@@ -195,7 +197,7 @@ module _ {A B : Type 0} (value : A → B) where
     deleted = t.deleted;
   }
 
-  -- the verdict with the value that its object represents
+  -- the verdict with the value that its object represents; a refusal and a new key have no object
   abbrev pub verdict_with : Verdict A → Verdict B
   verdict_with (Refused fault) = Refused fault
   verdict_with (Present a) = Present (value a)

@@ -43,6 +43,7 @@ pub struct MapShape {
     pub value_size: u32,
     /// 1 to `MOST_ENTRIES`.
     pub max_entries: u32,
+    /// For contracts: the fields are within their limits, and so is the area of the values.
     pub ghost listed: { IsTrue (is_shape kind key_size value_size max_entries) },
 }
 
@@ -55,7 +56,7 @@ pub enum Target {
     Program,
 }
 
-/// An open descriptor, and the object that it names.
+/// An open descriptor, `fd`, and the object that it names.
 #[derive(Clone, Copy, Debug, PartialEq, Eq)]
 pub struct Named {
     pub fd: u32,

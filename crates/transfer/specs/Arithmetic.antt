@@ -22,7 +22,7 @@ use Rattle.words.specs.Widths.{width}
 use Rattle.tagged_model.specs.Values.{is_near}
 use Rattle.tagged_model.specs.Cells.{and_then}
 
--- the kind, if it may be read
+-- the kind of a register, if it may be read; else the reason
 abbrev pub check_readable : Kind → Result Kind Reason
 check_readable Unreadable = Err UnreadableRegister
 check_readable k = Ok k
@@ -44,11 +44,11 @@ distance r =
 
 -- ---- moved pointers: forwards by a sum, backwards by a difference
 
--- the offset, if it is not too far
+-- the offset; None if it is too far from 0
 abbrev pub near_offset : ℤ → Option ℤ
 near_offset x = if is_near x then Some x else None
 
--- offset x moved by d bytes, if it is not too far then
+-- offset x moved by d bytes; None if it is too far from 0 then
 abbrev pub moved_offset : Direction → ℤ → ℤ → Option ℤ
 moved_offset Forwards x d = near_offset (x +ℤ d)
 moved_offset Backwards x d = near_offset (x -ℤ d)
@@ -63,7 +63,7 @@ abbrev pub stack_moved : Direction → ℤ → Range → Result Kind Reason
 stack_moved way x r =
     and_then_ok (near (and_then (distance r) (λ d. moved_offset way x d.0))) (λ y. Ok (Stack y))
 
--- a pointer into a value, from the least offset to the greatest, if there are both
+-- a pointer into a value, from the least offset to the greatest; None if one of them is too far
 abbrev pub spanned : ℕ → Option ℤ → Option ℤ → Option ValuePointer
 spanned map low high = and_then low (λ lo. and_then high (λ hi. Some (value_span map lo hi)))
 
@@ -88,12 +88,12 @@ pointer_moved way k r = Err PointerArithmetic
 
 -- ---- two operands
 
--- the kind of a look-up that may be null
+-- whether the kind is that of a look-up that may be null
 abbrev pub is_maybe : Kind → Bool
 is_maybe (MaybeValue m site) = true
 is_maybe k = false
 
--- the kind of an operator's result on two numbers
+-- the kind of an operator's result on two numbers, of 64 bits (true) or 32
 abbrev pub of_scalars : Bool → Operator → Kind → Kind → Result Kind Reason
 of_scalars wide op (Scalar a) (Scalar b) = Ok (Scalar (range_of (width wide) op a b))
 of_scalars wide op a b = Err PointerArithmetic
@@ -112,18 +112,19 @@ difference_kind (Scalar a) b = Err PointerArithmetic
 difference_kind a (Scalar b) = pointer_moved Backwards a b
 difference_kind a b = Err PointerArithmetic
 
--- the result r, unless an operand is a look-up that may be null, which is not moved
+-- the result r, unless an operand is a look-up that may be null: it may not be moved
 abbrev pub unless_maybe : Kind → Kind → Result Kind Reason → Result Kind Reason
 unless_maybe a b r = if is_maybe a || is_maybe b then Err MaybeNull else r
 
--- the kind of an operator's result on two operands: a 64-bit move copies any value; 64-bit sums and
--- differences move pointers; everything else is only for numbers
+-- the kind of an operator's result on two operands, of 64 bits (true) or 32: a 64-bit move copies
+-- any value; 64-bit sums and differences move pointers; everything else is only for numbers
 abbrev pub arithmetic_kind : Bool → AluOp → Kind → Kind → Result Kind Reason
 arithmetic_kind true alu.Mov a b = Ok b
 arithmetic_kind true alu.Add a b = unless_maybe a b (sum_kind a b)
 arithmetic_kind true alu.Sub a b = unless_maybe a b (difference_kind a b)
 arithmetic_kind wide op a b = of_scalars wide (Binary op) a b
 
--- the kind of an operator's result on one number
+-- the kind of an operator's result on one number, of 64 bits (true) or 32; the operator has one
+-- operand, which takes both places
 abbrev pub of_scalar : Bool → Operator → Kind → Result Kind Reason
 of_scalar wide op k = of_scalars wide op k k

@@ -16,7 +16,8 @@ use Rattle.reg_kinds.specs.Settle.{facts_settled}
 use Rattle.words.specs.Widths.{width}
 use Rattle.tagged_model.specs.Values.{is_null_test, holds_of_pointers}
 
--- the facts on each edge out of an instruction; None if there is no such edge, or it can't be taken
+-- the facts on each edge out of an instruction, the falling one to the next instruction and the
+-- jumping one to a jump's target; None if there is no such edge, or it can't be taken
 pub record Edges : Type 0 where
   pub falling : Option Facts
   pub jumping : Option Facts
@@ -45,7 +46,8 @@ abbrev pub is_same : ℕ → Operand → Bool
 is_same dst (Imm z) = false
 is_same dst (Reg n) = n == dst
 
--- the edges of a comparison of two numbers, in the ranges a and b, which it refines on each edge
+-- the edges of a comparison of two numbers of 64 bits (true) or 32, in the ranges a and b, which
+-- are refined on each edge, unless a register is compared with itself
 abbrev pub number_edges : Bool → Condition → Facts → ℕ → Operand → Range → Range → Edges
 number_edges wide cond f dst src a b =
     if is_same dst src then record { falling = Some f; jumping = Some f } else
@@ -56,25 +58,28 @@ number_edges wide cond f dst src a b =
 
 -- ---- tests of pointers for null
 
--- the edges of a test that jumps on null (true), or on not null, from the facts for each case
+-- the edges of a test that jumps on null (true), or on not null, from the facts if it is null and
+-- those if it is not; None for a case that can't be
 abbrev pub null_edges : Bool → Option Facts → Option Facts → Edges
 null_edges true null value = record { falling = value; jumping = null }
 null_edges false null value = record { falling = null; jumping = value }
 
--- the edges of a null test of the look-up at a site, which is settled on both
+-- the edges of a null test of the look-up at a site, which jumps on null (true) or on not null; the
+-- look-up is settled on both
 abbrev pub settled_edges : Bool → ℕ → Facts → Edges
 settled_edges jumps site f =
     null_edges jumps (Some (facts_settled site true f)) (Some (facts_settled site false f))
 
--- the edges of a null test of a pointer or a map of kind k; only a look-up may be null
+-- the edges of a null test of a pointer or a map of kind k; only a look-up may be null. The test
+-- jumps on null unless its condition holds of pointers, which are not 0
 abbrev pub pointer_edges : Condition → Facts → Kind → Edges
 pointer_edges cond f (MaybeValue m site) = settled_edges (not (holds_of_pointers cond)) site f
 pointer_edges cond f k = null_edges (not (holds_of_pointers cond)) None (Some f)
 
 -- ---- numbers and pointers
 
--- the edges of a conditional jump on operands of these kinds: a comparison of numbers or a null
--- test
+-- the edges of a conditional jump on operands of these kinds, a comparison of 64 bits (true) or 32:
+-- of two numbers, or a null test
 abbrev pub branch_edges : Bool → Condition → Facts → ℕ → Operand → Kind → Kind → Result Edges Reason
 branch_edges wide cond f dst src (Scalar a) (Scalar b) = Ok (number_edges wide cond f dst src a b)
 branch_edges wide cond f dst src (Scalar a) k = Err PointerComparison

@@ -20,7 +20,7 @@ use Rattle.tagged_model.specs.Named.{Shapes}
 use Rattle.transfer.specs.declared.calls.ShapedMap.{ShapedMap}
 use Rattle.transfer.specs.Arithmetic.{check_readable}
 
--- the map of descriptor m with its shape, if it has one
+-- the map of descriptor m with its shape; an argument by a descriptor without a shape is no map
 abbrev pub shaped : ℕ → Option MapShape → Result ShapedMap Reason
 shaped m None = Err HelperArgument
 shaped m (Some shape) = Ok (record { descriptor = m; shape = shape })
@@ -30,7 +30,8 @@ abbrev pub map_kind : Shapes → Kind → Result ShapedMap Reason
 map_kind shapes (kind.MapRef m) = shaped m (shapes m)
 map_kind shapes k = Err HelperArgument
 
--- n bytes, `off` bytes from each offset of a pointer, lie in the value
+-- n bytes, `off` bytes from each offset of a pointer, lie in the value of its map; they do not if
+-- its descriptor names no map (None)
 abbrev pub room_of : ValuePointer → ℤ → ℕ → Option MapShape → Result (Unit {0}) Reason
 room_of p off n None = Err OutsideValue
 room_of p off n (Some shape) =
@@ -74,13 +75,13 @@ abbrev pub context_kind : Kind → Result (Unit {0}) Reason
 context_kind kind.Ctx = Ok tt
 context_kind k = Err HelperArgument
 
--- passes on the kinds of registers 1 and 2, if both may be read
+-- what `go` gives for the kinds of registers 1 and 2, if both may be read
 abbrev pub readable_two : Facts → (Kind → Kind → Result Facts Reason) → Result Facts Reason
 readable_two f go =
     and_then_ok (check_readable (kind_at f 1))
     (λ a. and_then_ok (check_readable (kind_at f 2)) (λ b. go a b))
 
--- passes on the kinds of registers 1 to 4, if all may be read
+-- what `go` gives for the kinds of registers 1 to 4, if all may be read
 abbrev pub readable_four : Facts → (Kind → Kind → Kind → Kind → Result Facts Reason)
     → Result Facts Reason
 readable_four f go =

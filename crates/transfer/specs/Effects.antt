@@ -46,12 +46,14 @@ abbrev pub source_kind : Facts → Bool → Operand → Kind
 source_kind f wide (Imm z) = kind.Scalar (constant (unsigned (width wide) z))
 source_kind f wide (Reg r) = kind_at f r
 
--- the kind of the first operand, which a move does not read
+-- the kind of the first operand; a move does not read it, so it is taken as the number 0, readable
+-- or not
 abbrev pub first_kind : AluOp → Kind → Result Kind Reason
 first_kind alu.Mov k = Ok (kind.Scalar (constant 0))
 first_kind op k = check_readable k
 
--- the edge to the next instruction, after the register is assigned a value of this kind
+-- the edge to the next instruction, after the register is assigned a value of the kind r, if r is
+-- no reason against it
 abbrev pub assigns : Facts → ℕ → Result Kind Reason → Result Edges Reason
 assigns f dst r = and_then_ok r (λ k. falls (with_kind f dst k))
 
@@ -67,7 +69,8 @@ abbrev pub context_read : ℤ → AccessSize → Bool → Result Kind Reason
 context_read y Word false = if is_word y then Ok (kind.Scalar (full 32)) else Err ContextAccess
 context_read y size signed = Err ContextAccess
 
--- the kind of a load, `off` bytes from an address of this kind; or the first reason against it
+-- the kind of a load, sign-extended (true) or not, `off` bytes from an address of this kind; or the
+-- first reason against it
 abbrev pub load_kind : Shapes → Facts → AccessSize → Bool → ℤ → Kind → Result Kind Reason
 load_kind shapes f size signed off (kind.Stack x) = stack_read f (x +ℤ off) size signed
 load_kind shapes f size signed off kind.Ctx = context_read off size signed
@@ -98,7 +101,8 @@ abbrev pub number_or : Reason → Kind → Result (Unit {0}) Reason
 number_or reason (kind.Scalar r) = Ok tt
 number_or reason k = Err reason
 
--- the facts after an atomic operation at offset y of the stack: it loads a number and stores one
+-- the facts after an atomic operation at offset y of the stack: it loads a number, and stores a
+-- number that may be any
 abbrev pub stack_changed : Facts → ℤ → AccessSize → Result Facts Reason
 stack_changed f y size =
     and_then_ok (stack_read f y size false)
@@ -108,7 +112,8 @@ stack_changed f y size =
 abbrev pub is_known_multiple : ValuePointer → ℤ → AccessSize → Bool
 is_known_multiple p off size = int_eq p.lo p.hi && is_multiple (p.lo +ℤ off) (bytes_of size)
 
--- the facts after an atomic operation `off` bytes from a pointer into a value: they are unchanged
+-- the facts after an atomic operation `off` bytes from a pointer into a value of a map with this
+-- shape: they are unchanged
 abbrev pub value_changed : Facts → ValuePointer → ℤ → AccessSize → Option MapShape
     → Result Facts Reason
 value_changed f p off size o =
@@ -116,7 +121,7 @@ value_changed f p off size o =
     (λ _. if is_known_multiple p off size then Ok f else Err UnalignedAtomic)
 
 -- the facts after an atomic operation with an operand of kind v, `off` bytes from an address of
--- this kind
+-- this kind; or the first reason against it
 abbrev pub changed_facts : Shapes → Facts → AccessSize → ℤ → Kind → Kind → Result Facts Reason
 changed_facts shapes f size off (kind.Stack x) v =
     and_then_ok (number_or PointerArithmetic v) (λ _. stack_changed f (x +ℤ off) size)
@@ -149,7 +154,7 @@ known (Some h) = Ok h
 
 -- ---- the end of a run
 
--- a run may end with a number as result: there is no edge then
+-- the end of a run with a result of this kind, which has to be a number; there is no edge
 abbrev pub exits_with : Kind → Result Edges Reason
 exits_with (kind.Scalar r) = ends
 exits_with k = Err ResultNotScalar
@@ -160,7 +165,7 @@ exit_edges f = and_then_ok (check_readable (kind_at f 0)) exits_with
 
 -- ---- operators
 
--- the edge after an operator of two operands, whose result goes to dst
+-- the edge after an operator of two operands, of 64 bits (true) or 32, whose result goes to dst
 abbrev pub operator_edges : Bool → AluOp → ℕ → Operand → Facts → Result Edges Reason
 operator_edges wide op dst src f =
     and_then_ok (first_kind op (kind_at f dst))
@@ -168,7 +173,7 @@ operator_edges wide op dst src f =
     and_then_ok (check_readable (source_kind f wide src))
     (λ b. assigns f dst (arithmetic_kind wide op a b)))
 
--- the edge after an operator of one operand, whose result goes to dst
+-- the edge after an operator of one operand, of 64 bits (true) or 32, whose result goes to dst
 abbrev pub unary_edges : Bool → Operator → ℕ → ℕ → Facts → Result Edges Reason
 unary_edges wide op dst src f =
     and_then_ok (check_readable (kind_at f src)) (λ k. assigns f dst (of_scalar wide op k))
@@ -186,7 +191,7 @@ access_edges shapes f (changes size op src) off k =
     and_then_ok (check_readable (kind_at f src))
     (λ v. and_then_ok (changed_facts shapes f (access_size size) off k v) falls)
 
--- the kind of what a wide load puts into its register
+-- the kind of what a wide load, an instruction of two slots, puts into its register
 abbrev pub wide_kind : Shapes → WideValue → Result Kind Reason
 wide_kind shapes (immediate n) = Ok (kind.Scalar (constant n))
 wide_kind shapes (map_ref m) = map_of m (shapes m)

@@ -46,7 +46,7 @@ pub record AreWellFormedAt (n : ℕ) (f : Facts) : Type 0 where
 -- ---- the edge that a step takes
 
 -- whether an instruction, by its group (`View` of `insn_set`), jumps in this state: a conditional
--- jump does if its condition holds
+-- jump does if its condition holds, and not if it can't be computed, since the step is a fault then
 abbrev pub jumps_in : View → RunState → Bool
 jumps_in (jump off) s = true
 jumps_in (branch wide cond dst src off) s =
@@ -61,7 +61,8 @@ takes_jump i s = jumps_in (view i) s
 
 -- ---- the state after a step
 
--- the edge exists and leads to the state's slot, and its facts describe the state, by some witness
+-- the edge exists and leads to the state's slot, and its facts describe the state, by some witness;
+-- an edge without facts (None) can't be taken
 abbrev pub EdgeAdmits : Shapes → Option Facts → Option ℕ → RunState → Type 0
 EdgeAdmits shapes None slot t = ⊥
 EdgeAdmits shapes (Some f) slot t =
@@ -73,16 +74,17 @@ abbrev pub TakenEdgeAdmits : Bool → Shapes → ℕ → Option ℕ → Edges �
 TakenEdgeAdmits true shapes next target edges t = EdgeAdmits shapes edges.jumping target t
 TakenEdgeAdmits false shapes next target edges t = EdgeAdmits shapes edges.falling (Some next) t
 
--- the step is no fault, and the state after it is admitted on the edge that it takes
+-- the step is no fault; if it goes on, the edge that it takes admits the state after it, and if the
+-- run ends, its result has 32 bits
 abbrev pub CoversStep : Shapes → Insn → RunState → Edges → Step → Type 0
 CoversStep shapes i s edges (goes t) =
     TakenEdgeAdmits (takes_jump i s) shapes (falls_to i s.at) (jumps_to i s.at) edges t
 CoversStep shapes i s edges (ends n) = n < 2 ^ 32
 CoversStep shapes i s edges faults = ⊥
 
--- soundness: if facts describe a state and let an instruction be run, its step is no fault, and the
--- edge that it takes admits the state after it; the state has a map of each shape, and so has the
--- next one
+-- soundness: if facts describe a state and let an instruction be run that does not jump below slot
+-- 0, its step is no fault, and the edge that it takes admits the state after it; the state has a
+-- map of each shape, and so has the next one
 abbrev pub TransferIsSound : Type 0
 TransferIsSound =
     (witness : Witness) (shapes : Shapes) (i : Insn) (f : Facts) (s : RunState) (edges : Edges)

@@ -19,7 +19,7 @@ pub(crate) enum Direction {
     Backwards,
 }
 
-/// Returns a kind that may be read. `UnreadableRegister` if it may not.
+/// Returns `kind`, or `UnreadableRegister` if a register of this kind may not be read.
 #[inline(always)]
 pub(crate) fn check_readable(kind: Kind) -> Result<Kind, Reason>
     ensures { result ≡ check_readable kind }
@@ -68,7 +68,8 @@ fn moved_backwards(offset: i32, by: i64) -> Option<i32>
     }
 }
 
-/// The kind of a stack pointer that is moved by the constant in `range`. `OffsetTooLarge` if it is then too far.
+/// The kind of a stack pointer that is moved by the constant in `range`. `OffsetTooLarge` if it is then too far. The range of a constant
+/// always has a distance, whose two ends are the same.
 fn stack_moved(way: Direction, offset: i32, range: Range) -> Result<Kind, Reason>
     ensures { result ≡ stack_moved way offset range }
 {
@@ -110,7 +111,8 @@ fn value_by(
     }
 }
 
-/// The kind of a pointer into a value that is moved by a number in `range`. `OffsetTooLarge` if it may be too far then.
+/// The kind of a pointer into a value that is moved by a number in `range`. `OffsetTooLarge` if it may be too far then, or if the range has
+/// numbers of both signs.
 fn value_moved(way: Direction, pointer: ValuePointer, range: Range) -> Result<Kind, Reason>
     ensures { result ≡ value_moved way pointer range }
 {
@@ -123,8 +125,8 @@ fn value_moved(way: Direction, pointer: ValuePointer, range: Range) -> Result<Ki
     }
 }
 
-/// The kind of a pointer that is moved by a number in `range`. `PointerArithmetic` if it may not be moved so,
-/// `OffsetTooLarge` if it may be too far then.
+/// The kind of a pointer that is moved by a number in `range`. `PointerArithmetic` unless it is a stack pointer, moved by a constant, or a
+/// pointer into a value; `OffsetTooLarge` if it may be too far then.
 fn pointer_moved(way: Direction, pointer: Kind, range: Range) -> Result<Kind, Reason>
     ensures { result ≡ pointer_moved way pointer range }
 {
@@ -147,7 +149,7 @@ pub(crate) fn result_range(wide: bool, op: Operator, a: Range, b: Range) -> Rang
     }
 }
 
-/// The kind of an operator's result on two numbers. `PointerArithmetic` if one of them is no number.
+/// The kind of an operator's result on two numbers, of 64 bits (`wide`) or 32. `PointerArithmetic` if one of them is no number.
 fn of_scalars(wide: bool, op: Operator, a: Kind, b: Kind) -> Result<Kind, Reason>
     ensures { result ≡ of_scalars wide op a b }
 {
@@ -157,15 +159,16 @@ fn of_scalars(wide: bool, op: Operator, a: Kind, b: Kind) -> Result<Kind, Reason
     }
 }
 
-/// The kind of an operator's result on one number. `PointerArithmetic` if it is no number.
+/// The kind of an operator's result on one number, of 64 bits (`wide`) or 32. `PointerArithmetic` if it is no number. The operator has one
+/// operand, which takes both places.
 pub(crate) fn of_scalar(wide: bool, op: Operator, kind: Kind) -> Result<Kind, Reason>
     ensures { result ≡ of_scalar wide op kind }
 {
     of_scalars(wide, op, kind, kind)
 }
 
-/// The kind of a 64-bit sum, of numbers or of a pointer and a number in either order. `PointerArithmetic` if it is neither, or if the
-/// pointer may not be moved so; `OffsetTooLarge` if it may be too far then.
+/// The kind of a 64-bit sum, of two numbers or of a pointer and a number in either order. `PointerArithmetic` for any other operands, or if
+/// this number may not move the pointer; `OffsetTooLarge` if it may be too far then.
 fn sum(a: Kind, b: Kind) -> Result<Kind, Reason>
     ensures { result ≡ sum_kind a b }
 {
@@ -177,8 +180,8 @@ fn sum(a: Kind, b: Kind) -> Result<Kind, Reason>
     }
 }
 
-/// The kind of a 64-bit difference, of numbers or a pointer minus a number. `PointerArithmetic` if it is neither, or if the pointer may not
-/// be moved so; `OffsetTooLarge` if it may be too far then.
+/// The kind of a 64-bit difference, of two numbers or a pointer minus a number. `PointerArithmetic` for any other operands, or if this
+/// number may not move the pointer; `OffsetTooLarge` if it may be too far then.
 fn difference(a: Kind, b: Kind) -> Result<Kind, Reason>
     ensures { result ≡ difference_kind a b }
 {
@@ -197,9 +200,9 @@ fn is_maybe(kind: Kind) -> bool
     matches!(kind, Kind::MaybeValue { .. })
 }
 
-/// The kind of an operator's result on two operands. A 64-bit move copies any value, 64-bit sums and differences move pointers, and
-/// everything else is for numbers. `MaybeNull` if a look-up that may be null is moved, `OffsetTooLarge` if a pointer may be too far then,
-/// `PointerArithmetic` for all else that is not allowed.
+/// The kind of an operator's result on two operands, of 64 bits (`wide`) or 32. A 64-bit move copies any value, 64-bit sums and differences
+/// move pointers, and everything else is for numbers. `MaybeNull` if a look-up that may be null is moved, `OffsetTooLarge` if a pointer may
+/// be too far then, `PointerArithmetic` for all else that is not allowed.
 pub(crate) fn arithmetic(wide: bool, op: AluOp, a: Kind, b: Kind) -> Result<Kind, Reason>
     ensures { result ≡ arithmetic_kind wide op a b }
 {

@@ -12,14 +12,15 @@ use interval::{Range, refine};
 use reg_kinds::{Facts, Kind, Reason};
 use words::Condition;
 
-/// The edges that control may take after an instruction, with what is known on each.
+/// The edges that control may take after an instruction: the falling edge leads to the next instruction, the jumping edge to the target of
+/// its jump. The facts that `apply` leaves hold on all of them; what holds on only one is in the variant.
 #[derive(Clone, Copy, Debug, PartialEq, Eq)]
 pub enum Flow {
-    /// None: the run ends.
+    /// No edge: the run ends.
     Ends,
     /// The falling edge, with the facts after the instruction.
     Falls,
-    /// The falling edge, after an instruction that may change this slot of the stack.
+    /// The falling edge, after an instruction that may change this slot of the stack, 0 to 63, and no other.
     WritesSlot(usize),
     /// The falling edge, after an instruction that may change each slot of the stack.
     Writes,
@@ -27,22 +28,24 @@ pub enum Flow {
     Jumps,
     /// Both edges, with the facts after the instruction.
     Either,
-    /// After a comparison of two numbers, each edge that can be taken, on which the operands have these ranges, `dst` the first; `None`
-    /// for an edge that can't be taken.
+    /// The edges after a comparison of two numbers. `falls` and `jumps` have the ranges of the operands on the falling and on the jumping
+    /// edge, that of `dst` first; `None` for an edge that can't be taken.
     Compares {
         dst: Reg,
         src: Operand,
         falls: Option<(Range, Range)>,
         jumps: Option<(Range, Range)>,
     },
-    /// Both edges after a null test of the result of the look-up at slot `site`.
+    /// Both edges after a null test of the result of the look-up at slot `site`. The jump is taken if it is null (`jumps_on_null`), or else
+    /// if it is not null.
     Settles {
         site: usize,
         jumps_on_null: bool,
     },
 }
 
-/// Sets the ranges of both operands of a comparison, that of `dst` first. A constant has none to set.
+/// Sets the ranges of the operands of a comparison: the first of `pair` for `dst`, the second for `src`, if that is a register. A constant
+/// has no range in facts.
 #[inline(always)]
 pub fn set_ranges(facts: &mut Facts, dst: Reg, src: &Operand, pair: (Range, Range))
     ensures { facts.new ≡ with_pair facts.old dst src.now pair }
@@ -80,8 +83,8 @@ fn compared(
     }
 }
 
-/// The edges of a comparison of two numbers, in the ranges `a` and `b`, which it refines on each edge; not if a register is compared with
-/// itself.
+/// The edges of a comparison of two numbers of 64 bits (`wide`) or 32, `dst` in the range `a` and `src` in the range `b`. On each edge both
+/// ranges are refined, but if a register is compared with itself, neither is.
 #[inline(always)]
 fn compare_numbers(
     wide: bool,
@@ -101,7 +104,8 @@ fn compare_numbers(
     compared(dst, &src, where_not, where_taken)
 }
 
-/// The edges of a null test of a pointer or a map, for equality or difference: a look-up is settled on both, any other pointer is not null.
+/// The edges of a test whether a pointer or a map is null; `condition` is equality or difference. A look-up may be null, and is settled on
+/// both edges. Anything else is not null: then a test for equality never jumps, and one for difference always does.
 fn test_pointer(condition: Condition, pointer: Kind) -> Flow
     ensures edges { (f : AnyFacts) → edges_of result f ≡ pointer_edges condition f pointer }
     ensures stack { (f : AnyFacts) → KeepsStack result f f }
@@ -119,7 +123,7 @@ fn test_pointer(condition: Condition, pointer: Kind) -> Flow
     }
 }
 
-/// Whether it is a 64-bit comparison with the constant 0, for equality or difference.
+/// Whether a comparison is one of 64 bits with the constant 0, for equality or difference, the only one that a pointer or a map may be in.
 fn is_null_test(wide: bool, condition: Condition, src: Operand) -> bool
     ensures { result ≡ is_null_test wide condition src }
 {
@@ -127,8 +131,8 @@ fn is_null_test(wide: bool, condition: Condition, src: Operand) -> bool
     wide && tests_equality && src == Operand::Imm(0)
 }
 
-/// The edges of a conditional jump on operands of the kinds `a` and `b`. `PointerComparison` if they are not both numbers, and it is not a
-/// null test.
+/// The edges of a conditional jump on operands of the kinds `a` and `b`, which compares 64 bits (`wide`) or 32. `PointerComparison` unless
+/// both are numbers, or it is a null test of the first.
 #[inline(always)]
 pub(crate) fn branch(
     wide: bool,

@@ -35,7 +35,7 @@ fn map_kind(named: &[Named], kind: Kind) -> Result<ShapedMap, Reason>
     }
 }
 
-/// The offset plus `by` bytes, which may be negative.
+/// The sum of an offset and a distance `by` in bytes, which may be negative. It can't overflow in 64 bits.
 pub(crate) fn behind(offset: i32, by: i16) -> i64
     ensures { result ≡ offset +ℤ by }
 {
@@ -56,7 +56,8 @@ fn room_in(low: i64, last: i64, count: u32, size: u32) -> Result<(), Reason>
     Ok(())
 }
 
-/// Checks that `count` bytes, `offset` bytes from each offset of a pointer, lie in the value. `OutsideValue` if not.
+/// Checks that `count` bytes, `offset` bytes from each offset that a pointer may have, lie in the value. `OutsideValue` if not, or if the
+/// descriptor of the pointer names no map.
 pub(crate) fn room_of(
     named: &[Named],
     pointer: ValuePointer,
@@ -86,8 +87,8 @@ fn input(named: &[Named], facts: &Facts, count: u32, kind: Kind) -> Result<(), R
     }
 }
 
-/// Updates the facts for a write, at an argument's address, of a number of bytes in the range `length`; in the value of a map no fact
-/// changes. The errors are `OutsideStack`, `OutsideValue`, `MaybeNull` for a look-up that may be null, else `HelperArgument`.
+/// Updates the facts for a write, at an argument's address, of `length.lo` to `length.hi` bytes; in the value of a map no fact changes. The
+/// errors are `OutsideStack`, `OutsideValue`, `MaybeNull` for a look-up that may be null, else `HelperArgument`.
 fn output(facts: &mut Facts, named: &[Named], length: Range, kind: Kind) -> Result<(), Reason>
     requires { length.hi < lengths_end }
     ensures ok { OnOk result (output_facts (shapes_named named.now) facts.old length kind
@@ -146,8 +147,8 @@ fn any_number() -> Kind
     Kind::Scalar(Range::full(true))
 }
 
-/// Updates the facts for a call at `slot`, which becomes the site of a look-up; or returns the first of its conditions that fails, and the
-/// facts are unchanged.
+/// Updates the facts for a call at `slot`, which becomes the site of a look-up; the result of any other helper is any number. Or returns
+/// the first of the conditions that fails, and the facts are unchanged.
 pub(crate) fn call(
     facts: &mut Facts,
     named: &[Named],

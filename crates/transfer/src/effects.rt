@@ -30,7 +30,7 @@ use reg_kinds::{Facts, Kind, Reason, ValuePointer, loaded, read_stack, write_sta
 use tagged_model::{CONTEXT_WORDS, Named, known_helper, shape_of};
 use words::{AccessSize, AluOp, Operator};
 
-/// The size of the context in bytes.
+/// The size of the context in bytes: its words have four each.
 const CONTEXT_SIZE: i16 = 4 * CONTEXT_WORDS as i16;
 
 /// A constant as a machine word: sign-extended if `wide`, else modulo 2^32.
@@ -55,7 +55,8 @@ fn source(facts: &Facts, wide: bool, src: &Operand) -> Kind
     }
 }
 
-/// The kind of the first operand, which a move does not read: its kind is then that of 0. `UnreadableRegister` if it may not be read.
+/// The kind of the first operand. A move does not read it, so it is taken as the number 0, readable or not. `UnreadableRegister` if another
+/// operator may not read it.
 #[inline(always)]
 fn first(op: AluOp, kind: Kind) -> Result<Kind, Reason>
     ensures { result ≡ first_kind op kind }
@@ -66,7 +67,8 @@ fn first(op: AluOp, kind: Kind) -> Result<Kind, Reason>
     }
 }
 
-/// The kind of a number that is loaded from the context. `ContextAccess` unless it is a whole aligned word.
+/// The kind of a number that is loaded from the context. `ContextAccess` unless the load is of a whole word of it, at a multiple of four
+/// bytes, without sign extension (`signed`).
 fn context_read(offset: i16, size: AccessSize, signed: bool) -> Result<Kind, Reason>
     ensures { result ≡ context_read offset size signed }
 {
@@ -82,8 +84,8 @@ fn context_read(offset: i16, size: AccessSize, signed: bool) -> Result<Kind, Rea
     }
 }
 
-/// The offset of a stack access, `offset` bytes from a pointer at offset `from`. `OutsideStack` if it does not fit in the type, since it is
-/// outside the stack then; the access itself checks an offset that fits.
+/// The offset of a stack access, `offset` bytes from a pointer at offset `from`. `OutsideStack` if it does not fit in 32 bits: no byte
+/// there is in the stack. An offset that fits is checked by the access itself.
 fn stack_offset(from: i32, offset: i16) -> Result<i32, Reason>
     ensures ok { IfOk result (λ at. at ≡ from +ℤ offset) }
     ensures outside { IfErr result (λ reason. (reason ≡ OutsideStack)
@@ -93,7 +95,8 @@ fn stack_offset(from: i32, offset: i16) -> Result<i32, Reason>
         .ok_or(Reason::OutsideStack)
 }
 
-/// The kind of a value that is loaded `offset` bytes from an address of the kind `base`, or the first reason against the load.
+/// The kind of a value that is loaded `offset` bytes from an address of the kind `base`, sign-extended (`signed`) or zero-extended; or the
+/// first reason against the load.
 #[inline(always)]
 fn load(
     facts: &Facts,
@@ -133,7 +136,7 @@ fn store_outside(value: Kind) -> Result<(), Reason>
 }
 
 /// Updates the facts for a store of a value of the kind `value`, `offset` bytes from an address of the kind `base`, or returns the first
-/// reason against it. Returns the stack slot that it may change, if any.
+/// reason against it. Returns the stack slot that it may change; `None` for a store into the value of a map, which changes no fact.
 #[inline(always)]
 fn store(
     facts: &mut Facts,
@@ -180,8 +183,8 @@ fn number_or(reason: Reason, value: Kind) -> Result<(), Reason>
     }
 }
 
-/// Updates the facts for an atomic operation at `offset` from the stack's upper end: a number is loaded, and any number stored. Returns the
-/// stack slot. `PartOfSpill` if a pointer is there, else the errors of a load and a store.
+/// Updates the facts for an atomic operation at `offset` from the stack's upper end. It loads a number, and stores a number that may be
+/// any. Returns the stack slot. `PartOfSpill` if a pointer is there, else the errors of a load and a store.
 fn change_stack(facts: &mut Facts, offset: i32, size: AccessSize) -> Result<usize, Reason>
     ensures ok { OnOk result (stack_changed facts.old offset size ≡ Ok facts.new) }
     ensures stack { IfOk result (λ slot. ChangesAtMost (Some slot) facts.old facts.new) }
@@ -193,7 +196,7 @@ fn change_stack(facts: &mut Facts, offset: i32, size: AccessSize) -> Result<usiz
     write_stack(facts, offset, size, Kind::Scalar(Range::full(true)))
 }
 
-/// Whether an offset is a multiple of a size.
+/// Whether an offset, which may be negative, is a multiple of the bytes of a size.
 fn is_multiple(offset: i64, size: AccessSize) -> bool
     ensures { result ≡ (unsigned_abs offset % bytes_of size == 0) }
 {
@@ -208,7 +211,7 @@ fn is_known_multiple(pointer: ValuePointer, offset: i16, size: AccessSize) -> bo
 }
 
 /// Updates the facts for an atomic operation with an operand of the kind `value`, `offset` bytes from an address of the kind `base`, or
-/// returns the first reason against it. Returns the stack slot that it may change, if any; in the value of a map no fact changes.
+/// returns the first reason against it. Returns the stack slot that it may change; `None` in the value of a map, since no fact changes.
 fn change(
     facts: &mut Facts,
     named: &[Named],
@@ -264,8 +267,8 @@ fn signed_offset(offset: u32) -> i32
     offset as i32
 }
 
-/// The kind of a pointer to a direct value, at an offset in it. `DescriptorNotMap` if the descriptor names no map, `NoDirectValue`
-/// if the map has no direct value at this offset.
+/// The kind of a pointer to a direct value, whose least and greatest offset are both `offset`. `DescriptorNotMap` if the descriptor names
+/// no map, `NoDirectValue` if the map has no direct value at this offset.
 #[tactic(auto, unfolding(crate::specs::Effects::value_of))]
 fn value_of(named: &[Named], descriptor: u32, offset: u32) -> Result<Kind, Reason>
     ensures { result ≡ value_of descriptor offset (shapes_named named.now descriptor) }
@@ -290,7 +293,7 @@ fn assign(facts: &mut Facts, dst: Reg, kind: Kind) -> Flow
     Flow::Falls
 }
 
-/// The falling edge, after an instruction that may change this slot of the stack, if any.
+/// The falling edge, after an instruction that may change this slot of the stack, or none (`None`).
 #[inline(always)]
 fn written(slot: Option<usize>) -> Flow
     ensures edges { (f : AnyFacts) → edges_of result f ≡ edges_of Falls f }
@@ -302,7 +305,8 @@ fn written(slot: Option<usize>) -> Flow
     }
 }
 
-/// The ranges of both operands, that of `dst` first; `None` unless both are numbers.
+/// The ranges of both operands, that of `dst` first; `None` unless both are numbers. A constant is sign-extended to 64 bits (`wide`) or
+/// taken modulo 2^32.
 #[inline(always)]
 fn numbers(facts: &Facts, wide: bool, dst: Reg, src: &Operand) -> Option<(Range, Range)>
     ensures numbers { IfSome result (λ p. (kind_at facts.now dst ≡ Scalar p.0)
@@ -320,7 +324,7 @@ fn numbers(facts: &Facts, wide: bool, dst: Reg, src: &Operand) -> Option<(Range,
     }
 }
 
-/// Updates the facts for an operator of two operands, one of which may be a pointer, or for a move.
+/// Updates the facts for an operator of two operands, of 64 bits (`wide`) or 32, one of which may be a pointer, or for a move.
 #[inline(never)]
 fn operate_on_any(
     facts: &mut Facts,
@@ -342,8 +346,8 @@ fn operate_on_any(
     Ok(())
 }
 
-/// Updates the facts for an operator of two operands. 64-bit moves, and operators other than moves on two numbers, are done here, the rest
-/// by `operate_on_any`.
+/// Updates the facts for an operator of two operands, of 64 bits (`wide`) or 32. 64-bit moves, and operators other than moves on two
+/// numbers, are done here, the rest by `operate_on_any`.
 #[inline(always)]
 fn operate(facts: &mut Facts, wide: bool, op: AluOp, dst: Reg, src: Operand) -> Result<(), Reason>
     ensures ok { OnOk result (operator_edges wide op dst src facts.old ≡ falls facts.new) }
@@ -367,7 +371,8 @@ fn operate(facts: &mut Facts, wide: bool, op: AluOp, dst: Reg, src: Operand) -> 
     }
 }
 
-/// Updates the facts for an operator of one operand. `UnreadableRegister` if that may not be read, `PointerArithmetic` if it is no number.
+/// Updates the facts for an operator of one operand, of 64 bits (`wide`) or 32. `UnreadableRegister` if `src` may not be read,
+/// `PointerArithmetic` if it is no number.
 #[inline(always)]
 fn operate_on_one(
     facts: &mut Facts,

@@ -10,8 +10,8 @@ ghost use Rattle.transfer.specs.Effects.{effect};
 ghost use Rattle.transfer.specs.Reasons.{TransferReasons};
 ghost use Rattle.transfer.specs.Sound.{TransferIsSound, TransferKeepsWellFormed, CallsAreSound};
 
-/// Soundness: if facts admit a state and let an instruction be run, its step on tagged values is no fault, and the facts on the
-/// edge that it takes admit the state after it.
+/// A law, soundness: if facts admit a state and let an instruction be run, its step on tagged values is no fault, and the facts on the edge
+/// that it takes admit the state after it.
 pub fn transfer_is_sound()
     ensures { TransferIsSound }
 {
@@ -29,8 +29,8 @@ pub fn transfer_is_sound()
     calls_are_sound();
 }
 
-/// The facts after an instruction are well formed for each later slot, if those before it are well formed for its own: ranges end
-/// below 2^64, and look-ups were at slots below.
+/// A law: the facts after an instruction are well formed for each later slot, if those before it are well formed for its own: ranges end
+/// below 2^64, and look-ups were at lower slots. So soundness can be applied to the next step.
 pub fn transfer_keeps_well_formed()
     ensures { TransferKeepsWellFormed }
 {
@@ -38,14 +38,14 @@ pub fn transfer_keeps_well_formed()
     interval::laws::results_are_words();
 }
 
-/// An instruction is rejected because of an unknown helper only if it calls one, because a descriptor names no map only if it
-/// loads one whose descriptor has no shape, because of a direct value only if it loads one that the map does not have, and for no
-/// other reason of a program's shape.
+/// A law: an instruction is rejected because of an unknown helper only if it calls one, because a descriptor names no map only if it loads
+/// one whose descriptor has no shape, because of a direct value only if it loads one that the map does not have, and for no other reason of
+/// a program's shape.
 pub fn transfer_reasons()
     ensures { TransferReasons }
 {}
 
-/// No instruction is rejected because memory runs out.
+/// A law: no instruction is rejected because memory runs out, so this reason means that the verifier has run out of it.
 pub fn effects_need_no_memory()
     ensures { (shapes : Shapes) (at : ℕ) (i : Insn) (f : Facts) (reason : Reason)
         → effect shapes at i f ≡ Err reason → reason ≢ Memory }
@@ -53,7 +53,8 @@ pub fn effects_need_no_memory()
     transfer_reasons();
 }
 
-/// If facts admit a state and allow a call, it is no fault, and the facts after it admit the state after it.
+/// A law, the part of soundness for calls: if facts admit a state and allow a call, it is no fault, and the facts after it admit the state
+/// after it.
 pub fn calls_are_sound()
     ensures { CallsAreSound }
 {

@@ -14,13 +14,13 @@ use Rattle.transfer.specs.Branches.{Edges}
 use Rattle.transfer.specs.Effects.{effect}
 use Rattle.verifier.specs.Shape.{falls_into, jumps_into}
 
--- the join of the facts on two edges, either of which may have none
+-- the join of the facts on two edges; those on one if the other has none (None)
 abbrev pub joined : Option Facts → Option Facts → Option Facts
 joined None g = g
 joined (Some f) None = Some f
 joined (Some f) (Some g) = Some (facts_join f g)
 
--- the facts on an edge, if it leads there
+-- the facts on an edge if it leads to the slot in question (true), else none
 abbrev pub only_if : Bool → Option Facts → Option Facts
 only_if leads f = if leads then f else None
 
@@ -32,7 +32,8 @@ edges_into insn n i (Ok edges) =
     joined (only_if (falls_into insn n i) edges.falling)
     (only_if (jumps_into insn n i) edges.jumping)
 
--- the facts that slot n passes on to slot i, from those before it
+-- the facts that slot n passes on to slot i, from those before it (`known`); None if there are
+-- none, or no instruction begins at n
 abbrev pub facts_sent : Shapes → List Insn → ℕ → ℕ → Option Facts → Option Facts
 facts_sent shapes code n i known =
     and_then known

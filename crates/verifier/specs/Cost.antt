@@ -17,8 +17,8 @@ use Rattle.verifier.specs.Shape.{leads_into}
 abbrev pub is_exit : Insn → Bool
 is_exit i = not (falls i || jumps i)
 
--- the instructions on a path from a slot to an exit, in order: one begins at the slot, and either
--- it is an exit and the last one, or the others are a path from a slot to which its edge leads
+-- these instructions, in order, are a path from a slot to an exit: the first begins at the slot; it
+-- is an exit and the only one, or one of its edges leads to a slot from which the others are a path
 abbrev pub IsPath : List Insn → ℕ → List Insn → Type 0
 IsPath code at [] = ⊥
 IsPath code at (i ∷ is) =
@@ -45,7 +45,7 @@ calls_in is = count_by is_call is
 
 -- ---- the cost
 
--- n is the most of what is measured on a path from slot 0: no path has more, and one has it
+-- n is the most of what is measured on a path from slot 0: no path has more, and some path has n
 abbrev pub IsMostOf : (List Insn → ℕ) → List Insn → ℕ → Type 0
 IsMostOf measure code n =
     ((path : List Insn) → IsPath code 0 path → measure path ≤ n)

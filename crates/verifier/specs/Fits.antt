@@ -13,7 +13,8 @@ use Rattle.verifier.specs.Verified.{Accepted, shapes_in}
 abbrev pub Fits : Accepted → List Named → Type 0
 Fits a named = All (λ fd. shapes_named named fd ≡ shapes_in a fd) (maps_of a.code)
 
--- a program is also accepted with other objects, if its maps have the same shapes there
+-- a program is also accepted with other objects, if the descriptors of its maps name maps of the
+-- same shapes among them
 abbrev pub SameShapesAreAccepted : Type 0
 SameShapesAreAccepted =
     (code : List Insn) (named other : List Named)

@@ -15,7 +15,8 @@ use Rattle.verifier.specs.declared.refusal.Cause.TheVariants.{Slots, Verdict}
 use Rattle.verifier.specs.declared.refusal.Refusal.{Refusal}
 use Rattle.verifier.specs.Verdict.{IsAccepted, IsRefused}
 
--- the number of a cause; the reasons of the verdict have numbers below 100
+-- the number of a cause: that of the reason, which is below 100, or 100 plus that of the codec's
+-- fault
 abbrev pub cause_number : Cause → ℕ
 cause_number (Slots kind) = 100 + fault_number kind
 cause_number (Verdict reason) = number reason
@@ -34,7 +35,8 @@ refusal_text refusal =
     codes "refused: slot "
     ++ (decimal refusal.slot ++ (codes " reason " ++ decimal (cause_number refusal.cause)))
 
--- the bytes of slots are no program, or their program breaks a rule, at this slot
+-- the bytes of slots are rejected at this slot: they are no program (`Slots`), or they are those of
+-- a program that breaks a rule there (`Verdict`)
 abbrev pub IsRefusedFor : List Named → List ℕ → ℕ → Cause → Type 0
 IsRefusedFor named slots slot (Slots kind) =
     IsProgramFault slots (record { slot = slot; kind = kind })

@@ -36,8 +36,8 @@ pub record SafetyFollowsShape : Type 0 where
       → HasNoFault (structure_fault code named)
       → safety_fault (shapes_of code named) code slot ≢ Some NoDirectValue
 
--- each map that an accepted program loads has a shape, both by all descriptors and by those that
--- are kept
+-- each map that an accepted program loads has a shape, both among all open descriptors (`named`)
+-- and among those that are kept with the program (`kept`)
 pub record LoadedMapsHaveShapes : Type 0 where
   pub named : (code : List Insn) (named : List Named)
       → IsAccepted code named

@@ -14,13 +14,15 @@ use Rattle.verifier.specs.Verdict.{IsAccepted}
 
 -- ---- what a run executes
 
--- an instruction, and those that follow its step; a fault executes none
+-- what is executed from instruction i on, if its step is this: i, and then what follows from the
+-- next state (`rest`); only i if the run ends; nothing if the step is a fault
 abbrev pub executed_by : Insn → Step → (RunState → List Insn) → List Insn
 executed_by i (goes t) rest = i ∷ rest t
 executed_by i (ends n) rest = i ∷ []
 executed_by i faults rest = []
 
--- what a run executes from state s, from the instruction at its slot, if one begins there
+-- what a run executes from state s: the instruction that begins at its slot, and what is executed
+-- after it (`rest`); nothing if none begins there
 abbrev pub executed_at : Option Insn → RunState → (RunState → List Insn) → List Insn
 executed_at None s rest = []
 executed_at (Some i) s rest = executed_by i (act i s) rest
@@ -30,7 +32,8 @@ unfoldable pub executed : List Insn → ℕ → RunState → List Insn
 executed code zero s = []
 executed code (suc n) s = executed_at (begins_at code s.at) s (executed code n)
 
--- the instructions that the run of a program executes, with these maps, on a context and a packet
+-- the instructions that the run of a program executes, with these maps, on a context and a packet;
+-- at most as many as the program has slots
 abbrev pub executed_of : List Insn → MapsByDescriptor → List ℕ → List ℕ → List Insn
 executed_of code maps words packet =
     executed code (slot_count code) (start_of_run maps words packet)

@@ -24,7 +24,7 @@ use Rattle.insn_set.specs.Flow.{falls_to, jumps_to, falls, jumps, written_regist
 abbrev pub is_first_slot : List Insn → ℕ → Bool
 is_first_slot code n = is_some (begins_at code n)
 
--- there is a number, and it is i
+-- there is a number, of a slot or a register, and it is i
 abbrev pub is_slot : Option ℕ → ℕ → Bool
 is_slot None i = false
 is_slot (Some n) i = n == i
@@ -57,7 +57,7 @@ is_reachable code i = reached_from code i i
 
 -- ---- the faults of an instruction
 
--- the helper that is named is unknown
+-- what an instruction names is a helper, and none has this number
 abbrev pub is_unknown_helper : Reference → Bool
 is_unknown_helper names.Nothing = false
 is_unknown_helper (names.Helper id) = not (is_some (helper_of id))
@@ -68,21 +68,24 @@ is_unknown_helper (names.Value fd off) = false
 abbrev pub calls_unknown : Insn → Bool
 calls_unknown i = is_unknown_helper (profile i).reference
 
+-- what a descriptor names is a map
 abbrev pub is_map : Target → Bool
 is_map (target.Map shape) = true
 is_map target.Program = false
 
--- the descriptor that is named is not open
+-- an instruction names a descriptor, and it is not open
 abbrev pub is_not_open : List Named → Option ℕ → Bool
 is_not_open named None = false
 is_not_open named (Some fd) = not (is_some (target_of named fd))
 
--- the descriptor that is named is open, but its object is no map
+-- an instruction names a descriptor, and it is open, but its object is no map; one that is not open
+-- is another fault
 abbrev pub is_not_map : List Named → Option ℕ → Bool
 is_not_map named None = false
 is_not_map named (Some fd) = not (option_map_or is_map (target_of named fd) true)
 
--- the map of the direct value that is named has none at this offset
+-- an instruction names a direct value, and its map has none at this offset; a descriptor that names
+-- no map is another fault
 abbrev pub is_no_value : List Named → Reference → Bool
 is_no_value named names.Nothing = false
 is_no_value named (names.Helper id) = false
@@ -104,12 +107,12 @@ abbrev pub leads_backward : Option ℕ → ℕ → Bool
 leads_backward None at = true
 leads_backward (Some n) at = nat_le n at
 
--- the reason of the first line whose condition holds
+-- the reason of the first line whose condition holds; None if none does
 abbrev pub first_reason : List (Bool × Reason) → Option Reason
 first_reason [] = None
 first_reason (line ∷ lines) = if line.0 then Some line.1 else first_reason lines
 
--- the first fault of instruction i at a slot
+-- the first fault of instruction i at a slot; None if it has none. Register 10 is the frame pointer
 abbrev pub shape_reason : List Insn → List Named → Insn → ℕ → Option Reason
 shape_reason code named i at = first_reason (
     (jumps i && leads_outside code (jumps_to i at), JumpOutside)
@@ -123,11 +126,12 @@ shape_reason code named i at = first_reason (
     ∷ (lacks_value named i, NoDirectValue)
     ∷ [])
 
--- the first fault of the instruction at a slot; None if no instruction begins there
+-- the first fault of the instruction at a slot; None if it has none, or no instruction begins there
 abbrev pub shape_of : List Insn → List Named → ℕ → Option Insn → Option Reason
 shape_of code named at None = None
 shape_of code named at (Some i) = shape_reason code named i at
 
--- the first fault of the shape at a slot of a program; None if no instruction begins there
+-- the first fault of the shape at a slot of a program; None if there is none, or no instruction
+-- begins there
 unfoldable pub structure_fault : List Insn → List Named → ℕ → Option Reason
 structure_fault code named at = shape_of code named at (begins_at code at)

@@ -48,8 +48,8 @@ pub record IsAdmitted (shapes : Shapes) (code : List Insn) (s : RunState) : Type
   pub known : facts_before shapes code s.at ≡ Some facts
   pub still : Describes witness facts shapes s
 
--- the step is no fault; a state after it is at a later slot, and the facts before that slot
--- describe it
+-- the step is no fault; if it goes on, the next state is at a later slot, and the facts before that
+-- slot describe it; if the run ends, its result has 32 bits
 abbrev pub NextIsAdmitted : Shapes → List Insn → ℕ → Step → Type 0
 NextIsAdmitted shapes code at (goes t) = (at < t.at) × IsAdmitted shapes code t
 NextIsAdmitted shapes code at (ends n) = n < 2 ^ 32

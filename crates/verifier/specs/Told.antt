@@ -13,23 +13,24 @@ use Rattle.verifier.specs.Before.{facts_before}
 use Rattle.verifier.specs.Maps.{shapes_of}
 use Rattle.verifier.specs.Verdict.{HasNoFault, IsFirstFault, safety_fault, memory_fault}
 
--- the slot with the facts before its instruction, if there are any
+-- the slot with the facts before its instruction; empty if there are none
 abbrev pub known_at : ℕ → Option Facts → List (ℕ × Facts)
 known_at slot known = option_to_list (option_map (λ f. (slot, f)) known)
 
--- the slots below n that a run may reach, as far as is known, in order, each with the facts before
--- it
+-- the slots below n that a run may reach: those at which an instruction begins and before which
+-- there are facts; in order, each with these facts
 unfoldable pub reached : Shapes → List Insn → ℕ → List (ℕ × Facts)
 reached shapes code zero = []
 reached shapes code (suc n) =
     reached shapes code n
     ++ known_at n (and_then (begins_at code n) (λ insn. facts_before shapes code n))
 
--- what the watcher had received, if it is known, and more
+-- what the watcher had received, and more; None if it does not say what it receives
 abbrev pub with_more : Option (List (ℕ × Facts)) → List (ℕ × Facts) → Option (List (ℕ × Facts))
 with_more told more = option_map (λ notes. notes ++ more) told
 
--- the watcher has received the facts before the slots below n, and nothing else
+-- the watcher has received the facts before the slots below n, in addition to `old`, and nothing
+-- else
 abbrev pub IsToldBelow : ℕ → Shapes → List Insn → Option (List (ℕ × Facts))
     → Option (List (ℕ × Facts)) → Type 0
 IsToldBelow n shapes code old new = new ≡ with_more old (reached shapes code n)

@@ -21,13 +21,14 @@ abbrev pub reason_of : Result Edges Reason → Option Reason
 reason_of (Ok edges) = None
 reason_of (Err reason) = Some reason
 
--- the first condition that fails at a slot; None if no facts arrive there
+-- the first condition that fails at a slot; None if none fails, no facts arrive there, or no
+-- instruction begins there
 unfoldable pub safety_fault : Shapes → List Insn → ℕ → Option Reason
 safety_fault shapes code at =
     and_then (facts_before shapes code at)
     (λ f. and_then (begins_at code at) (λ i. reason_of (effect shapes at i f)))
 
--- this reason at this slot, and none at any slot below
+-- there is this fault at this slot, and none at any lower slot
 pub record IsFirstFault (fault_at : ℕ → Option Reason) (slot : ℕ) (reason : Reason) : Type 0 where
   pub here : fault_at slot ≡ Some reason
   pub below : (n : ℕ) → n < slot → fault_at n ≡ None
@@ -49,7 +50,7 @@ abbrev pub IsAccepted : List Insn → List Named → Type 0
 IsAccepted code named =
     HasNoFault (structure_fault code named) × HasNoFault (safety_fault (shapes_of code named) code)
 
--- out of memory for the pass
+-- out of memory, which is reported at slot 0
 abbrev pub memory_fault : VerifyFault
 memory_fault = record { slot = 0; reason = Memory }
 

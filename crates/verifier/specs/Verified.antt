@@ -19,7 +19,8 @@ pub record Accepted : Type 0 where
 abbrev pub shapes_in : Accepted → Shapes
 shapes_in a = shapes_named a.entries
 
--- a is this program, accepted with the objects that its descriptors named
+-- `a` is this program, accepted with the objects that `named` has for its descriptors; it keeps
+-- only the objects of its maps
 abbrev pub IsAcceptedAs : List Insn → List Named → Accepted → Type 0
 IsAcceptedAs code named a =
     (a.code ≡ code) × (a.entries ≡ entries_of (maps_of code) named) × IsAccepted code named

@@ -33,7 +33,7 @@ pub(crate) const NO_COUNTS: Counts = Counts {
     calls: 0,
 };
 
-/// The number of calls that an instruction makes, by what it names.
+/// The number of calls that an instruction makes, by what it names: 1 for a helper, else 0, since only a call names a helper.
 #[inline(always)]
 fn calls_of(reference: Reference) -> u16
     ensures { result ≡ (if is_helper reference then 1 else 0) }
@@ -47,7 +47,7 @@ fn calls_of(reference: Reference) -> u16
 }
 
 impl Counts {
-    /// The greater counts of two.
+    /// The greater number of instructions and the greater number of calls of two counts.
     #[inline(always)]
     pub(crate) fn greater(self, other: Counts) -> Counts
         ensures instructions { result.instructions ≡ max self.instructions other.instructions }
@@ -59,7 +59,7 @@ impl Counts {
         }
     }
 
-    /// The counts with one more instruction, which names `reference`: a call if that is a helper.
+    /// The counts with one more instruction, which names `reference`: one more call, too, if that is a helper.
     #[inline(always)]
     pub(crate) fn with(self, reference: Reference) -> Counts
         requires instructions { self.instructions ≤ MAX_SLOTS }
@@ -74,7 +74,8 @@ impl Counts {
     }
 }
 
-/// Joins the counts on a jump into those on the other jumps to its target: the greater ones count. Nothing is done if there is no target.
+/// Joins the counts on a jump into those on the other jumps to its target: the greater ones count. Nothing is done without a target, but a
+/// jump without a fault has one. `jumping` has the counts by slot.
 #[inline(always)]
 fn send(jumping: &mut [Counts], target: Option<usize>, counts: Counts)
     requires { IfSome target (λ to. to < length jumping.old) }
@@ -111,7 +112,8 @@ impl Paths {
         }
     }
 
-    /// Joins the counts on the jumps to the slot of the pass into those on the falling edge: the greater ones count.
+    /// Joins the counts on the jumps to the slot of the pass into those on the falling edge: the greater ones count. Nothing changes if no
+    /// jump leads there.
     #[inline(always)]
     pub(crate) fn join(&mut self, jumping: Counts)
         ensures instructions { self.new.here.instructions
@@ -124,7 +126,7 @@ impl Paths {
         }
     }
 
-    /// Whether a path leads to `slot`, which is that of the pass.
+    /// Whether a path leads to `slot`, which has to be that of the pass. The path to slot 0 has no instruction.
     #[inline(always)]
     pub(crate) fn lead_to(&self, slot: usize) -> bool
         ensures { result ≡ (nat_lt 0 self.now.here.instructions || slot == 0) }

@@ -11,7 +11,9 @@ use std::marker::Model;
 /// Contracts see `Some` facts if they are valid, else `None`.
 #[derive(Drop)]
 pub(crate) struct EdgeFacts {
+    /// Whether `known` is valid.
     pub(crate) is_known: bool,
+    /// The facts; any others if they are not valid.
     pub(crate) known: NumberedFacts,
 }
 

@@ -8,7 +8,7 @@ use std::alloc::AllocError;
 /// The reason for which a program is rejected, and the slot.
 #[derive(Clone, Copy, Debug, PartialEq, Eq)]
 pub struct VerifyFault {
-    /// The slot of the instruction; 0 if out of memory.
+    /// The slot of the instruction; 0 if `reason` is `Memory`: out of memory.
     pub slot: usize,
     pub reason: Reason,
 }

@@ -39,16 +39,15 @@ fn is_same(one: Option<MapShape>, other: Option<MapShape>) -> bool
 }
 
 impl Verified {
-    /// Whether this is the shape of the map that a descriptor named when the program was accepted: `None` if the program loads no
-    /// map by it.
+    /// Whether `shape` is that of the map that a descriptor named when the program was accepted: `None` if the program loads no map by it.
     pub fn has_shape(&self, fd: u32, shape: Option<MapShape>) -> bool
         ensures { IsTrue result ↔ shape ≡ shapes_in self.now fd }
     {
         is_same(shape, shape_of(&self.found.entries, fd))
     }
 
-    /// Whether each descriptor of the program's maps names, among these objects, a map of the shape with which the program was
-    /// accepted. It ends at the first that does not.
+    /// Whether each descriptor of the program's maps names, among these objects, a map of the shape with which the program was accepted.
+    /// The search ends at the first that does not.
     fn fits(&self, named: &[Named]) -> bool
         ensures { IsTrue result ↔ Fits self.now named.now }
     {

@@ -27,8 +27,9 @@ pub(crate) struct Findings {
     pub(crate) cost: Cost,
 }
 
-/// Verifies a program, and passes the facts before its instructions to a watcher, as `verify_watched` does. What a rejected program leaves
-/// in `working` is removed, so that the next one, which may be of another tenant, does not take longer.
+/// Verifies a program, and passes the facts before its instructions to a watcher, as `verify_watched` does. For its safety only the objects
+/// are used that the descriptors of its maps name. What a rejected program leaves in `working` is removed, so that the next one, which may
+/// be of another tenant, does not take longer.
 pub(crate) fn judge<W: Watcher>(
     alloc: Global,
     program: &Program,

@@ -15,8 +15,8 @@ use reg_kinds::Facts;
 use std::alloc::{AllocError, Global};
 use tagged_model::Named;
 
-/// If only one slot has an entry, a jump to this slot adds no entry for another: a target has one entry,
-/// however many jumps lead to it.
+/// If no slot but this one has an entry, a jump to it adds none for another: a target has one entry, however many jumps lead to it. `fresh`
+/// is the number of the parts of the stack that change.
 fn one_entry(
     entries: &mut TargetFacts,
     slot: usize,

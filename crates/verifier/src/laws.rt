@@ -12,19 +12,19 @@ ghost use Rattle.verifier.specs.Runs.{AcceptedRunsArePaths};
 ghost use Rattle.verifier.specs.Sound.{StepIsSound, StepsGoOn, NeverFaults};
 ghost use Rattle.verifier.specs.Verdict.{IsAccepted, IsRefused};
 
-/// A rejected program has one slot and one reason for which it is rejected.
+/// A law: a rejected program has one slot and one reason for which it is rejected. So the judgement of slots is unique.
 pub fn one_refusal()
     ensures { (code : List Insn) (named : List Named) (m n : ℕ) (a b : Reason)
         → IsRefused code named m a → IsRefused code named n b → (m ≡ n) × (a ≡ b) }
 {}
 
-/// An accepted program is not rejected.
+/// A law: an accepted program is not rejected. So the judgement of slots is unique.
 pub fn accepted_is_not_refused()
     ensures { (code : List Insn) (named : List Named) (slot : ℕ) (reason : Reason)
         → IsAccepted code named → ¬ IsRefused code named slot reason }
 {}
 
-/// A program is rejected by a rule, never for `Memory`, which `verify` reports only if it is out of memory.
+/// A law: a program is rejected by a rule, never for `Memory`, which `verify` reports only if it is out of memory.
 pub fn refused_by_a_rule()
     ensures { (code : List Insn) (named : List Named) (slot : ℕ) (reason : Reason)
         → IsRefused code named slot reason → reason ≢ Memory }
@@ -32,7 +32,7 @@ pub fn refused_by_a_rule()
     transfer::laws::effects_need_no_memory();
 }
 
-/// The judgement of slots is unique: one accepted program, or one refusal.
+/// A law: the judgement of slots is unique, one accepted program or one refusal.
 pub fn one_judgement()
     ensures { OneJudgement }
 {
@@ -42,30 +42,30 @@ pub fn one_judgement()
     accepted_is_not_refused();
 }
 
-/// If the shape of a program has no fault, no instruction is rejected for safety because it calls an unknown helper, loads something
-/// other than a map, or loads a direct value that the map does not have: the check of the shape has excluded these.
+/// A law: if the shape of a program has no fault, no instruction is rejected for safety because it calls an unknown helper, loads something
+/// other than a map, or loads a direct value that the map does not have. The check of the shape has excluded these.
 pub fn safety_follows_shape()
     ensures { SafetyFollowsShape }
 {
     transfer::laws::transfer_reasons();
 }
 
-/// Each map that an accepted program loads has a shape.
+/// A law: each map that an accepted program loads has a shape.
 pub fn loaded_maps_have_shapes()
     ensures { LoadedMapsHaveShapes }
 {}
 
-/// The maps of a program are those that its instructions load, each listed once; no other descriptor has a shape.
+/// A law: the maps of a program are those that its instructions load, each listed once; no other descriptor has a shape.
 pub fn maps_are_listed()
     ensures { MapsAreListed }
 {}
 
-/// A program is also accepted with other objects, if its maps have the same shapes there.
+/// A law: an accepted program is accepted with other objects too, if the descriptors of its maps name maps of the same shapes among them.
 pub fn same_shapes_are_accepted()
     ensures { SameShapesAreAccepted }
 {}
 
-/// If the shape of a program has no fault, and the facts before a slot admit a state there and let the instruction be run, the
+/// A law: if the shape of a program has no fault, and the facts before a slot admit a state at it and let the instruction be run, the
 /// machine has a step, and the facts on the edge that it takes admit the next state.
 pub fn step_is_sound()
     ensures { StepIsSound }
@@ -74,8 +74,8 @@ pub fn step_is_sound()
     transfer::laws::transfer_keeps_well_formed();
 }
 
-/// If the facts before a slot admit a state there, the step of an accepted program is no fault, and the facts before the next
-/// slot admit the state after it.
+/// A law: if the facts before a slot admit a state at it, the step of an accepted program is no fault, and the facts before the next slot
+/// admit the state after it. So it can be applied to step after step.
 pub fn steps_go_on()
     ensures { StepsGoOn }
 {
@@ -84,14 +84,15 @@ pub fn steps_go_on()
     abstraction::laws::join_admits();
 }
 
-/// No run of an accepted program faults.
+/// A law: no run of an accepted program faults.
 pub fn accepted_programs_never_fault()
     ensures { NeverFaults }
 {
     steps_go_on();
 }
 
-/// What a run of an accepted program executes is a path from slot 0 to an exit, an instruction in each step.
+/// A law: what a run of an accepted program executes is a path from slot 0 to an exit, an instruction in each step. So no run executes more
+/// than the cost of the program.
 pub fn accepted_runs_are_paths()
     ensures { AcceptedRunsArePaths }
 {

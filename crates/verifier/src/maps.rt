@@ -19,18 +19,21 @@ fn add_descriptor(maps: &mut Vec<u32>, insn: &Insn) -> Result<(), AllocError>
 {
     match insn.profile().reference.descriptor() {
         Some(fd) if !maps.contains(&fd) => maps.push(fd)?,
+        // It is listed already, or the instruction names none.
         _ => {}
     }
     Ok(())
 }
 
-/// Appends the descriptor that the instruction at `slot` names, if one begins there and names one.
+/// Appends the descriptor of the map that the instruction at `slot` loads, or of which it loads a value, unless it is listed already.
+/// Nothing is appended if no instruction begins there, or it names no map.
 fn add_at(maps: &mut Vec<u32>, program: &Program, slot: usize) -> Result<(), AllocError>
     ensures { OnOk result (maps.new.items
         ≡ with_descriptor maps.old.items (and_then (begins_at program.now slot) descriptor)) }
 {
     match program.get(slot) {
         Some(insn) => add_descriptor(maps, insn),
+        // None begins at the second slot of a wide instruction.
         None => Ok(()),
     }
 }
@@ -52,6 +55,7 @@ pub(crate) fn loaded_maps(
     requires { HasNoFault (structure_fault program.now named.now) }
     ensures { IfOk result (λ maps. maps.items ≡ maps_of program.now) }
 {
+    // A law, for the contract.
     program.insns_in_order();
     let mut maps = Vec::new(alloc);
     if named.is_empty() {

@@ -9,13 +9,15 @@ use reg_kinds::laws::facts_have_all_slots;
 use reg_kinds::{Facts, PART_SLOTS, STACK_PARTS, StackPart, join_part, join_registers};
 use transfer::Flow;
 
-/// Facts, with a number for what is known of each part of the stack. Parts at the same place with the same number are the same.
+/// Facts, with a number for what is known of each part of the stack, which is eight of its slots. Parts at the same place with the same
+/// number are the same, so that a join that is known to change nothing is left out.
 #[derive(Clone, Copy, Debug, Drop)]
 pub(crate) struct NumberedFacts {
     pub(crate) facts: Facts,
-    /// The number of each part of the stack. It is not 0.
+    /// The number of each part of the stack, never 0.
     pub(crate) numbers: [usize; STACK_PARTS],
-    /// For each part, the number of one whose join into it changes nothing; 0 if none is known.
+    /// For each part, the number of the last one that was joined into it, which another join with that one does not change; 0 if none has
+    /// been since it was written.
     pub(crate) includes: [usize; STACK_PARTS],
 }
 
@@ -31,7 +33,7 @@ impl NumberedFacts {
         }
     }
 
-    /// Gives all parts of the stack the new number `fresh`, since any of them may have changed.
+    /// Gives all parts of the stack the new number `fresh`, since any of them may have changed; no join into them is known then.
     pub(crate) fn renumber(&mut self, fresh: usize)
         ensures { self.new ≡ renumbered self.old fresh }
     {
@@ -39,7 +41,7 @@ impl NumberedFacts {
         self.includes = [0; STACK_PARTS];
     }
 
-    /// Gives the part of a stack slot the new number `fresh`, since it may have changed.
+    /// Gives the part of a stack slot, 0 to 63, the new number `fresh`, since it may have changed; no join into it is known then.
     #[inline(always)]
     fn renumber_part(&mut self, slot: usize, fresh: usize)
         requires { slot < stack_slots }
@@ -50,7 +52,8 @@ impl NumberedFacts {
         self.includes[part] = 0;
     }
 
-    /// Gives each part of the stack that may have changed by this flow the new number `fresh`.
+    /// Gives each part of the stack that an instruction with this flow may have written the new number `fresh`. The other flows write
+    /// nothing; a null test gives its numbers on each edge (`leave_null_test`).
     #[inline(always)]
     pub(crate) fn note(&mut self, flow: &Flow, fresh: usize)
         requires { IsInStack flow.now }

@@ -41,8 +41,9 @@ pub(crate) struct Pass {
     taken: NumberedFacts,
 }
 
-/// Sends the facts on the jumping edge of a comparison to the jump's target, if it can be taken (`jumps` has the operands' ranges there).
-/// Of the facts in hand only these ranges change. Parts of the stack that change at the target get the number `fresh`.
+/// Sends the facts on the jumping edge of a comparison to the jump's target, if the edge can be taken (`jumps` has the operands' ranges on
+/// it). Of the facts in hand only these ranges change; the caller sets those of the falling edge. Parts of the stack that change at the
+/// target get the number `fresh`.
 #[inline(always)]
 fn send_compared(
     hand: &mut NumberedFacts,
@@ -64,18 +65,20 @@ fn send_compared(
             set_ranges(&mut hand.facts, dst, &src, ranges);
             entries.send(target, hand, fresh)
         }
+        // The jump is never taken.
         None => Ok(()),
     }
 }
 
-/// The two operands of a comparison.
+/// The two operands of a comparison, as one parameter.
 struct Compared {
     dst: Reg,
     src: Operand,
 }
 
 /// Sends the facts on the jumping edge of a comparison to `target`, and leaves those on the falling edge in hand. `jumps` and `falls` have
-/// the operands' ranges on these edges; `None` if one can't be taken. Returns whether the falling edge can be taken.
+/// the operands' ranges on these edges; `None` for one that can't be taken. Parts of the stack that change at the target get the number
+/// `fresh`. Returns whether the falling edge can be taken.
 #[inline(always)]
 fn leave_comparison(
     hand: &mut NumberedFacts,
@@ -104,8 +107,9 @@ fn leave_comparison(
     }
 }
 
-/// Settles the look-up at slot `site` on both edges of the null test at `slot`: the facts on the jumping edge are sent to `target`, those
-/// on the falling edge are left in hand. `taken` is space for the former.
+/// Settles the look-up at slot `site` on both edges of the null test at `slot`, which jumps if the result is null (`jumps_on_null`) or else
+/// if it is not: the facts on the jumping edge are sent to `target`, those on the falling edge are left in hand. `taken` is space for the
+/// former.
 fn leave_null_test(
     hand: &mut NumberedFacts,
     entries: &mut TargetFacts,
@@ -127,8 +131,9 @@ fn leave_null_test(
     entries.send(target, taken, 8 * slot + 6)
 }
 
-/// Sends the facts after the instruction at `slot` along the edges of this flow, of which the jumping one leads to `target`; those on the
-/// falling edge are left in hand. Returns whether the falling edge can be taken.
+/// Sends the facts after the instruction at `slot`, which are in hand, along the edges of this flow, of which the jumping one leads to
+/// `target`; those on the falling edge are left in hand. `taken` is space for a null test. Returns whether the falling edge can be taken:
+/// `false` after an exit, a jump that is always taken, and a comparison that always holds.
 #[inline(always)]
 fn leave_by(
     hand: &mut NumberedFacts,
@@ -177,8 +182,8 @@ fn leave_by(
     }
 }
 
-/// Sends the facts after the instruction at `slot` along its edges: those on the falling edge are left in hand. Returns whether the falling
-/// edge can be taken. Only a flow that may jump needs the target.
+/// Sends the facts after the instruction at `slot`, which are in hand, along its edges: those on the falling edge are left in hand. `taken`
+/// is space for a null test. Returns whether the falling edge can be taken. Only a flow that may jump needs the target.
 #[inline(always)]
 fn leave(
     hand: &mut NumberedFacts,
@@ -211,7 +216,7 @@ fn leave(
 }
 
 /// Passes the facts in hand to the watcher, and moves past the instruction at `slot`, if it may be run with them: they are then those on
-/// its falling edge. Returns whether that edge can be taken.
+/// its falling edge. `taken` is space for a null test. Returns whether the falling edge can be taken.
 #[inline(always)]
 fn run_past<W: Watcher>(
     hand: &mut NumberedFacts,
@@ -245,7 +250,7 @@ fn run_past<W: Watcher>(
 }
 
 impl Pass {
-    /// Memory for the facts of a pass. Allocates nothing.
+    /// Memory for the facts of a pass, which begins with `begin`; until then its facts mean nothing. Allocates nothing.
     pub(crate) fn new(alloc: Global) -> Pass {
         Pass {
             falling: EdgeFacts {
@@ -257,7 +262,8 @@ impl Pass {
         }
     }
 
-    /// Begins a pass with the facts at program entry.
+    /// Begins a pass with the facts at program entry, and without facts on jumps: the contract needs that the entries are empty, which they
+    /// are already after a pass that was ended.
     fn begin(&mut self)
         ensures falling { self.new.falling ≡ Some at_entry }
         ensures entries { self.new.entries ≡ [] }
@@ -311,7 +317,8 @@ impl Pass {
         Ok(())
     }
 
-    /// Joins all facts that arrive at `slot`, and moves past the instruction there, if it may be run with them.
+    /// Joins all facts that arrive at `slot`, and moves past the instruction there, if it may be run with them. `absorb` and `numbered` are
+    /// for the contract: by them a part of the stack that is not joined again would not change.
     fn step<W: Watcher>(
         &mut self,
         named: &[Named],
@@ -344,8 +351,9 @@ impl Pass {
     }
 }
 
-/// Finds the first instruction that may not be run with the facts before it, in one pass over the slots, which holds the facts on
-/// the falling edge and those on jumps to later slots. The watcher receives the facts before each instruction.
+/// Finds the first instruction that may not be run with the facts before it, in one pass over the slots, which holds the facts on the
+/// falling edge and those on jumps to later slots. At the second slot of a wide instruction none begins, and nothing is done. The watcher
+/// receives the facts before each instruction that a run may reach.
 pub(crate) fn check_safety<W: Watcher>(
     program: &Program,
     named: &[Named],

@@ -33,7 +33,7 @@ impl Cause {
 /// Why slots are rejected, and because of which slot. Its text is the line of `verify` and of the log.
 #[derive(Clone, Copy, Debug, PartialEq, Eq)]
 pub struct Refusal {
-    /// The slot of the instruction; if they are no program because of their number, the slot that `read_program` reports.
+    /// The slot of the instruction at fault; if there are too few or too many slots, or half a slot, the slot that `read_program` reports.
     pub slot: usize,
     pub cause: Cause,
 }
@@ -43,6 +43,7 @@ impl From<CodecFault> for Refusal {
 
     ghost from_gives = { λ fault refusal. refusal ≡ refusal_of_slots fault };
 
+    /// The refusal of slots that are no program.
     fn from(fault: CodecFault) -> Refusal {
         Refusal {
             slot: fault.slot,
@@ -56,6 +57,7 @@ impl From<VerifyFault> for Refusal {
 
     ghost from_gives = { λ fault refusal. refusal ≡ refusal_of_program fault };
 
+    /// The refusal of slots whose program breaks a rule.
     fn from(fault: VerifyFault) -> Refusal {
         Refusal {
             slot: fault.slot,
@@ -70,6 +72,7 @@ impl fmt::Display for Refusal {
 
     ghost output = { λ refusal. Some (refusal_text refusal) };
 
+    /// Writes the line of `verify` and of the log, without its line feed.
     fn fmt<W: fmt::Write>(&self, f: &mut fmt::Formatter<W>) -> fmt::Result {
         let (slot, number) = (self.slot, self.cause.number());
         write!(f, "refused: slot {slot} reason {number}")

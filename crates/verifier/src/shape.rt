@@ -23,7 +23,7 @@ use tagged_model::{Named, Target, known_helper, shape_of, target_of};
 /// The frame pointer's number.
 const FRAME_POINTER: u8 = 10;
 
-/// Whether the written register is the frame pointer.
+/// Whether the register that an instruction writes is the frame pointer: `false` if it writes none.
 fn writes_frame_pointer(written: Option<Reg>) -> bool
     ensures { result ≡ is_slot written 10 }
 {
@@ -33,7 +33,7 @@ fn writes_frame_pointer(written: Option<Reg>) -> bool
     }
 }
 
-/// Whether the helper that is named is unknown.
+/// Whether an instruction names a helper, and there is none with this number.
 fn is_unknown_helper(reference: Reference) -> bool
     ensures { result ≡ is_unknown_helper reference }
 {
@@ -45,7 +45,8 @@ fn is_unknown_helper(reference: Reference) -> bool
     }
 }
 
-/// Whether a direct value is named that its map does not have: `false` also if the descriptor names no map, which is another fault.
+/// Whether an instruction names a direct value that its map does not have: `false` also if the descriptor names no map, which is another
+/// fault.
 fn is_no_value(named: &[Named], reference: Reference) -> bool
     ensures { result ≡ is_no_value named.now reference }
 {
@@ -60,7 +61,7 @@ fn is_no_value(named: &[Named], reference: Reference) -> bool
     }
 }
 
-/// The fault of the descriptor that is named, or of the direct value, if any.
+/// The fault of the descriptor that an instruction names, or of the direct value; `None` if there is no fault, or it names no descriptor.
 fn descriptor_reason(named: &[Named], reference: Reference) -> Option<Reason>
     ensures { result ≡ first_reason
         ((is_not_open named.now (descriptor_by reference), DescriptorNotOpen)
@@ -75,7 +76,8 @@ fn descriptor_reason(named: &[Named], reference: Reference) -> Option<Reason>
     }
 }
 
-/// The fault of a jump's target, if any.
+/// The fault of a jump's target: `JumpOutside` if it is below slot 0 or no instruction begins there, `JumpBackward` if it is not a later
+/// slot. `None` if there is no fault or no jump. `successors` are those of `insn`, which only the contract needs.
 fn jump_reason(
     program: &Program,
     insn: &Insn,
@@ -99,8 +101,9 @@ fn jump_reason(
     }
 }
 
-/// Whether an instruction is simple, and so has no fault: it is reached, its only successor is the next one, at slot `next`, which
-/// exists, it names nothing, and it does not write the frame pointer. False at slot 0.
+/// Whether an instruction is simple, and so has no fault: it is reached, its only successor is the next one, at slot `next`, which exists,
+/// it names nothing, and it does not write the frame pointer. `row` has its properties, and `slots` is the number of slots. False at slot
+/// 0, which no instruction precedes; false only means that all checks are made.
 #[inline(always)]
 fn is_simple(row: &Profile, next: usize, slots: usize, paths: &Paths) -> bool
     ensures { IsTrue result → IsSimple row.now next slots paths.now }
@@ -113,8 +116,8 @@ fn is_simple(row: &Profile, next: usize, slots: usize, paths: &Paths) -> bool
     }
 }
 
-/// The first fault of the instruction at `slot`, whatever the registers hold. `row` has its properties, and `is_reached` is whether the
-/// slot can be reached.
+/// The first fault of the instruction at `slot`, whatever the registers hold; `None` if there is none. `row` has its properties, and
+/// `is_reached` is whether the slot can be reached.
 #[inline(always)]
 fn other_reason(
     program: &Program,
@@ -144,7 +147,8 @@ fn other_reason(
     }
 }
 
-/// Adds the instruction at `slot`, of any kind, to the paths, or finds its first fault. `jumping` has the counts on the jumps to each slot.
+/// Adds the instruction at `slot`, of any kind, to the paths, or returns its first fault. `jumping` has the counts on the jumps to each
+/// slot.
 #[inline(always)]
 fn pass_other(
     program: &Program,
@@ -174,8 +178,8 @@ fn pass_other(
     }
 }
 
-/// Adds the instruction at `slot`, with the properties `row`, to the paths, or finds its first fault. A simple one has none. `jumping` has
-/// the counts on the jumps to each slot.
+/// Adds the instruction at `slot`, with the properties `row`, to the paths, or returns its first fault. A simple one has none. `jumping`
+/// has the counts on the jumps to each slot.
 #[inline(always)]
 fn pass(
     program: &Program,

@@ -14,9 +14,9 @@ use std::marker::Model;
 /// Contracts see the list of these facts by slot, up to the last slot that a jump has led to.
 #[derive(Drop)]
 pub(crate) struct TargetFacts {
-    /// An entry for each slot up to the last one that a jump has led to; `None` if no facts are there.
+    /// An entry for each slot up to the last one that a jump has led to; `None` if no jump has led to the slot, or the pass has taken them.
     facts: Vec<Option<Box<NumberedFacts>>>,
-    /// Boxes of entries that are over, for reuse.
+    /// Boxes of entries whose facts the pass has taken, for reuse; what they hold means nothing.
     spare: Vec<Box<NumberedFacts>>,
 }
 
@@ -46,7 +46,7 @@ fn boxed(
     }
 }
 
-/// Keeps a box for reuse.
+/// Appends a box to the spare ones, for reuse.
 fn keep(spare: &mut Vec<Box<NumberedFacts>>, entry: Box<NumberedFacts>) -> Result<(), AllocError>
     ensures { OnOk result (spare.new.items ≡ spare.old.items ++ entry ∷ []) }
 {
@@ -54,8 +54,8 @@ fn keep(spare: &mut Vec<Box<NumberedFacts>>, entry: Box<NumberedFacts>) -> Resul
     Ok(())
 }
 
-/// Joins the facts of a jump into an entry, in place. The first jump's facts are copied to a box, if possible a spare one. Parts of the
-/// stack that change get the number `fresh`.
+/// Joins the facts of a jump into the entry of its target, in place. If the entry has none, they are copied to a box, if possible a spare
+/// one. Parts of the stack that change get the number `fresh`.
 fn join_entry(
     entry: &mut Option<Box<NumberedFacts>>,
     facts: &NumberedFacts,
@@ -85,7 +85,8 @@ fn append_empty(facts: &mut Vec<Option<Box<NumberedFacts>>>, slots: usize) -> Re
     Ok(())
 }
 
-/// Takes out all entries, and keeps their boxes for reuse. A box for which the list cannot grow is freed.
+/// Empties all entries, and keeps their boxes for reuse. A box for which the list of spare ones cannot grow is freed, which only costs an
+/// allocation later.
 fn keep_all(facts: &mut [Option<Box<NumberedFacts>>], spare: &mut Vec<Box<NumberedFacts>>) {
     for entry in facts {
         if let Some(entry) = entry.take() {
@@ -113,8 +114,8 @@ impl TargetFacts {
         self.facts.clear();
     }
 
-    /// Joins the facts of the jumps to `slot` into `known`, those on the falling edge, and empties the entry, whose box is kept. Parts of
-    /// the stack that change get the number `fresh`.
+    /// Joins the facts of the jumps to `slot` into `known`, those on the falling edge, and empties the entry, whose box is kept. Nothing is
+    /// done if no jump has led there. Parts of the stack that change get the number `fresh`.
     pub(crate) fn join_at(
         &mut self,
         slot: usize,
@@ -133,7 +134,7 @@ impl TargetFacts {
         Ok(())
     }
 
-    /// Appends empty entries as far as `slot`.
+    /// Appends empty entries, until the list has one for `slot`.
     fn reach(&mut self, slot: usize) -> Result<(), AllocError>
         requires { slot < MAX_SLOTS }
         ensures within { OnOk result (slot < length self.new) }
@@ -142,7 +143,8 @@ impl TargetFacts {
         append_empty(&mut self.facts, slot + 1)
     }
 
-    /// Joins the facts of a jump into the entry of its target, if it has one. Parts of the stack that change get the number `fresh`.
+    /// Joins the facts of a jump into the entry of its target. Nothing is done if there is no target. Parts of the stack that change get
+    /// the number `fresh`.
     pub(crate) fn send(
         &mut self,
         target: Option<usize>,

@@ -123,8 +123,8 @@ pub fn verify(alloc: Global, program: &Program, named: &[Named]) -> Result<Verif
     Ok(Verified { program, found })
 }
 
-/// Verifies the program that the bytes of slots spell. It is kept without a copy, or the slots are rejected: out of memory is the
-/// only other error. `working` is memory to work in, which the next call can use again; its contents mean nothing.
+/// Verifies the program that the bytes of slots spell. Returns it, without a copy, if it is accepted, or else the `Refusal` of the slots:
+/// they are no program, or it breaks a rule. `working` is memory to work in, which the next call can use again; its contents mean nothing.
 ///
 /// # Errors
 ///

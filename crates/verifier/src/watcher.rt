@@ -7,9 +7,9 @@ ghost use Rattle.verifier.specs.Told.{with_more};
 use reg_kinds::Facts;
 use std::alloc::AllocError;
 
-/// A receiver of the facts before each instruction that a run may reach, in the pass over a program.
+/// A receiver of the facts before each instruction that a run may reach, in the pass over a program, each slot once and in order.
 pub trait Watcher {
-    // The slots and facts that it has received so far, if they are known.
+    // The slots and facts that it has received so far; `None` of a watcher that does not say which, as one that only counts.
     ghost told: { Self → Option (List (ℕ × AnyFacts)) } = { λ _. None };
 
     /// Receives the facts before the instruction at `slot`. They are borrowed from the pass.

@@ -40,6 +40,7 @@ impl WorkingMemory {
         }
         match &mut self.pass {
             Some(pass) => Ok(pass),
+            // It has been allocated above, if it was missing.
             None => unreachable!(),
         }
     }

@@ -20,14 +20,14 @@ pub byte_of : (bytes : List ℕ) (offset n k : ℕ)
 byte_of bytes offset n k lt =
     get_or-take n (drop offset bytes) k 0 lt ∙ get_or-drop offset bytes k 0
 
--- the n bytes at an offset of a list that is long enough are n
+-- if a list has n bytes from an offset on, `bytes_at` there has length n
 pub length-bytes_at : (bytes : List ℕ) (offset n : ℕ)
     → offset + n ≤ length bytes
     → length (bytes_at bytes offset n) ≡ n
 length-bytes_at bytes offset n h =
     omega (arith, length-take n (drop offset bytes), length-drop offset bytes)
 
--- the n bytes at an offset are those of new, if each of them is
+-- if each of the n bytes at an offset is the byte of `new` at its position, they are `new`
 pub bytes_are : (bytes new : List ℕ) (offset n : ℕ)
     → length new ≡ n
     → offset + n ≤ length bytes
@@ -38,7 +38,7 @@ bytes_are bytes new offset n count h same =
     ext_get_or 0 (bytes_at bytes offset n) new (long ∙ sym count)
     (λ k lt. byte_of bytes offset n k (omega arith) ∙ same k (omega arith))
 
--- bytes at an offset within the bytes at an offset are bytes of the list
+-- of the `size` bytes at an offset, the n bytes at `at` are those of the list at offset + at
 pub bytes_within : (bytes : List ℕ) (offset size at n : ℕ)
     → at + n ≤ size
     → bytes_at (bytes_at bytes offset size) at n ≡ bytes_at bytes (offset + at) n
@@ -49,7 +49,7 @@ bytes_within bytes offset size at n room =
     ∙ take-take n (size - at) (drop at (drop offset bytes)) (omega arith)
     ∙ ap (take n) (drop-drop at offset bytes)
 
--- a slice range of a list is the bytes at its beginning
+-- the slice of a list from an offset to offset + n is the n bytes at this offset
 pub range_is_bytes : (bytes : List ℕ) (offset n : ℕ)
     → slice_range bytes offset (offset + n) ≡ bytes_at bytes offset n
 range_is_bytes bytes offset n =
@@ -71,7 +71,7 @@ length-written_at bytes new offset h =
       length-drop (offset + length new) bytes,
     )
 
--- within the written bytes, a byte of the list is the byte written
+-- byte k of those written at an offset is byte offset + k of the list after the write
 pub written_in : (bytes new : List ℕ) (offset k : ℕ)
     → offset ≤ length bytes
     → k < length new
@@ -83,7 +83,7 @@ written_in bytes new offset k h lt =
     ∙ get_or-append-add (take offset bytes) (new ++ drop (offset + length new) bytes) k 0
     ∙ get_or_append_left new (drop (offset + length new) bytes) 0 k lt
 
--- elsewhere a byte of the list is unchanged
+-- a byte of the list before or after those written is unchanged
 pub written_out : (bytes new : List ℕ) (offset q : ℕ)
     → offset ≤ length bytes
     → (q < offset) ⊎ (offset + length new ≤ q)
@@ -114,7 +114,8 @@ bytes_written bytes new offset h =
     (drop-append_seam (take offset bytes) (new ++ drop (offset + length new) bytes))
     ∙ take-append_seam new (drop (offset + length new) bytes)
 
--- bytes below an offset are those of the list, whatever follows it from this offset on
+-- n bytes at `from` that end at an offset or below are those of the list, whatever replaces the
+-- rest of the list from this offset on
 before : (bytes rest : List ℕ) (offset from n : ℕ)
     → from + n ≤ offset
     → offset ≤ length bytes
@@ -137,7 +138,8 @@ before bytes rest offset from n h k =
     (drop (offset - from) (drop from bytes)) less)
     ∙ ap (take n) (take-append-drop (offset - from) (drop from bytes))
 
--- from an offset past the written bytes on, the list is unchanged
+-- after a write, the rest of the list is unchanged from any offset on that is past the written
+-- bytes
 behind : (bytes new : List ℕ) (offset from : ℕ)
     → offset + length new ≤ from
     → offset ≤ length bytes
@@ -154,7 +156,7 @@ behind bytes new offset from h k =
     ∙ drop-drop (from - (offset + length new)) (offset + length new) bytes
     ∙ ap (λ (n : ℕ). drop n bytes) (omega arith)
 
--- bytes apart from those written are unchanged
+-- n bytes that lie before or after those written are unchanged
 pub bytes_stay : (bytes new : List ℕ) (offset from n : ℕ)
     → offset + length new ≤ length bytes
     → (from + n ≤ offset) ⊎ (offset + length new ≤ from)
@@ -164,7 +166,8 @@ bytes_stay bytes new offset from n k (inl h) =
 bytes_stay bytes new offset from n k (inr h) =
     ap (take n) (behind bytes new offset from h (omega arith))
 
--- a write within a part of the list is a write in that part's bytes
+-- of a list, a write at offset + at, within the `size` bytes at the offset, changes these bytes as
+-- a write at `at` in them does
 pub over_within : (bytes new : List ℕ) (offset size at : ℕ)
     → offset + size ≤ length bytes
     → at + length new ≤ size
@@ -217,7 +220,8 @@ over_within bytes new offset size at fits room =
         (ap (λ (q : ℕ). get_or (written_at (bytes_at bytes offset size) at new) q 0) here
         ∙ written_in (bytes_at bytes offset size) new at (k - at) (omega arith) (omega arith))
 
--- a part's bytes, written over and then written back, are written into the whole list
+-- if `new` is written at `at` into the `size` bytes at `start`, and these are written back at
+-- `start`, then `new` is written into the list at start + at
 pub over_part : (bytes new : List ℕ) (start size at : ℕ)
     → start + size ≤ length bytes
     → at + length new ≤ size
@@ -254,7 +258,8 @@ over_part bytes new start size at fits room =
         written_out bytes (written_at (bytes_at bytes start size) at new) start q (omega arith) far
         ∙ sym (written_out bytes new (start + at) q (omega arith) near)
 
-    -- a byte of the part, after it is written back, is that of the part's own bytes
+    -- a byte of the part, after the part is written back, is that of the part's bytes after the
+    -- write of `new`
     through : (q : ℕ)
         → start ≤ q
         → q < start + size
@@ -270,7 +275,7 @@ over_part bytes new start size at fits room =
         ∙ written_in bytes (written_at (bytes_at bytes start size) at new) start (q - start)
         (omega arith) (omega arith)
 
-    -- a byte of the part that is not written is that of the list
+    -- a byte of the part that the write of `new` leaves unchanged is that of the list
     kept : (q : ℕ)
         → start ≤ q
         → q < start + size
@@ -286,7 +291,7 @@ over_part bytes new start size at fits room =
         ∙ ap (λ (x : ℕ). get_or bytes x 0) there
         ∙ sym (written_out bytes new (start + at) q (omega arith) near)
 
-    -- a byte of the part that is written is the new one
+    -- a byte of the part that the write of `new` changes is a byte of `new`
     fresh : (q : ℕ)
         → start ≤ q
         → at ≤ q - start
@@ -323,7 +328,7 @@ over_part bytes new start size at fits room =
 
 -- ---- the bytes of a number
 
--- the low n bytes are n in number
+-- `low_bytes n` has length n
 pub length-low_bytes : (n x : ℕ) → length (low_bytes n x) ≡ n
 length-low_bytes zero x = refl
 length-low_bytes (suc n) x = ap suc (length-low_bytes n (x / 256))
@@ -336,7 +341,7 @@ number_of-low_bytes (suc n) x h =
     let small : x / 256 < 256 ^ n = omega arith in
     ap (λ (y : ℕ). x % 256 + 256 * y) (number_of-low_bytes n (x / 256) small) ∙ omega arith
 
--- the number of n bytes is below 256 ^ n
+-- n bytes, each below 256, represent a number below 256 ^ n (`number_of`)
 pub number_below : (bytes : List ℕ)
     → ((i : ℕ) → i < length bytes → get_or bytes i 0 < 256)
     → number_of bytes < 256 ^ length bytes
@@ -345,10 +350,11 @@ number_below (b ∷ bytes) small =
     below_more b (length bytes) (number_of bytes) (small 0 (omega arith))
     (number_below bytes (λ i below. small (suc i) (omega arith)))
   where
+    -- if x is a number of n bytes, b + 256 * x is one of n + 1
     below_more : (b n x : ℕ) → b < 256 → x < 256 ^ n → b + 256 * x < 256 ^ suc n
     below_more b n x h g = omega arith
 
--- bytes are the low bytes of their number
+-- bytes that are each below 256 are the low bytes of their number
 pub low_bytes_of_number : (bytes : List ℕ)
     → ((i : ℕ) → i < length bytes → get_or bytes i 0 < 256)
     → low_bytes (length bytes) (number_of bytes) ≡ bytes

@@ -2,20 +2,20 @@
 -- machine).
 use Rattle.std.specs.Prelude.{ℕ, zero, suc, ◌+◌, ◌*◌, ◌/◌, ◌%◌, List, [], ◌∷◌, ◌++◌, length, take, drop}
 
--- the number of these bytes
+-- the number that these bytes represent, of which the first is the lowest
 abbrev pub number_of : List ℕ → ℕ
 number_of [] = 0
 number_of (b ∷ bs) = b + 256 * number_of bs
 
--- the low n bytes of x
+-- the low n bytes of x, the lowest first
 abbrev pub low_bytes : ℕ → ℕ → List ℕ
 low_bytes zero x = []
 low_bytes (suc n) x = x % 256 ∷ low_bytes n (x / 256)
 
--- the n bytes at an offset
+-- the n bytes of a list from an offset on; fewer if the list ends before
 abbrev pub bytes_at : List ℕ → ℕ → ℕ → List ℕ
 bytes_at bytes offset n = take n (drop offset bytes)
 
--- the list with the bytes new instead of as many from an offset on
+-- the list in which the bytes `new` replace as many bytes, from an offset on
 abbrev pub written_at : List ℕ → ℕ → List ℕ → List ℕ
 written_at bytes offset new = take offset bytes ++ (new ++ drop (offset + length new) bytes)

@@ -10,12 +10,12 @@ use Rattle.words.specs.Words.{signed, unsigned}
 pub signed_low : (n : ℕ) → n < 2 ^ 63 → signed 64 n ≡ pos n
 signed_low n h = cond-true (nat_lt n (2 ^ 63)) (pos n) (pos n -ℤ pos (2 ^ 64)) (lt-ltb n (2 ^ 63) h)
 
--- any other word is 2 ^ 64 less
+-- a word from 2 ^ 63 on, read as a signed number, is 2 ^ 64 less
 pub signed_high : (n : ℕ) → 2 ^ 63 ≤ n → signed 64 n ≡ pos n -ℤ pos (2 ^ 64)
 signed_high n h =
     cond-false (nat_lt n (2 ^ 63)) (pos n) (pos n -ℤ pos (2 ^ 64)) (le-ltb n (2 ^ 63) h)
 
--- the word of a signed number is below 2 ^ 64
+-- the word of a signed number, of any size, is below 2 ^ 64
 pub unsigned_small : (z : ℤ) → unsigned 64 z < 2 ^ 64
 unsigned_small (pos m) = omega arith
 unsigned_small (negsuc m) = omega arith

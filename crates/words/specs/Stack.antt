@@ -23,23 +23,24 @@ bytes_of Half = 2
 bytes_of Word = 4
 bytes_of Double = 8
 
--- whether it is a double word, that is, the size of a slot
+-- whether a size is that of a double word: eight bytes, the size of a stack slot
 abbrev pub is_double : AccessSize → Bool
 is_double Double = true
 is_double _ = false
 
 -- ---- byte indices
 
--- whether the n bytes at this offset lie in the stack
+-- whether the n bytes from this offset on lie in the stack: the offset is -512 or above (`negsuc m`
+-- is -m - 1), and they end at 0 or below
 abbrev pub is_in_stack : ℤ → ℕ → Bool
 is_in_stack offset n = int_le (negsuc (stack_size - 1)) offset && int_le (offset +ℤ pos n) (pos 0)
 
--- the byte index of an offset in the stack, counted from the lowest byte
+-- the byte index of an offset in the stack: 512 above it, 0 for the lowest byte (-512)
 abbrev pub byte_index : ℤ → ℕ
 byte_index offset = unsigned_abs (offset +ℤ pos stack_size)
 
--- an offset is a multiple of n if its byte index is: the stack's size is a multiple of each access
--- size
+-- whether an offset in the stack is a multiple of n, an access size. Its byte index is tested,
+-- which is no negative number: the two differ by 512, a multiple of each access size
 abbrev pub is_aligned : ℤ → ℕ → Bool
 is_aligned offset n = byte_index offset % n == 0
 

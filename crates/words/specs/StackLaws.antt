@@ -28,7 +28,8 @@ in_stack n (negsuc y) h =
     let same : byte_index (negsuc y) ≡ 511 - y = ap unsigned_abs above in
     (omega (arith, ints), omega (arith, ints))
 
--- an aligned access ends in the slot in which it begins
+-- an access at a byte index p that is a multiple of its size ends in the stack slot in which it
+-- begins
 pub in_one_slot : (size : AccessSize) (p : ℕ) → p % bytes_of size ≡ 0 → p % 8 + bytes_of size ≤ 8
 in_one_slot Byte p h = omega arith
 in_one_slot Half p h = omega arith

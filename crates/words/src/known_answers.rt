@@ -1,8 +1,9 @@
-//! Known answers, proved only from the contracts.
+//! Known answers, proved only from the contracts. Nothing calls these functions.
 
 use crate::{AccessSize, AluOp, ByteOrder, Condition, KeptBits, Operator, words32, words64};
 
-/// On 64 bits: 7 divided by 0 is 0 and leaves 7, 0 less 1 is 2^64 - 1, the low 16 bits 0x3344 in reverse are 0x4433, and 0 is above -1.
+/// On 64 bits: 7 divided by 0 is 0 and leaves 7, 0 less 1 is 2^64 - 1, the low 16 bits of 287454020 (0x11223344) in reverse are 17459
+/// (0x4433), and 0 is above -1, both signed.
 fn words_of_64_bits() {
     let quotient = words64::operate(Operator::Binary(AluOp::Div), 7, 0);
     prove!(quotient == 0);

@@ -65,7 +65,8 @@ pub enum Operator {
     End { how: ByteOrder, bits: KeptBits },
 }
 
-/// The condition of a conditional jump (RFC 9669, section 4.3). All but the signed ones compare unsigned numbers.
+/// The condition of a conditional jump (RFC 9669, section 4.3). `Above` to `BelowOrEqual` compare unsigned numbers, the signed ones numbers
+/// in two's complement.
 #[derive(Clone, Copy, Debug, PartialEq, Eq)]
 pub enum Condition {
     Equal,

@@ -11,7 +11,7 @@ pub(crate) fn low_byte(a: u64) -> u8
     (a % 0x100) as u8
 }
 
-/// The low 16 bits of a word.
+/// The low 16 bits of a word, a half word as in `AccessSize::Half`. The low half of 64 bits is `low_word`.
 #[inline(always)]
 pub(crate) fn low_half(a: u64) -> u16
     ensures { result ≡ low 16 a }
@@ -19,7 +19,7 @@ pub(crate) fn low_half(a: u64) -> u16
     (a % 0x1_0000) as u16
 }
 
-/// The low 32 bits of a word.
+/// The low 32 bits of a word, which `words32` calls its low half.
 #[inline(always)]
 pub(crate) fn low_word(a: u64) -> u32
     ensures { result ≡ low 32 a }

@@ -34,7 +34,7 @@ impl AccessSize {
         }
     }
 
-    /// Whether it is a double word, that is, the size of a stack slot.
+    /// Whether it is a double word: eight bytes, the size of a stack slot.
     pub fn is_double(self) -> bool
         ensures { result ≡ is_double self }
     {

@@ -1,4 +1,5 @@
 //! The operators and the conditions on the low halves (the low 32 bits) of 64-bit words. The upper half of a result is zero.
+//! A signed number is a word in two's complement.
 
 ghost use Rattle.std.specs.Prelude.{◌≡◌, bit_and, bit_or, bit_xor, ◌==◌, not, nat_lt, nat_le, int_lt, int_le};
 ghost use Rattle.words.specs.declared.operator.Operator.TheVariants.{Binary};
@@ -62,7 +63,8 @@ pub fn remainder(a: u64, b: u64) -> u64
     }
 }
 
-/// The signed quotient of the low halves, rounded toward zero; 0 if the divisor is 0. -2^31 divided by -1 is -2^31.
+/// The signed quotient of the low halves, rounded toward zero; 0 if the divisor is 0. -2^31 divided by -1 is -2^31: 2^31 wraps, as it is no
+/// signed number of 32 bits.
 #[inline(always)]
 pub fn signed_divide(a: u64, b: u64) -> u64
     ensures { result ≡ signed_divide 32 (low 32 a) (low 32 b) }
@@ -131,7 +133,7 @@ pub fn shift_left(a: u64, b: u64) -> u64
     u64::from(low_word(a) << (low_word(b) % 32))
 }
 
-/// The low half of `a` shifted right by `b` modulo 32, unsigned.
+/// The low half of `a` shifted right by `b` modulo 32, with zeros from the left.
 #[inline(always)]
 pub fn shift_right(a: u64, b: u64) -> u64
     ensures { result ≡ shift_right 32 (low 32 a) (low 32 b) }
@@ -139,7 +141,7 @@ pub fn shift_right(a: u64, b: u64) -> u64
     u64::from(low_word(a) >> (low_word(b) % 32))
 }
 
-/// The low half of `a` shifted right by `b` modulo 32, with its sign bit copied.
+/// The low half of `a`, as a signed number, shifted right by `b` modulo 32, with copies of its sign bit (bit 31) from the left.
 #[inline(always)]
 pub fn signed_shift_right(a: u64, b: u64) -> u64
     ensures { result ≡ signed_shift_right 32 (low 32 a) (low 32 b) }
@@ -147,7 +149,7 @@ pub fn signed_shift_right(a: u64, b: u64) -> u64
     u64::from((low_word(a).cast_signed() >> (low_word(b) % 32)).cast_unsigned())
 }
 
-/// The low half of `b`.
+/// The low half of `b`, the result of a move: it does not read the first operand.
 #[inline(always)]
 pub fn move_low(b: u64) -> u64
     ensures { result ≡ low 32 b }
@@ -163,7 +165,7 @@ pub fn negate(a: u64) -> u64
     u64::from(0u32.wrapping_sub(low_word(a)))
 }
 
-/// The low bits of `a`, sign-extended from `from` to 32 bits.
+/// The low bits of `a`, sign-extended from `from` to 32 bits. From 32 bits it is the low half itself.
 #[inline(always)]
 pub fn sign_extend(from: ExtendedBits, a: u64) -> u64
     ensures { result ≡ sign_extend 32 (extended_bits from) (low 32 a) }
@@ -263,7 +265,7 @@ pub fn common_bit(a: u64, b: u64) -> bool
     low_word(a) & low_word(b) != 0
 }
 
-/// The result of an operator of two operands on the low halves of two words.
+/// The result of an operator of two operands on the low halves of two words: `a` has the destination's value, `b` the source's.
 #[inline(always)]
 pub fn alu(op: AluOp, a: u64, b: u64) -> u64
     ensures { result ≡ operate 32 (Binary op) a b }
@@ -286,7 +288,8 @@ pub fn alu(op: AluOp, a: u64, b: u64) -> u64
     }
 }
 
-/// The result of an operator on the low halves of two words. Only a byte-order conversion reads and returns 64 bits, whatever the width.
+/// The result of an operator on the low halves of two words: `a` has the destination's value, `b` the source's. Only a byte-order
+/// conversion reads and returns 64 bits, whatever the width.
 #[inline(always)]
 pub fn operate(op: Operator, a: u64, b: u64) -> u64
     ensures { result ≡ operate 32 op a b }

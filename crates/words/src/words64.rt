@@ -50,7 +50,7 @@ pub fn remainder(a: u64, b: u64) -> u64
     if b == 0 { a } else { a % b }
 }
 
-/// The signed quotient, rounded toward zero; 0 if `b` is 0. -2^63 divided by -1 is -2^63.
+/// The signed quotient, rounded toward zero; 0 if `b` is 0. -2^63 divided by -1 is -2^63: 2^63 wraps, as it is no signed number of 64 bits.
 #[inline(always)]
 pub fn signed_divide(a: u64, b: u64) -> u64
     ensures { result ≡ signed_divide 64 a b }
@@ -110,7 +110,7 @@ pub fn shift_left(a: u64, b: u64) -> u64
     a << (b % 64)
 }
 
-/// `a` shifted right by `b` modulo 64, unsigned.
+/// `a` shifted right by `b` modulo 64, with zeros from the left.
 #[inline(always)]
 pub fn shift_right(a: u64, b: u64) -> u64
     ensures { result ≡ shift_right 64 a b }
@@ -118,7 +118,7 @@ pub fn shift_right(a: u64, b: u64) -> u64
     a >> (b % 64)
 }
 
-/// `a` shifted right by `b` modulo 64, with its sign bit copied.
+/// `a`, as a signed number, shifted right by `b` modulo 64, with copies of its sign bit (bit 63) from the left.
 #[inline(always)]
 pub fn signed_shift_right(a: u64, b: u64) -> u64
     ensures { result ≡ signed_shift_right 64 a b }
@@ -146,7 +146,8 @@ pub fn sign_extend(from: ExtendedBits, a: u64) -> u64
     }
 }
 
-/// The low bits of `a` in another byte order, on a little-endian machine. The higher bits of the result are zero.
+/// The low `bits` bits of `a` in another byte order, on a little-endian machine: to little-endian they are unchanged, to big-endian (`Big`)
+/// and by a swap (`Swap`) their bytes are reversed. The higher bits of the result are zero.
 #[inline(always)]
 pub fn byte_order(how: ByteOrder, bits: KeptBits, a: u64) -> u64
     ensures { result ≡ byte_order how bits a }
@@ -249,7 +250,7 @@ pub fn common_bit(a: u64, b: u64) -> bool
     (a & b) != 0
 }
 
-/// The result of an operator of two operands on 64 bits.
+/// The result of an operator of two operands on 64 bits: `a` is the destination's value, `b` the source's.
 #[inline(always)]
 pub fn alu(op: AluOp, a: u64, b: u64) -> u64
     ensures { result ≡ operate 64 (Binary op) a b }
@@ -272,7 +273,8 @@ pub fn alu(op: AluOp, a: u64, b: u64) -> u64
     }
 }
 
-/// The result of an operator on 64 bits.
+/// The result of an operator on 64 bits: `a` is the destination's value, `b` the source's. An operator of one operand ignores the value
+/// that it does not read.
 #[inline(always)]
 pub fn operate(op: Operator, a: u64, b: u64) -> u64
     ensures { result ≡ operate 64 op a b }

@@ -106,8 +106,8 @@ DeletesNamed old (Some named) word new = Deletes old named word new
 
 -- ---- bytes of the packet
 
--- a load of n packet bytes to an offset q of the part; if the words name none, the error is
--- returned and nothing changes
+-- a load of n packet bytes, from `offset` of the packet on, to offset q of the part. Without q, the
+-- words name no bytes of the part: the error is returned, and nothing changes
 abbrev pub LoadsAt : CallSite → ℕ → ℕ → Option ℕ → ℕ → Memory → Type 0
 LoadsAt site offset n None word after =
     (word ≡ unnamed_answer LoadBytes) × (after ≡ site.memory)

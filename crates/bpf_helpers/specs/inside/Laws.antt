@@ -59,7 +59,8 @@ OutputsKeepSimulation =
 
 -- ---- the helpers
 
--- the result of a call is a word that represents the machine's result, if there is one
+-- if the machine's call has a result, the call on words has one too, a word that represents it; if
+-- the machine's has none, nothing is required
 abbrev pub GivesWord : Environment → Layout → Option ℕ → Option Tagged → Type 0
 GivesWord env l w None = Unit {0}
 GivesWord env l None (Some v) = ⊥
@@ -150,7 +151,7 @@ ReturnsKeepSimulation =
 
 -- ---- one map at the start and the end of a run
 
--- the element of the key of index n, of the map of handle k
+-- the element of the key of index n among those of the map of handle k
 abbrev pub nth_element : LiveMaps → ℕ → ℕ → ℕ
 nth_element tenant k n = slice_index (values_of (keys_at tenant k).entries) n
 

@@ -19,8 +19,9 @@ is_second src next =
     next.opcode == 0 && (next.dst == 0 && next.src == 0) && next.offset == 0
     && (not (src == 1) || next.imm == 0)
 
--- the fault of the second slot after a first one of this form and source field, at the front of the
--- bytes after it; None if it is right, or the form has one slot
+-- the fault of the second slot, after a first slot of this form and source field. The second slot
+-- is at the front of `rest`, the bytes after the first. None if it is allowed, or the form has one
+-- slot
 abbrev pub second_fault : OpcodeForm → ℕ → List ℕ → Option FaultKind
 second_fault form.Wide src rest =
     if nat_lt (length rest) 8

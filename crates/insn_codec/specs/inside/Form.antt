@@ -68,7 +68,8 @@ jump_at true Imm code =
     (if code == 9 then Some form.Exit else jump_by_condition true Imm code))
 jump_at false Imm code = if code == 0 then Some form.Jal else jump_by_condition false Imm code
 
--- the load with an opcode of class LDX, if there is one: sections 5.1 and 5.2
+-- the load with an opcode of class LDX, if there is one: sections 5.1 and 5.2. The table has for an
+-- opcode whether the load extends the sign, and its size
 abbrev pub load_at : ℕ → Option OpcodeForm
 load_at opcode = option_and_then (λ l. Some (form.Load l.1 l.0)) (load_by_opcode opcode)
 

@@ -9,7 +9,8 @@ use Rattle.insn_set.specs.Load.{load_opcode}
 use Rattle.insn_set.specs.Condition.{condition_number}
 use Rattle.insn_codec.specs.Spelled.{source_number}
 
--- the opcode of each form: from its code, source bit and class, or its mode, size and class
+-- the opcode of each form: from its code, source bit and class, or its mode, size and class; a
+-- store of a constant has class 2, and one of a register class 3
 abbrev pub opcode_of : OpcodeForm → ℕ
 opcode_of (form.Alu wide op s) = opcode (alu_number op) (source_number s) (alu_class wide)
 opcode_of (form.Neg wide) = opcode 8 0 (alu_class wide)

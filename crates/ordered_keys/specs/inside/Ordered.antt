@@ -36,7 +36,8 @@ module _ {K : Type 0} where
   HaveEntries es indices (p ∷ ps) =
       ((k : K) × (entry_of es indices p ≡ Some (k, p))) × HaveEntries es indices ps
 
-  -- the elements of the order are those of the entries, and the index of each is known
+  -- each element of the order is that of one entry, and each entry's element is in the order;
+  -- `indices` has the index of the entry of each
   pub record IsIndexed (es : List (K × ℕ)) (indices : List ℕ) (order : Order) : Type 0 where
     pub long : length indices ≡ order.bound
     pub small : order.bound < 2 ^ 32
@@ -57,7 +58,7 @@ AreApart {K} eq es =
     → eq a.0 b.0 ≡ true
     → i ≡ j
 
--- the table holds `bound` entries with no allocation
+-- without an allocation the table can have `bound` entries in all, with those that it has
 abbrev pub HasRoom : {K S : Type 0} → ℕ → IndexMap K ℕ S → Type 0
 HasRoom bound table = bound ≤ index_map_len table + spare table
 

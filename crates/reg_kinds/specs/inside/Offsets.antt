@@ -6,6 +6,7 @@ use Rattle.std.proofs.Common.{arith}
 use Rattle.std.proofs.lemmas.Int.{ints, clamps}
 use Rattle.reg_kinds.specs.declared.kind.ValuePointer.{ValuePointer}
 
+-- lo is at most the greater of lo and hi, the high end that `value_span` gives
 pub at_most_max : (lo hi : ℤ) → lo ≤ℤ int_max lo hi
 at_most_max lo hi = omega (arith, ints, clamps)
 

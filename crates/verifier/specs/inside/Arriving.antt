@@ -8,18 +8,18 @@ use Rattle.verifier.specs.Shape.{is_slot}
 use Rattle.verifier.specs.declared.numbered_facts.NumberedFacts.{NumberedFacts}
 use Rattle.verifier.specs.inside.Numbers.{facts_on, entry_of}
 
--- the join of the facts on the jumps to a slot so far
+-- the join of the facts on the jumps to a slot so far; None if there are none
 abbrev pub brought_to : ℕ → List (Option NumberedFacts) → Option Facts
 brought_to slot entries = facts_on (entry_of slot entries)
 
--- the entry of slot i after a jump with these facts: they are joined into it if i is the target,
--- else it is unchanged
+-- the entry of slot i after a jump with these facts, if any: they are joined into it if i is the
+-- target; for all other slots, and if there is no target, it is unchanged
 abbrev pub Brings : Option ℕ → Option Facts → List (Option NumberedFacts)
     → List (Option NumberedFacts) → ℕ → Type 0
 Brings target facts old new i =
     brought_to i new ≡ joined (brought_to i old) (only_if (is_slot target i) facts)
 
--- the facts that arrive at a slot at which an instruction begins: on the falling edge into it, and
--- on jumps
+-- the facts that arrive at a slot at which an instruction begins: the join of those on the falling
+-- edge into it and on the jumps to it; None if there are none
 abbrev pub arriving_at : ℕ → Pass → Option Facts
 arriving_at slot pass = joined (facts_on pass.falling) (brought_to slot pass.entries)

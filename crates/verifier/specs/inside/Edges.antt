@@ -10,27 +10,30 @@ use Rattle.transfer.specs.Effects.{effect}
 use Rattle.verifier.specs.declared.fault.VerifyFault.{VerifyFault}
 use Rattle.verifier.specs.Verdict.{reason_of}
 
--- the facts on the falling edge out of an instruction; None if it may not be run or has no such
--- edge
+-- the facts on the falling edge out of an instruction, from the result of the transfer function;
+-- None if the instruction may not be run, or this edge is never taken
 abbrev pub falling_of : Result Edges Reason → Option Facts
 falling_of (Err reason) = None
 falling_of (Ok edges) = edges.falling
 
--- the facts on the jumping edge out of an instruction; None if it may not be run or has no such
--- edge
+-- the facts on the jumping edge out of an instruction, from the result of the transfer function;
+-- None if the instruction may not be run, or this edge is never taken
 abbrev pub jumping_of : Result Edges Reason → Option Facts
 jumping_of (Err reason) = None
 jumping_of (Ok edges) = edges.jumping
 
--- the facts on the falling edge out of the instruction at slot n, from those before it, if any
+-- the facts on the falling edge out of the instruction at slot n, from those before it (`known`);
+-- None also if there are none before it
 abbrev pub falling_from : Shapes → ℕ → Insn → Option Facts → Option Facts
 falling_from shapes n insn known = and_then known (λ f. falling_of (effect shapes n insn f))
 
--- the facts on the jumping edge out of the instruction at slot n, from those before it, if any
+-- the facts on the jumping edge out of the instruction at slot n, from those before it (`known`);
+-- None also if there are none before it
 abbrev pub jumping_from : Shapes → ℕ → Insn → Option Facts → Option Facts
 jumping_from shapes n insn known = and_then known (λ f. jumping_of (effect shapes n insn f))
 
--- the first condition that fails for the instruction at slot n; None if there are no facts
+-- the first condition that fails for the instruction at slot n with the facts before it (`known`);
+-- None if no condition fails, or if there are no facts, since no run reaches it then
 abbrev pub reason_from : Shapes → ℕ → Insn → Option Facts → Option Reason
 reason_from shapes n insn known = and_then known (λ f. reason_of (effect shapes n insn f))
 

@@ -4,7 +4,7 @@ use Rattle.insn_set.specs.declared.insn.Insn.{Insn}
 use Rattle.insn_set.specs.Program.{begins_at, slot_count}
 use Rattle.insn_set.specs.Flow.{jump_target}
 
--- each jump leads to a slot of the program
+-- each jump leads to a slot below the end of the program, if its target is not below slot 0
 abbrev pub JumpsLand : List Insn → Type 0
 JumpsLand code =
     (n : ℕ) (i : Insn)

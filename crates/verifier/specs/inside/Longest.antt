@@ -15,28 +15,31 @@ use Rattle.verifier.specs.Shape.{is_slot, leads_into, is_reachable}
 
 -- ---- what an instruction adds to the measure of a path
 
--- for the number of instructions, each adds one
+-- what an instruction adds if instructions are counted (a `weight`)
 abbrev pub one : Insn → ℕ
 one i = 1
 
--- for the number of calls, each call of a helper adds one
+-- what an instruction adds if calls of helpers are counted (a `weight`)
 abbrev pub one_if_call : Insn → ℕ
 one_if_call i = if is_call i then 1 else 0
 
--- what all instructions of a path add
+-- what all instructions of a path add, by the weight of each
 unfoldable pub total : (Insn → ℕ) → List Insn → ℕ
 total weight [] = 0
 total weight (i ∷ is) = weight i + total weight is
 
 -- ---- the most on the way to a slot
 
--- what an instruction at slot n passes on to slot i, from the most on the way to it
+-- the most on a path to slot i whose last instruction is the one at slot n, from the most on the
+-- way to that one (`before`); 0 if no edge of it leads to slot i, or no instruction begins at slot
+-- n
 abbrev pub passed_on : (Insn → ℕ) → Option Insn → ℕ → ℕ → ℕ → ℕ
 passed_on weight None n i before = 0
 passed_on weight (Some insn) n i before =
     if leads_into (Some insn) n i then before + weight insn else 0
 
--- the most on the way to slot i, by edges from slots below n
+-- the most on the way to slot i, without the instruction at it, if the last edge is from a slot
+-- below n; 0 if there is no such edge
 unfoldable pub most_from : (Insn → ℕ) → List Insn → ℕ → ℕ → ℕ
 most_from weight code i zero = 0
 most_from weight code i (suc n) =
@@ -51,7 +54,7 @@ abbrev pub at_exit : (Insn → ℕ) → Option Insn → ℕ → ℕ
 at_exit weight None before = 0
 at_exit weight (Some insn) before = if is_exit insn then before + weight insn else 0
 
--- the most on a path to an exit below slot n
+-- the most on a path to an exit below slot n; 0 if there is none
 unfoldable pub most_ended : (Insn → ℕ) → List Insn → ℕ → ℕ
 most_ended weight code zero = 0
 most_ended weight code (suc n) =
@@ -64,7 +67,8 @@ most_ended weight code (suc n) =
 abbrev pub no_counts : Counts
 no_counts = record { instructions = 0; calls = 0 }
 
--- the counts at slot i: those on the falling edge, which leads to slot `next`, and those on jumps
+-- the greater count at slot i, of instructions or of calls (`count`): that on the falling edge,
+-- which leads to slot `next`, or that on the jumps
 abbrev pub arriving : (Counts → ℕ) → ℕ → Counts → List Counts → ℕ → ℕ
 arriving count next falling jumping i =
     max (if next == i then count falling else 0) (count (slice_index_or jumping i no_counts))
@@ -76,7 +80,8 @@ pub record AreFew (paths : Paths) : Type 0 where
   pub calls : paths.here.calls ≤ most_slots
 
 -- instruction i, at a slot, is added to the paths there, which its edges take to later slots or to
--- the end
+-- the end. `old` and `new` are the paths before and after this; `jumping` and `later` are the
+-- counts on the jumps before and after it
 pub record IsAdded (i : Insn) (slot : ℕ) (old new : Paths)
     (jumping later : List Counts) : Type 0 where
   pub instructions : (to : ℕ)
@@ -94,7 +99,8 @@ pub record IsAdded (i : Insn) (slot : ℕ) (old new : Paths)
   pub ended_calls : new.ended.calls
       ≡ max old.ended.calls (at_exit one_if_call (Some i) old.here.calls)
 
--- the slot can be reached exactly if an instruction comes before it, or it is the first
+-- the paths of the pass have an instruction before this slot, or it is slot 0, exactly if the slot
+-- can be reached
 abbrev pub LeadTo : List Insn → ℕ → Paths → Type 0
 LeadTo code slot paths =
     (nat_lt 0 paths.here.instructions || slot == 0) ≡ is_reachable code slot

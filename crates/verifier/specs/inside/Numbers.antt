@@ -1,7 +1,12 @@
--- Numbers of the parts of stacks. A number identifies the facts about a part, so that a part is not
--- joined again if it is known to be joined already. At slot n the new numbers are 8 * n + 2 for the
--- join before the instruction, + 3 for its writes, + 4 and + 5 for the two edges of a null test,
--- and + 6 for the join at the jump's target. This project's own.
+-- Numbers of the parts of stacks, and the facts on the edges out of an instruction. A number
+-- identifies the facts about a part of the stack, which is eight of its slots, so that a part is
+-- not joined again if it is known to be joined already. It is not 0; the parts at program entry
+-- have number 1. At slot n the new numbers are 8 * n + 2 for the join before the instruction, + 3
+-- for its writes, + 4 for the jumping and + 5 for the falling edge of a null test, and + 6 for the
+-- join at the jump's target. A parameter `fresh` is such a new number. An edge leads to the next
+-- instruction (falling) or to the target of a jump (jumping); a flow (`Flow` of `transfer`) is
+-- which of them control may take after an instruction. No facts (None) on an edge means that it is
+-- never taken. This project's own.
 use Rattle.std.specs.Prelude.{◌≡◌, ◌≢◌, ◌⊎◌, ℕ, ◌+◌, ◌*◌, ◌<◌, ◌≤◌, Bool, not, List, length, replicate, slice_index_or, slice_set, Option, Some, None, Ok}
 use Rattle.std.specs.Option.{option_map}
 use Rattle.words.specs.Stack.{stack_slots}
@@ -22,20 +27,20 @@ use Rattle.transfer.specs.Effects.{effect}
 use Rattle.transfer.specs.Flows.{edges_of, KeepsStack}
 use Rattle.verifier.specs.declared.numbered_facts.NumberedFacts.{NumberedFacts}
 
--- the facts, without the numbers
+-- the facts on an edge or of an entry without their numbers; None if there are none
 abbrev pub facts_on : Option NumberedFacts → Option Facts
 facts_on o = option_map (λ x. x.facts) o
 
--- the entry of a slot
+-- the entry of a slot: the join of the facts on the jumps to it so far; None if there are none
 abbrev pub entry_of : ℕ → List (Option NumberedFacts) → Option NumberedFacts
 entry_of i entries = slice_index_or entries i None
 
--- the number of the part of stack slot i
+-- the number of the part of the stack that has stack slot i
 abbrev pub number_of : NumberedFacts → ℕ → ℕ
 number_of x i = slice_index_or x.numbers (part_of i) 0
 
--- the number of the part that is known to be joined into the part of stack slot i; 0 if there is
--- none
+-- the number of the part that is known to be joined into the part that has stack slot i; 0 if none
+-- is known
 abbrev pub included_in : NumberedFacts → ℕ → ℕ
 included_in x i = slice_index_or x.includes (part_of i) 0
 
@@ -51,11 +56,11 @@ numbered_by n f = record {
 abbrev pub at_entry : NumberedFacts
 at_entry = numbered_by 1 entry
 
--- all parts of the stack have the new number `fresh`
+-- x with the new number `fresh` for all parts of the stack; no join into them is known
 abbrev pub renumbered : NumberedFacts → ℕ → NumberedFacts
 renumbered x fresh = numbered_by fresh x.facts
 
--- the part of stack slot i has the new number `fresh`
+-- x with the new number `fresh` for the part that has stack slot i; no join into it is known
 abbrev pub part_renumbered : NumberedFacts → ℕ → ℕ → NumberedFacts
 part_renumbered x i fresh =
     record {
@@ -64,15 +69,16 @@ part_renumbered x i fresh =
       includes = slice_set x.includes (part_of i) 0;
     }
 
--- the join of slot s with slot t gives s'. The part of s has number n and includes that of number
--- m, then n' and m'; the part of t has number k. Nothing changes if m is k; else m' is k, and n' is
--- `fresh` if the part changes
+-- s' is slot s after the join with slot t. The part of s has number n, and a join into it of the
+-- part with number m is known; after this join they are n' and m'. The part of t has number k. If m
+-- is k, the join would change nothing and is left out. Else m' is k. Then n' is `fresh`, or it is
+-- still n, but only if the slot is unchanged
 abbrev pub IsJoinedSlot : ℕ → Slot → ℕ → ℕ → Slot → ℕ → Slot → ℕ → ℕ → Type 0
 IsJoinedSlot fresh s n m t k s' n' m' =
     ((m ≡ k) × (s' ≡ s) × (n' ≡ n) × (m' ≡ m))
     ⊎ ((s' ≡ slot_join s t) × (m' ≡ k) × ((n' ≡ fresh) ⊎ ((n' ≡ n) × (s' ≡ s))))
 
--- z is the join of x and y in slot i
+-- slot i of z, with the numbers of its part, is that of x after the join with slot i of y
 abbrev pub IsJoinedAt : ℕ → NumberedFacts → NumberedFacts → NumberedFacts → ℕ → Type 0
 IsJoinedAt fresh x y z i =
     IsJoinedSlot fresh (slot_at x.facts i) (number_of x i) (included_in x i) (slot_at y.facts i)
@@ -86,14 +92,16 @@ IsSameAt x z i =
     × (number_of z i ≡ number_of x i)
     × (included_in z i ≡ included_in x i)
 
--- z is x, after one part of the stack of y is joined into it
+-- z is x, after one part of the stack of y is joined into it; `fresh` is the number of this part if
+-- it changes
 pub record IsPartJoin (fresh part : ℕ) (x y z : NumberedFacts) : Type 0 where
   pub registers : z.facts.registers ≡ x.facts.registers
   pub parts : length z.numbers ≡ stack_parts
   pub here : (i : ℕ) → i < stack_slots → part_of i ≡ part → IsJoinedAt fresh x y z i
   pub others : (i : ℕ) → i < stack_slots → part_of i ≢ part → IsSameAt x z i
 
--- z is the join of x and y: of the registers, and of each part of the stack
+-- z is the join of x and y, of each register and each stack slot; `fresh` is the number of the
+-- parts of the stack that change
 pub record IsJoin (fresh : ℕ) (x y z : NumberedFacts) : Type 0 where
   pub registers : z.facts.registers
       ≡ tabulate 11 (λ r. kind_join (kind_at x.facts r) (kind_at y.facts r))
@@ -101,39 +109,45 @@ pub record IsJoin (fresh : ℕ) (x y z : NumberedFacts) : Type 0 where
   pub parts : length z.numbers ≡ stack_parts
   pub slots : (i : ℕ) → i < stack_slots → IsJoinedAt fresh x y z i
 
--- the facts y are joined into those on an edge or of an entry, which may have none
+-- the facts y are joined into those on an edge or of an entry: the first option has these before,
+-- the second after the join, and not None. If there were none (None), they are y then
 abbrev pub IsJoinedBy : ℕ → Option NumberedFacts → NumberedFacts → Option NumberedFacts → Type 0
 IsJoinedBy fresh None y new = new ≡ Some y
 IsJoinedBy fresh (Some x) y None = ⊥
 IsJoinedBy fresh (Some x) y (Some z) = IsJoin fresh x y z
 
--- the facts of an entry, if there are any, are joined into those on an edge
+-- the facts of an entry, the second option, are joined into those on an edge, which are `old`
+-- before this and `new` after it; they are unchanged if the entry has none
 abbrev pub IsJoinedIf : ℕ → Option NumberedFacts → Option NumberedFacts → Option NumberedFacts
     → Type 0
 IsJoinedIf fresh old None new = new ≡ old
 IsJoinedIf fresh old (Some y) new = IsJoinedBy fresh old y new
 
--- the entry of a slot is joined into the facts there; those ahead are unchanged
+-- the entry of a slot is joined into the facts on the falling edge to it, which are `old` before
+-- and `new` after this; the entries of later slots are unchanged
 abbrev pub IsTaken : ℕ → ℕ → List (Option NumberedFacts) → List (Option NumberedFacts)
     → Option NumberedFacts → Option NumberedFacts → Type 0
 IsTaken slot fresh entries_old entries_new old new =
     IsJoinedIf fresh old (entry_of slot entries_old) new
     × ((i : ℕ) → slot < i → entry_of i entries_new ≡ entry_of i entries_old)
 
--- facts are joined into the entry of a slot; the others are unchanged
+-- the facts y are joined into the entry of a slot, and the entries of all other slots are
+-- unchanged; `old` has the entries before this, `new` those after it
 abbrev pub IsPut : ℕ → ℕ → NumberedFacts → List (Option NumberedFacts) → List (Option NumberedFacts)
     → Type 0
 IsPut slot fresh y old new =
     IsJoinedBy fresh (entry_of slot old) y (entry_of slot new)
     × ((i : ℕ) → i ≢ slot → entry_of i new ≡ entry_of i old)
 
--- facts are sent to a jump's target, if there is one
+-- the facts y are joined into the entry of a jump's target; without a target (None) no entry
+-- changes
 abbrev pub IsSent : Option ℕ → ℕ → NumberedFacts → List (Option NumberedFacts)
     → List (Option NumberedFacts) → Type 0
 IsSent None fresh y old new = new ≡ old
 IsSent (Some slot) fresh y old new = IsPut slot fresh y old new
 
--- facts, if there are any, are sent to a jump's target, if there is one
+-- the facts on a jumping edge are joined into the entry of the target; no entry changes if there
+-- are none, since the edge is then never taken, or if there is no target
 abbrev pub IsSentIf : Option ℕ → ℕ → Option NumberedFacts → List (Option NumberedFacts)
     → List (Option NumberedFacts) → Type 0
 IsSentIf target fresh None old new = new ≡ old
@@ -141,8 +155,8 @@ IsSentIf target fresh (Some y) old new = IsSent target fresh y old new
 
 -- ---- the facts on the edges of an instruction
 
--- the facts with the ranges of both operands of a comparison; numbers are of the stack, so they are
--- unchanged
+-- x with these ranges for the operands of a comparison, that of dst first; the numbers are
+-- unchanged, since they are of the stack
 abbrev pub with_ranges : NumberedFacts → ℕ → Operand → RangePair → NumberedFacts
 with_ranges x dst src ranges = record {
   facts = with_pair x.facts dst src ranges;
@@ -150,20 +164,25 @@ with_ranges x dst src ranges = record {
   includes = x.includes;
 }
 
--- the look-up at a site is settled as null (true) or not, and all parts of the stack have the
--- number `fresh`
+-- x with the look-up at a site settled as null (true) or not null (false). This may change each
+-- part of the stack, so all have the new number `fresh`
 abbrev pub settled : ℕ → Bool → ℕ → NumberedFacts → NumberedFacts
 settled site null fresh x = numbered_by fresh (facts_settled site null x.facts)
 
--- the facts on the falling edge of a null test at slot n, from those before it
+-- the facts on the falling edge of a null test at slot n, from those before it; if it jumps on null
+-- (true), the result of the look-up is not null here
 abbrev pub falls_settled : ℕ → Bool → ℕ → NumberedFacts → NumberedFacts
 falls_settled site jumps_on_null n x = settled site (not jumps_on_null) (8 * n + 5) x
 
--- the facts on the jumping edge of a null test at slot n, from those before it
+-- the facts on the jumping edge of a null test at slot n, from those before it; if it jumps on null
+-- (true), the result of the look-up is null here
 abbrev pub jumps_settled : ℕ → Bool → ℕ → NumberedFacts → NumberedFacts
 jumps_settled site jumps_on_null n x = settled site jumps_on_null (8 * n + 4) x
 
--- the facts on the falling edge, from the facts that the code leaves
+-- the facts on the falling edge out of an instruction, None if this edge is never taken. The flow
+-- is the edges that control may take after the instruction, with what holds on only one of them; x
+-- are the facts that the verifier has after the instruction, which hold on both. `fresh` is the new
+-- number that a null test gives all parts of the stack
 abbrev pub on_falling_edge : Flow → ℕ → NumberedFacts → Option NumberedFacts
 on_falling_edge Ends fresh x = None
 on_falling_edge Falls fresh x = Some x
@@ -175,7 +194,10 @@ on_falling_edge (Compares dst src falls jumps) fresh x = option_map (with_ranges
 on_falling_edge (Settles site jumps_on_null) fresh x =
     Some (settled site (not jumps_on_null) fresh x)
 
--- the facts on the jumping edge, from the facts that the code leaves
+-- the facts on the jumping edge out of an instruction, None if this edge is never taken. The flow
+-- is the edges that control may take after the instruction, with what holds on only one of them; x
+-- are the facts that the verifier has after the instruction, which hold on both. `fresh` is the new
+-- number that a null test gives all parts of the stack
 abbrev pub on_jumping_edge : Flow → ℕ → NumberedFacts → Option NumberedFacts
 on_jumping_edge Ends fresh x = None
 on_jumping_edge Falls fresh x = None
@@ -186,19 +208,23 @@ on_jumping_edge Either fresh x = Some x
 on_jumping_edge (Compares dst src falls jumps) fresh x = option_map (with_ranges x dst src) jumps
 on_jumping_edge (Settles site jumps_on_null) fresh x = Some (settled site jumps_on_null fresh x)
 
--- a slot that the flow names is one of the stack
+-- the stack slot that a flow names, which the instruction may have written, is one of the 64; a
+-- flow that names none has nothing to satisfy
 abbrev pub IsInStack : Flow → Type 0
 IsInStack (WritesSlot i) = i < stack_slots
 IsInStack flow = Unit {0}
 
--- the facts in hand after the instruction: each part of the stack that may have changed has a new
--- number
+-- the facts x after an instruction with this flow: each part of the stack that the instruction may
+-- have written has the new number `fresh`. The numbers on the edges of a null test are given later,
+-- on each edge
 abbrev pub noted : Flow → ℕ → NumberedFacts → NumberedFacts
 noted (WritesSlot i) fresh x = part_renumbered x i fresh
 noted Writes fresh x = renumbered x fresh
 noted flow fresh x = x
 
--- the instruction at slot n has this flow and leaves these facts, and they are sent along its edges
+-- the instruction at slot n may be run with the facts `old`; it has this flow, and these are the
+-- facts after it. `new` are the facts on its falling edge; those on its jumping edge are joined
+-- into the entry of the jump's target, so that `entries_old` become `entries_new`
 pub record IsPast (shapes : Shapes) (n : ℕ) (insn : Insn) (old : NumberedFacts)
     (entries_old : List (Option NumberedFacts)) (new : Option NumberedFacts)
     (entries_new : List (Option NumberedFacts)) : Type 0 where
@@ -219,8 +245,8 @@ pub record IsPast (shapes : Shapes) (n : ℕ) (insn : Insn) (old : NumberedFacts
         includes = old.includes;
       }))) entries_old entries_new
 
--- the instruction at slot n is passed, as by `IsPast`, if there are facts before it; else nothing
--- changes
+-- the instruction at slot n is passed, as by `IsPast`, if there are facts before it; else no run
+-- reaches it, and nothing changes
 abbrev pub IsPastIf : Shapes → ℕ → Insn → Option NumberedFacts → List (Option NumberedFacts)
     → Option NumberedFacts → List (Option NumberedFacts) → Type 0
 IsPastIf shapes n insn None entries_old new entries_new = (new ≡ None) × (entries_new ≡ entries_old)
@@ -229,8 +255,9 @@ IsPastIf shapes n insn (Some x) entries_old new entries_new =
 
 -- ---- the meaning of each number, for numbers below a bound
 
--- slot s is the slot that number n means, and a join with the slot that number m means, which its
--- part includes, changes nothing
+-- `held` gives the slot that each number means. Slot s is the one of number n. If m is not 0, a
+-- join of s with the slot of number m, which the part of s includes, changes nothing. The numbers
+-- are below the bound
 pub record IsNumberedSlot (held : ℕ → Slot) (bound : ℕ) (s : Slot) (n m : ℕ) : Type 0 where
   pub is : s ≡ held n
   pub some : 0 < n
@@ -245,13 +272,14 @@ pub record IsNumbered (stacks : ℕ → ℕ → Slot) (bound : ℕ) (x : Numbere
       → i < stack_slots
       → IsNumberedSlot (stacks i) bound (slot_at x.facts i) (number_of x i) (included_in x i)
 
--- the numbers of the facts, if there are any, have their meaning
+-- the numbers of the facts have their meaning; no facts have no numbers
 abbrev pub IsNumberedIf : (ℕ → ℕ → Slot) → ℕ → Option NumberedFacts → Type 0
 IsNumberedIf stacks bound None = Unit {0}
 IsNumberedIf stacks bound (Some x) = IsNumbered stacks bound x
 
 -- the numbers of the facts on the falling edge, and of those in the entries from a slot on, have
--- one meaning and are below the bound
+-- one meaning: parts with one index and one number are the same. All numbers are below the
+-- bound, so one from the bound on is new
 pub record AreNumbered (slot bound : ℕ) (falling : Option NumberedFacts)
     (entries : List (Option NumberedFacts)) : Type 0 where
   pub stacks : ℕ → ℕ → Slot
@@ -260,7 +288,8 @@ pub record AreNumbered (slot bound : ℕ) (falling : Option NumberedFacts)
 
 -- ---- a join, part by part
 
--- the registers of x and y and the parts below this one are joined in z
+-- z is x during its join with y, before the turn of this part: the registers and the parts below
+-- are joined, the other parts are those of x
 pub record IsJoinedBelow (fresh part : ℕ) (x y z : NumberedFacts) : Type 0 where
   pub registers : z.facts.registers
       ≡ tabulate 11 (λ r. kind_join (kind_at x.facts r) (kind_at y.facts r))

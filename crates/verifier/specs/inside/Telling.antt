@@ -8,20 +8,22 @@ use Rattle.verifier.specs.inside.Edges.{IsFaultFrom}
 use Rattle.verifier.specs.Told.{known_at, with_more, IsToldBelow}
 use Rattle.verifier.specs.Verdict.{IsFirstFault, safety_fault, memory_fault}
 
--- out of memory at a slot: the watcher has received the facts there, or not
+-- out of memory at a slot: what the watcher has received is as before (`old`), or it has the facts
+-- at this slot too
 abbrev pub StopsTelling : Option (List (ℕ × Facts)) → Option (List (ℕ × Facts)) → ℕ → Option Facts
     → VerifyFault → Type 0
 StopsTelling old new slot known fault =
     (fault ≡ memory_fault) × ((new ≡ old) ⊎ (new ≡ with_more old (known_at slot known)))
 
--- the instruction at a slot may not be run, and the watcher has received the facts there
+-- the instruction at a slot may not be run, and the watcher has received the facts before it, in
+-- addition to `old`
 abbrev pub IsFaultTold : Shapes → ℕ → Insn → Option Facts → Option (List (ℕ × Facts))
     → Option (List (ℕ × Facts)) → VerifyFault → Type 0
 IsFaultTold shapes slot insn known old new fault =
     IsFaultFrom shapes slot insn known fault × (new ≡ with_more old (known_at slot known))
 
--- the first safety fault, and the watcher has received the facts up to its slot; or out of memory
--- at some slot
+-- `fault` is the first fault of safety, and the watcher has received the facts up to its slot, in
+-- addition to `old`; or it is out of memory, and it has received those below some slot
 abbrev pub IsFirstTold : Shapes → List Insn → Option (List (ℕ × Facts)) → Option (List (ℕ × Facts))
     → VerifyFault → Type 0
 IsFirstTold shapes code old new fault =

@@ -43,14 +43,6 @@ claims_new key old seen new p v room free h =
     subst (λ (t : KeyTable). Claims (of_absent Hash (is_full (table_of t)) 0) key t (Ok p) new) v
     (subst (λ (b : Bool). Claims (of_absent Hash b 0) key old (Ok p) new) (sym room) (free, h))
 
--- if a hash map is full, the claim of an absent key returns TooBig and changes nothing
-pub claims_full : (key : List ℕ) (old seen : KeyTable)
-    → old ≡ seen → is_full (table_of old) ≡ true
-    → Claims (of_absent Hash (is_full (table_of seen)) 0) key seen (Err TooBig) seen
-claims_full key old seen v full =
-    subst (λ (t : KeyTable). Claims (of_absent Hash (is_full (table_of t)) 0) key t (Err TooBig) t) v
-    (subst (λ (b : Bool). Claims (of_absent Hash b 0) key old (Err TooBig) old) (sym full) (refl, refl))
-
 -- ---- the element of a present key is less than `max_entries`
 
 absent_not : (d : MapKind) (full : Bool) (flags k : ℕ) → of_absent d full flags ≡ Present k → ⊥
@@ -119,11 +111,3 @@ claims_within old new flags p key c h = by (verdict (table_of old) key flags) re
         ∙ ap (λ (x : ℕ). let o : Option ℕ = Some x in o) (sym same) in
         element_below new key p h at
     by New e d = subst (λ (t : KeyTable). p < t.shape.max_entries) (sym d.1) d.0.within
-
--- an element that a claim returns is less than `max_entries`, if the table after it is sound
-pub claims_within_ok : (old new : KeyTable) (flags : ℕ) (key : List ℕ) (answer : Result ℕ MapFault)
-    → Claims (verdict (table_of old) key flags) key old answer new
-    → IsSound new
-    → IfOk answer (λ p. p < new.shape.max_entries)
-claims_within_ok old new flags key (Ok p) c h = claims_within old new flags p key c h
-claims_within_ok old new flags key (Err f) c h = tt

@@ -125,25 +125,10 @@ module _ (keys : List (Option ℕ)) (maps : Slab StoredMap) (is : AreKeys keys m
   pub lowest_is : position is_none (live_maps_of (by_handle keys maps)) ≡ position is_none keys
   lowest_is = same_lowest (live_maps_of (by_handle keys maps)) keys (handles_are ∙ sym is.long) live_where
 
--- an option that is present has a value
-pub some_value : {A : Type 0} (o : Option A) → IsSome o → (x : A) × (o ≡ Some x)
-some_value None h = absurd (true≢false (sym h))
-some_value (Some x) h = (x, refl)
-
 -- an option that has no value is None
 pub no_value : {A : Type 0} (o : Option A) → ((x : A) → o ≡ Some x → ⊥) → o ≡ None
 no_value None h = refl
 no_value (Some x) h = absurd (h x refl)
-
--- a stored map has one of the handles
-pub in_handles : (keys : List (Option ℕ)) (maps : Slab StoredMap)
-    → AreKeys keys maps
-    → (p : ℕ) (e : StoredMap) → get_or (by_handle keys maps) p None ≡ Some e
-    → p < MAPS
-in_handles keys maps is p e at =
-    let below = within (by_handle keys maps) p e at in
-    let long = by_handle_len keys maps is in
-    omega arith
 
 -- the handle of a live map has a key
 pub has_key : (a : Inside) {t : LiveMaps} {handle map : ℕ}

@@ -104,10 +104,6 @@ module _ (t : LiveMaps) (k : ℕ) (e : Elements) (is : e ≡ elements_at t k) (s
       pub element_lies : LiesInPart (offset_at t k i) (shape_at t k).value_size
       element_lies = laid_inside t laid k i live within
 
-      -- the value of an index in range is at most PART bytes after that of index 0
-      pub element_small : i * e.stride ≤ PART
-      element_small = let lies = element_lies.within in let at = offset_along i in omega arith
-
       -- the address that is computed from that of index 0 is the address of the value that the look-up finds
       pub element_address : (first part : ℕ)
           → first ≡ part + offset_at t k 0

@@ -97,18 +97,3 @@ module _ {K : Type 0} (bytes : K → List ℕ) where
   values_shown (e ∷ es) = ap (λ (xs : List ℕ). e.1 ∷ xs) (values_shown es)
 
 -- ---- results
-
--- of what holds on Ok and what holds on Err, one holds
-pub ok_or_err : {X E : Type 0} {P Q : Type 0} (r : Result X E) → OnOk r P → OnErr r Q → P ⊎ Q
-ok_or_err (Ok x) p q = inl p
-ok_or_err (Err e) p q = inr q
-
--- what follows from a property that holds on Ok holds on Ok
-pub on_ok_then : {X E : Type 0} {P Q : Type 0} (r : Result X E) → (P → Q) → OnOk r P → OnOk r Q
-on_ok_then (Ok x) f p = f p
-on_ok_then (Err e) f p = p
-
--- what holds if a result is Ok holds if the result is not Err
-pub on_ok : {X E : Type 0} {P : Type 0} (r : Result X E) → is_err r ≡ false → OnOk r P → P
-on_ok (Ok x) e p = p
-on_ok (Err x) e p = absurd (true≢false e)

@@ -26,11 +26,6 @@ text_ended text (byte ∷ rest) n is short within =
     ∙ ap (λ (i : ℕ). take n text ++ 0 ∷ drop i room) next
     ∙ ap (λ (i : ℕ). take i text ++ 0 ∷ drop (i + 1) room) is
 
--- a room without bytes is not changed by a text
-pub no_room : (text room : List ℕ) → length room ≡ 0 → room ≡ text_in text room
-no_room text [] none = refl
-no_room text (byte ∷ rest) none = absurd (omega arith)
-
 -- what holds of a result holds of its value
 pub of_ok : {A E : Type 0} (P : A → Type 0) (r : Result A E) (x : A) → r ≡ Ok x → IfOk r P → P x
 of_ok P r x is h = subst (λ (s : Result _ _). IfOk s P) is h

@@ -39,12 +39,6 @@ use Rattle.std_heap.proofs.Global.TheLaws as heap_laws
 abbrev pub both : Val → Val → Val
 both v w = vstruct (vcons v (vcons w vnil))
 
--- if two tests hold, so does their conjunction with the true one
-pub both_tt : (x y : Bool) → T x → T y → T (x && (y && true))
-both_tt true true s t = tt
-both_tt true false s t = absurd t
-both_tt false y s t = absurd s
-
 module _ (R Z : RattleType) (L : Laws Z) (g : Ghosts Z.Denot) where
   abbrev pub RawBox : RattleType
   RawBox = raw_box.the_row R Z g

@@ -17,7 +17,3 @@ same_ends lo hi lo' hi' p q e f =
 -- ranges with the same ends are the same
 pub same_range : (r s : Range) → r.lo ≡ s.lo → r.hi ≡ s.hi → r ≡ s
 same_range r s e f = same_ends r.lo r.hi s.lo s.hi r.ordered s.ordered e f
-
--- a range is the span from its low end to its high end
-pub is_span : (r : Range) (lo hi : ℕ) → r.lo ≡ lo → r.hi ≡ hi → r ≡ span lo hi
-is_span r lo hi e f = same_range r (span lo hi) e (omega (arith, r.ordered))

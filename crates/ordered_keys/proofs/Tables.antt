@@ -230,11 +230,6 @@ module _ {K : Type 0} (es : List (K × ℕ)) (is : List ℕ) (order : Order) (h 
   index : slice_index_or is p 0 ≡ i
   index = (h.listed i (key, p) at).1
 
-  -- the index of an entry fits in 32 bits
-  pub index_small : i < 2 ^ 32
-  index_small =
-      let l = slice_get_within es i (key, p) at in let m = h.many in let f = h.few in let s = h.small in omega arith
-
   -- the element that is moved is that of the last entry, or p if the last entry has left
   moved_is : ((k : K) × (i < last) × (slice_get es last ≡ Some (k, moved))) ⊎ ((moved ≡ p) × (i ≡ last))
   moved_is = by (slice_get left i) refl

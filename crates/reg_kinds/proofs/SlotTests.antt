@@ -18,18 +18,6 @@ use Rattle.reg_kinds.specs.Many.{any_below, is_touched_spill, lacks, bits_in, st
 
 -- ---- tests
 
--- no index below 0 passes a test
-pub none_first : (test : ℕ → Bool) → any_below 0 test ≡ false
-unfolding any_below
-none_first test = refl
-
--- if no index below n passes a test, and n fails it too, no index below n + 1 passes it
-pub none_more : (n : ℕ) (test : ℕ → Bool) → any_below n test ≡ false → test n ≡ false → any_below (n + 1) test ≡ false
-unfolding any_below
-none_more n test e f =
-    let one : suc n ≡ n + 1 = omega arith in
-    subst (λ k. any_below k test ≡ false) one (or_from (test n) (any_below n test) f e)
-
 -- if an index below n passes a test, some index below n passes it
 pub one_below : (n i : ℕ) (test : ℕ → Bool) → i < n → test i ≡ true → any_below n test ≡ true
 unfolding any_below

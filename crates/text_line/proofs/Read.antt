@@ -66,10 +66,6 @@ read_as bytes ts None h e = λ line read.
     let some : None ≡ Some line = e ∙ ap line_of (sym same) ∙ line_read line read.0 in
     cc some
 
--- bytes that have no list of tokens have no reading
-pub read_none : (bytes : List ℕ) → ((ts : List Token) → ¬ IsTokens bytes ts) → ReadAs bytes None
-read_none bytes none = λ line read. none (spelled line) read.1
-
 -- a line has at most one reading
 pub same_line : (bytes : List ℕ) (a b : Option Line) → ReadAs bytes a → ReadAs bytes b → a ≡ b
 same_line bytes None None h k = refl

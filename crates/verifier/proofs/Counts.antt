@@ -97,25 +97,6 @@ simple_end weight insn row before old new is_row next is =
     ∙ sym (ap (λ (s : Successors). max old (if not (falls_by s || jumps_by s) then before + weight insn else 0)) next
     ∙ max_none old))
 
--- an instruction that only falls through and names nothing adds one instruction and no call to the paths
-pub simple_added : (insn : Insn) (row : Profile) (slot : ℕ) (old new : Paths) (jumping : List Counts)
-    → row ≡ profile insn → row.successors ≡ Next
-    → row.reference ≡ names.Nothing
-    → new.here.instructions ≡ old.here.instructions + 1
-    → new.here.calls ≡ old.here.calls → new.ended ≡ old.ended
-    → IsAdded insn slot old new jumping jumping
-simple_added insn row slot old new jumping is_row next nothing instructions calls ended =
-    let none : one_if_call insn ≡ 0 =
-    sym (ap (λ (r : Profile). if is_helper r.reference then 1 else 0) is_row)
-    ∙ ap (λ (r : Reference). if is_helper r then 1 else 0) nothing in
-    record {
-      instructions = λ to after. simple_along one insn row slot to _ _ _ _ is_row next refl instructions after;
-      calls = λ to after.
-          simple_along one_if_call insn row slot to _ old.here.calls _ _ is_row next (omega arith) calls after;
-      ended_instructions = simple_end one insn row _ _ _ is_row next (ap (λ (c : Counts). c.instructions) ended);
-      ended_calls = simple_end one_if_call insn row _ _ _ is_row next (ap (λ (c : Counts). c.calls) ended);
-    }
-
 -- ---- the counts that arrive
 
 -- at the slot of the pass, the greater of the counts on the falling edge and on jumps is the most on the way to it
@@ -365,21 +346,3 @@ cost_is cost code instructions calls = (
 )
 
 -- ---- a simple instruction has no fault
-
--- a simple instruction has no fault of its shape, if the counts show whether its slot can be reached
-pub simple_fine : (code : List Insn) (named : List Named) (insn : Insn) (row : Profile)
-    (slot next : ℕ) (paths : Paths)
-    → row ≡ profile insn → next ≡ falls_to insn slot
-    → LeadTo code slot paths → IsSimple row next (slot_count code) paths
-    → shape_reason code named insn slot ≡ None
-simple_fine code named insn row slot next paths is_row is_next lead is =
-    let goes_on : (profile insn).successors ≡ Next = sym (ap (λ (r : Profile). r.successors) is_row) ∙ is.goes_on in
-    let nothing : (profile insn).reference ≡ names.Nothing =
-    sym (ap (λ (r : Profile). r.reference) is_row) ∙ is.names in
-    let writes : is_slot (written_register insn) 10 ≡ false =
-    sym (ap (λ (r : Profile). is_slot r.written 10) is_row) ∙ is.writes in
-    let reached : is_reachable code slot ≡ true =
-    sym lead ∙ or_left (nat_lt 0 paths.here.instructions) (slot == 0) is.reached in
-    let within : nat_le (slot_count code) (falls_to insn slot) ≡ false =
-    lt-leb (slot_count code) (falls_to insn slot) (subst (λ (n : ℕ). n < slot_count code) is_next is.within) in
-    rw (goes_on, nothing, within, reached, writes) refl

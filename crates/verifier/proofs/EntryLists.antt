@@ -21,12 +21,6 @@ seen_with es kept i new facts is value =
     ∙ ap (λ (fs : List (Option NumberedFacts)). set fs i (option_map box_value new)) is
     ∙ ap (λ o. set kept i o) value
 
--- an entry taken out
-pub seen_without : (es : List (Option (Box NumberedFacts Global)))
-    (kept : List (Option NumberedFacts)) (i : ℕ) (left : Option (Box NumberedFacts Global))
-    → seen es ≡ kept → left ≡ None → seen (set es i left) ≡ set kept i None
-seen_without es kept i left is none = seen_with es kept i left None is (ap (option_map box_value) none)
-
 -- an entry that is read
 pub seen_at : (es : List (Option (Box NumberedFacts Global))) (kept : List (Option NumberedFacts))
     (i : ℕ) (e : Option (Box NumberedFacts Global))
@@ -42,33 +36,6 @@ seen_at es kept i e is within here =
 absent : (e : Option (Box NumberedFacts Global)) → is_some e ≡ false → option_map box_value e ≡ None
 absent None empty = refl
 absent (Some index) empty = absurd (false≢true (sym empty))
-
--- no entry
-pub none_at : (es : List (Option (Box NumberedFacts Global))) (kept : List (Option NumberedFacts))
-    (i : ℕ) (e : Option (Box NumberedFacts Global))
-    → seen es ≡ kept → i < length es
-    → e ≡ get_or es i e → is_some e ≡ false
-    → entry_of i kept ≡ None
-none_at es kept i e is within here empty =
-    sym (seen_at es kept i e is
-    (subst (λ (n : ℕ). i < n) (sym (length-map es (option_map box_value)) ∙ ap length is) within)
-    here)
-    ∙ absent e empty
-
--- the entry of a slot past the end of the list has no facts
-pub none_past : (es : List (Option (Box NumberedFacts Global))) (kept : List (Option NumberedFacts)) (i : ℕ)
-    → seen es ≡ kept → length es ≤ i → entry_of i kept ≡ None
-none_past es kept i is past =
-    let long : length kept ≡ length es = sym (ap length is) ∙ length-map es (option_map box_value) in
-    get_or_past kept i None (omega (arith, long, past))
-
--- nothing is taken if there is no entry
-pub taken_none : (slot fresh : ℕ) (entries : List (Option NumberedFacts)) (known : Option NumberedFacts)
-    → entry_of slot entries ≡ None → IsTaken slot fresh entries entries known known
-taken_none slot fresh entries known none = (
-  subst (λ (e : Option NumberedFacts). IsJoinedIf fresh known e known) (sym none) refl,
-  λ i above. refl,
-)
 
 -- an entry is taken
 pub taken_some : (slot fresh : ℕ) (es : List (Option (Box NumberedFacts Global)))

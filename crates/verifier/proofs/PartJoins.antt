@@ -12,25 +12,6 @@ use Rattle.reg_kinds.specs.TableLaws.{tabulate-at}
 use Rattle.verifier.specs.declared.numbered_facts.NumberedFacts.{NumberedFacts}
 use Rattle.verifier.specs.inside.Numbers.{number_of, included_in, IsJoinedSlot, IsJoinedAt, IsSameAt, IsPartJoin, IsJoin, IsJoinedBelow}
 
--- a part that includes the other is not changed
-pub part_kept : (fresh part : ℕ) (x y : NumberedFacts)
-    → length x.numbers ≡ stack_parts
-    → get_or x.includes part 0 ≡ get_or y.numbers part 0
-    → IsPartJoin fresh part x y x
-part_kept fresh part x y parts same =
-    record {
-      registers = refl;
-      parts = parts;
-      here = λ i within at.
-          inl (
-            ap (λ (p : ℕ). get_or x.includes p 0) at ∙ same ∙ sym (ap (λ (p : ℕ). get_or y.numbers p 0) at),
-            refl,
-            refl,
-            refl,
-          );
-      others = λ i within other. (refl, refl, refl);
-    }
-
 -- the slots of the part are joined; other slots are not changed
 joined_here : (part : ℕ) (a b : Facts) (i : ℕ)
     → i < stack_slots → part_of i ≡ part

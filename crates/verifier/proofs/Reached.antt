@@ -68,43 +68,11 @@ jump_lands code named i at is_fine = within code (jumps i) (jumps_to i at) is_fi
 
 -- ---- reachable slots
 
--- at the start only slot 0 is marked
-pub marked_first : (code : List Insn) (flags : List Bool) (i : ℕ)
-    → flags ≡ set (replicate (slot_count code) false) 0 true
-    → i < slot_count code
-    → get_or flags i false ≡ reached_from code i 0
-unfolding reached_from
-marked_first code flags i is lt =
-    let size : length (replicate (slot_count code) false) ≡ slot_count code = simp length-replicate in
-    ap (λ (bs : List Bool). get_or bs i false) is
-    ∙ elim (cases_eq i 0) [
-      | inl same ↦
-          ap (λ (n : ℕ). get_or (set (replicate (slot_count code) false) 0 true) n false) same
-          ∙ get_or-set_same (replicate (slot_count code) false) 0 true false (omega arith)
-          ∙ sym (eq-eqb i 0 same)
-      | inr other ↦
-          get_or-set_other (replicate (slot_count code) false) 0 i true false other
-          ∙ get_or-replicate (slot_count code) i false false lt
-          ∙ sym (ne_eqb i 0 other)
-    ]
-
 reached_next : (code : List Insn) (i n : ℕ)
     → reached_from code i (n + 1)
     ≡ (reached_from code i n || (reached_from code n n && leads_into (begins_at code n) n i))
 unfolding reached_from
 reached_next code i n = ap (λ (k : ℕ). reached_from code i k) (add-one n)
-
--- a reachable instruction marks the targets of its edges
-pub marked_next : (code : List Insn) (i n : ℕ) (insn : Insn) (old new : Bool)
-    → begins_at code n ≡ Some insn → is_reachable code n ≡ true
-    → old ≡ reached_from code i n → new ≡ (old || leads_into (Some insn) n i)
-    → new ≡ reached_from code i (n + 1)
-marked_next code i n insn old new begins reached was is =
-    is
-    ∙ ap (λ (b : Bool). b || leads_into (Some insn) n i) was
-    ∙ sym (ap (λ (o : Option Insn). reached_from code i n || (true && leads_into o n i)) begins)
-    ∙ sym (ap (λ (b : Bool). reached_from code i n || (b && leads_into (begins_at code n) n i)) reached)
-    ∙ sym (reached_next code i n)
 
 -- a disjunction with a conjunction that has a false part is its first part
 pub or_neither : (a b : Bool) → (a || (b && false)) ≡ a

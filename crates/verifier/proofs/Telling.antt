@@ -88,15 +88,3 @@ pub none_told_of_shape : (code : List Insn) (named : List Named) (told : Option 
     → IsToldRefused code named told told fault
 none_told_of_shape code named told fault (inl memory) = none_told_at_memory code named told fault memory
 none_told_of_shape code named told fault (inr first) = inr (inl (first, refl))
-
--- the facts that the watcher receives with the shapes of the maps that the program loads
-pub told_of_safety : (code : List Insn) (named : List Named) (entries : List Named)
-    (old new : Option (List (ℕ × Facts))) (fault : VerifyFault)
-    → entries ≡ entries_of (maps_of code) named → HasNoFault (structure_fault code named)
-    → IsFirstTold (shapes_named entries) code old new fault
-    → IsToldRefused code named old new fault
-told_of_safety code named entries old new fault is sound first =
-    elim (subst (λ (es : List Named). IsFirstTold (shapes_named es) code old new fault) is first) [
-      | inl memory ↦ inl memory
-      | inr refused ↦ inr (inr (sound, refused.0, refused.1))
-    ]

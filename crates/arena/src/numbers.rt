@@ -112,7 +112,8 @@ pub(crate) fn copy_double(bytes: &mut [u8], from: usize, to: usize)
     write(bytes, to, 8, double);
 }
 
-/// From this number of bytes on, ranges that do not overlap are copied by a call of memcpy.
+/// From this number of bytes on, ranges that do not overlap are copied by a call of memcpy: `copy_within` becomes a loop of sixteen bytes a
+/// turn, which takes longer for so many.
 const LONG: usize = 256;
 
 /// Copies `count` bytes from offset `from` to offset `to`, which is at their end or after it, by memcpy.
@@ -138,7 +139,7 @@ fn copy_down(bytes: &mut [u8], from: usize, to: usize, count: usize)
 }
 
 /// Copies `count` bytes from offset `from` to offset `to` like memmove: the ranges may overlap. If they do not, `LONG` bytes or more are
-/// copied by memcpy.
+/// copied by memcpy; eight bytes are copied as one number.
 #[inline(always)]
 pub(crate) fn copy_bytes(bytes: &mut [u8], from: usize, to: usize, count: usize)
     requires source { from + count ≤ length bytes.old }

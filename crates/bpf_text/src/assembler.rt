@@ -24,7 +24,7 @@ use std::alloc::{AllocError, Global};
 use std::collections::HashMap;
 use text_line::{Form, Line, read_line};
 
-/// Parses the lines of a text, given without their line feeds; `None` for a line that has none of the forms.
+/// Parses the lines of a text, given without their line feeds; `None` for a line that is neither blank, nor a label, nor an instruction.
 fn read_lines<'a>(alloc: Global, text: &'a [&'a str]) -> Result<Vec<Option<Line<'a>>>, AllocError>
     ensures { IfOk result (λ lines. AreRead (map (λ line. line.now) text.now)
         (seen_lines lines.items)) }

@@ -18,7 +18,7 @@ impl<T, A: Allocator> Model for RawBox<T, A> {
 }
 
 impl<T: Drop, A: Allocator> RawBox<T, A> {
-    /// The raw pointer of a box, which is not freed until `into_box` makes it a box again.
+    /// Makes a box a raw pointer. What is in the box is not freed until `into_box` makes it a box again.
     pub(crate) fn from_box(value: Box<T, A>) -> RawBox<T, A>
         ensures { result.value ≡ value.value }
     {

@@ -41,7 +41,8 @@ fn looked_up(text: &str) -> Result<Kind, CaseError> {
     })
 }
 
-/// A kind: a word, and its numbers.
+/// A kind of value as a case writes it: its word, and then its numbers. These are the range of a `scalar`, the descriptor of a `map`, the
+/// offset of a `stack` pointer, descriptor and offsets of a `value`, descriptor and slot of what is `looked-up`; the others have none.
 fn kind_of(text: &str) -> Result<Kind, CaseError> {
     let (word, rest) = first_word(text);
     match word {

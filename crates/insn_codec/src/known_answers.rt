@@ -1,4 +1,4 @@
-//! Known answers of the public calls, proved only from their contracts. Nothing calls these functions.
+//! Known answers of the public calls, proved only from their contracts. Nothing outside of this file calls these functions.
 
 ghost use Rattle.std.specs.Prelude.{◌≡◌, Some};
 ghost use Rattle.insn_codec.specs.Fault.{HasFault};

@@ -76,7 +76,8 @@ jump_target i at = target_by (profile i).successors at
 abbrev pub written_register : Insn → Option ℕ
 written_register i = (profile i).written
 
--- the descriptor of the map that is named, or whose first value is; None if there is none
+-- the descriptor in what an instruction refers to: of the map, or of the map whose first value it
+-- is; None for a helper, and for nothing
 abbrev pub descriptor_by : Reference → Option ℕ
 descriptor_by names.Nothing = None
 descriptor_by (names.Helper id) = None

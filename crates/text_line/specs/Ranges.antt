@@ -44,8 +44,8 @@ abbrev pub target_fits : Bool → JumpTarget → Bool
 target_fits long (target.Number n) = if long then imm_fits n else offset_fits n
 target_fits long target.Label = true
 
--- each number of a form is in its range: a 64-bit constant if it has a value, which it has below
--- 2 ^ 64. The other forms have no number.
+-- each number of a form is in the range of its field. A 64-bit constant is in range if it has a
+-- value: a number of 2 ^ 64 or more has none. The other forms have no number.
 abbrev pub form_fits : Form → Bool
 form_fits (form.Operation wide dst (operation.Binary op src)) = source_fits src
 form_fits (form.Jump long to) = target_fits long to

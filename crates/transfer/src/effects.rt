@@ -136,7 +136,8 @@ fn store_outside(value: Kind) -> Result<(), Reason>
 }
 
 /// Updates the facts for a store of a value of the kind `value`, `offset` bytes from an address of the kind `base`, or returns the first
-/// reason against it. Returns the stack slot that it may change; `None` for a store into the value of a map, which changes no fact.
+/// reason against it. Returns the one stack slot that it may change; `None` for a store into the value of a map, which changes no fact. Its
+/// caller has checked that both kinds may be read.
 #[inline(always)]
 fn store(
     facts: &mut Facts,
@@ -155,7 +156,8 @@ fn store(
 {
     match base {
         Kind::Stack(from) => {
-            // This reason comes before that of an offset which does not fit.
+            // For the contract with any kind, also one that no caller passes: a write to the stack has this reason before that of an offset
+            // which does not fit.
             if let Kind::Unreadable = value {
                 return Err(Reason::UnreadableRegister);
             }

@@ -96,7 +96,8 @@ kept_forms labels slot [] = []
 kept_forms labels slot (line ∷ lines) =
     kept_form labels slot line ++ kept_forms labels (slot + line_slots line) lines
 
--- a line that is read is well formed; nothing is required of one that has none of the forms
+-- a line that was parsed is well formed; nothing is required of one that was not (None), which is a
+-- fault of the text
 abbrev pub IsFormed : Option Line → Type 0
 IsFormed None = Unit {0}
 IsFormed (Some line) = IsWellFormed line

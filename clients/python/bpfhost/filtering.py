@@ -234,9 +234,9 @@ class Filters:
         """Runs the filters on the packets of a capture, up to a limit; `pieces` has them if the capture has begun to give them.
 
         With `most_kept`, which is for one filter, the run ends after so many packets that it keeps: later ones may have been run, and do
-        not count. `accept` gets each piece with the results of the first filter, and `advanced` the counts after each piece. If the capture is wrong at
-        some packet, or if `stopping` is asked to end the run, the outcome has the packets before that. Raises TenantsDiffer if two tenants
-        of a filter get different replies, and ValueError if there are several filters with `most_kept`.
+        not count. `accept` gets each piece with the results of the first filter, and `advanced` the counts after each piece. If the
+        capture is wrong at some packet, or if `stopping` is asked to end the run, the outcome has the packets before that. Raises
+        TenantsDiffer if two tenants of a filter get different replies, and ValueError if there are several filters with `most_kept`.
         """
         if most_kept is not None and len(self._filters) > 1:
             raise ValueError("there are several filters, and the number of kept packets is that of one")

@@ -228,7 +228,8 @@ class LibraryHost(OneOwner):
         """The frames of one part of a tenant, counted from 0; None after its last part, and if the tenant is not served.
 
         A new tenant of this number that is given the frames of all parts in their order (`restore`) replies to each frame as this one does.
-        A part creates a map or a program, puts at most 1,024 keys into a map, or opens or closes descriptors; it may have no frames: b"". Other tenants may be served between two parts; this one must not change before its last part is taken.
+        A part creates a map or a program, puts at most 1,024 keys into a map, or opens or closes descriptors; it may have no frames: b"".
+        Other tenants may be served between two parts; this one must not change before its last part is taken.
         """
         with self._lock:
             code, frames = self.library.functions.saved_part(self._at, tenant, part)

@@ -46,16 +46,12 @@ class Answering:
     """
 
     def __init__(
-        self,
-        writing: Writing,
-        patience: Patience,
-        written: Callable[[Sequence[Played]], None],
-        make_room: Callable[[OutOfMemory], Work[None]],
-        wake: Callable[[object], None],
+        self, writing: Writing, patience: Patience, written: Callable[[Sequence[Played]], None],
+        make_room: Callable[[OutOfMemory], Work[None]], wake: Callable[[object], None],
     ) -> None:
         self._writing, self._patience = writing, patience
         self._written, self._make_room, self._wake = written, make_room, wake
-        self._line = writing.redis.line()
+        self._line = writing.redis.nodes.line()
         self._batches: deque[_Batch] = deque()
         # The id of each tenant's last reply that is being written.
         self._last: dict[int, bytes] = {}

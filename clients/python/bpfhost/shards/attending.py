@@ -36,10 +36,6 @@ class _Watch:
         self._seen = {name: self._seen[name] if name in self._seen and self._seen[name][0] == what else (what, now) for name, what in seen.items()}
         return [name for name in seen if self._seen[name][1] <= now - seconds]
 
-    def forget(self) -> None:
-        """Begins anew after a while in which nothing could be seen."""
-        self._seen.clear()
-
 
 class Attending:
     """Attends to the directory for one shard."""
@@ -57,8 +53,8 @@ class Attending:
             try:
                 await self._attend()
             except Away:
-                self._beats.forget()
-                self._moves.forget()
+                # Nothing could be seen for a while.
+                self._beats, self._moves = _Watch(), _Watch()
             except ShardError as error:
                 self._tell(f"shard {self._shard}: {error}")
                 await asyncio.sleep(9 * self._seconds)

@@ -6,6 +6,7 @@ import asyncio
 import functools
 import threading
 from collections.abc import Callable, Coroutine, Iterable, Iterator
+from contextlib import AbstractContextManager
 from typing import Any, Concatenate, Generic, ParamSpec, TypeVar, cast
 
 from bpfhost import frames as make
@@ -17,7 +18,6 @@ from bpfhost.replies import Reply, read_replies
 from bpfhost.shards import directory, moving
 from bpfhost.shards.calls import LONGEST_CALL, MOST_FRAMES
 from bpfhost.shards.client import SECONDS, AsyncClient, AsyncCustomer
-from bpfhost.shards.directory import Seat
 from bpfhost.shards.loop import new_loop
 from bpfhost.shards.names import PREFIX
 from bpfhost.shards.system import MACHINE, Answer, System, Work
@@ -52,28 +52,25 @@ class Loop:
 
     def _run(self, work: Work[Answer]) -> Answer:
         """Takes the steps of work itself, and lets the loop run until the work may go on: a task would cost as much as a call of Redis."""
-        loop, is_in = self._loop, asyncio._set_running_loop
+        loop = self._loop
+        asyncio._set_running_loop(loop)
         try:
             while True:
-                is_in(loop)
                 waits = work.send(None)
-                is_in(None)
                 if waits is None:
-                    loop.call_soon(loop.stop)
-                else:
-                    waits.add_done_callback(self._stop)
-                loop.run_forever()
+                    # It only lets others go on: so the next round waits for nothing.
+                    loop.call_soon(bool)
+                    loop.run_round()
+                while waits and not waits.done():
+                    loop.run_round()
         except StopIteration as ended:
             return cast(Answer, ended.value)
         finally:
-            is_in(None)
             work.close()
+            asyncio._set_running_loop(None)
             self._runs.release()
             if self._others:
                 self._note(None)
-
-    def _stop(self, waits: object) -> None:
-        self._loop.stop()
 
     def _note(self, _task: object) -> None:
         with self._changed:
@@ -126,24 +123,19 @@ class Directory(Blocking[directory.Directory]):
     turn_move = waits(directory.Directory.turn_move)
 
 
-class Client(Blocking[AsyncClient]):
+class Client(Blocking[AsyncClient], AbstractContextManager["Client"]):
     """A client that knows the directory and the shards. It is a context manager, which closes its connections."""
 
+    close = waits(AsyncClient.close)
+
     def __init__(self, url: str | None = None, prefix: str = PREFIX, system: System = MACHINE) -> None:
-        """The directory's Redis, by its URL (`redis_url`)."""
+        """The directory's Redis, by its URL (`Redis`)."""
         super().__init__(AsyncClient(url, prefix, system), Loop())
         self.directory = Directory(self.aio.directory, self.loop)
         self.prefix, self.system = prefix, system
 
-    def __enter__(self) -> Client:
-        return self
-
     def __exit__(self, *_error: object) -> None:
         self.close()
-
-    def close(self) -> None:
-        """Closes the connections."""
-        self.loop.run(self.aio.close())
 
     def customer(self, name: str, seconds: float = SECONDS, session: str | None = None) -> Customer:
         """A customer by its name, which waits for so many seconds at most.
@@ -218,25 +210,13 @@ class Customer(Asking, Blocking[AsyncCustomer]):
 class CustomersTenant(Tenant):
     """A tenant whose host is one of the shards' hosts."""
 
-    def prog_test_runs(
-        self, descriptor: int, pieces: Iterable[Packets], context: Context = NO_CONTEXT
-    ) -> Iterator[tuple[int, ...]]:
+    def prog_test_runs(self, descriptor: int, pieces: Iterable[Packets], context: Context = NO_CONTEXT) -> Iterator[tuple[int, ...]]:
         """Runs a program on many packets, and returns the results in order."""
         for piece in pieces:
             replies = self.host.ask_all(make.prog_test_run(0, descriptor, packet, context) for packet in piece)
             yield tuple(reply.result() for reply in replies if not reply.done())
 
 
-def move(client: Client, name: str, shard: int | None = None, seconds: float = moving.SECONDS) -> Seat:
-    """Moves a customer to a shard, or to the least loaded other one, and returns its new seat (`moving.move`)."""
-    return client.loop.run(moving.move(client.aio, name, shard, seconds))
-
-
-def remove(client: Client, name: str, seconds: float = moving.SECONDS) -> None:
-    """Removes a customer, with all its data."""
-    client.loop.run(moving.remove(client.aio, name, seconds))
-
-
-def abort_move(client: Client, name: str, seconds: float = moving.SECONDS) -> Seat:
-    """Takes back a move that was begun, or a removal, and returns the seat that the customer then has (`moving.abort_move`)."""
-    return client.loop.run(moving.abort_move(client.aio, name, seconds))
+move = waits(moving.move)
+remove = waits(moving.remove)
+abort_move = waits(moving.abort_move)

@@ -4,6 +4,7 @@ from __future__ import annotations
 
 from collections.abc import Mapping
 from dataclasses import dataclass
+from typing import NamedTuple
 
 from bpfhost.alike import BEFORE_PACKET, is_short, size_of_alike, size_of_packet, unpacked
 from bpfhost.numbers import Command
@@ -56,8 +57,7 @@ class Call:
         return len(self.stored)
 
 
-@dataclass(frozen=True)
-class Leaves:
+class Leaves(NamedTuple):
     """A tenant leaves; its seat had this generation."""
 
     entry: bytes
@@ -65,8 +65,7 @@ class Leaves:
     generation: bytes
 
 
-@dataclass(frozen=True)
-class Arrives:
+class Arrives(NamedTuple):
     """A tenant arrives, with the manifest of its state."""
 
     entry: bytes
@@ -74,8 +73,7 @@ class Arrives:
     manifest: bytes
 
 
-@dataclass(frozen=True)
-class NoCall:
+class NoCall(NamedTuple):
     """An entry that this package did not write, and why it is no call."""
 
     entry: bytes

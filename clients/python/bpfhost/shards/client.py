@@ -8,6 +8,7 @@ from __future__ import annotations
 
 import asyncio
 from collections.abc import AsyncIterator, Iterable, Sequence
+from contextlib import AbstractAsyncContextManager
 from typing import NamedTuple
 
 from bpfhost.alike import packed, size_of_alike
@@ -17,20 +18,8 @@ from bpfhost.shards.aside import Aside
 from bpfhost.shards.calls import LONGEST_CALL, MOST_FRAMES, count_of
 from bpfhost.shards.connection import Entry, Redis, as_in
 from bpfhost.shards.directory import Directory, Seat, demand_name
-from bpfhost.shards.errors import (
-    Away,
-    CallError,
-    CallPassed,
-    NoReply,
-    NotDone,
-    NotServed,
-    NotTaken,
-    OutOfMemory,
-    ReplyGone,
-    SessionPassed,
-    SetAside,
-    ShardError,
-)
+from bpfhost.shards.errors import Away, CallError, CallPassed, NoReply, NotDone, NotServed, NotTaken, OutOfMemory
+from bpfhost.shards.errors import ReplyGone, SessionPassed, SetAside, ShardError
 from bpfhost.shards.names import FAULT, FRAMES, PREFIX, REPLIES, RUNS, ShardKeys, before, order
 from bpfhost.shards.system import MACHINE, System
 from bpfhost.shards.tickets import Gathered, Part, Place, Ticket
@@ -46,17 +35,14 @@ NAMELESS = "~"
 _SESSIONS = f"customer {{name}} has {names.MOST_SESSIONS} sessions, and can't have another one"
 
 
-class AsyncClient:
+class AsyncClient(AbstractAsyncContextManager["AsyncClient"]):
     """A client that knows the directory and the shards, for one event loop. It is a context manager, which closes its connections."""
 
     def __init__(self, url: str | None = None, prefix: str = PREFIX, system: System = MACHINE) -> None:
-        """The directory's Redis, by its URL (`redis_url`)."""
+        """The directory's Redis, by its URL (`Redis`)."""
         self.redis, self.prefix, self.system = Redis(url, system), prefix, system
         self.directory = Directory(self.redis, prefix)
         self._servers: dict[str, Redis] = {"": self.redis}
-
-    async def __aenter__(self) -> AsyncClient:
-        return self
 
     async def __aexit__(self, *_error: object) -> None:
         await self.close()
@@ -64,7 +50,7 @@ class AsyncClient:
     async def close(self) -> None:
         """Closes the connections."""
         for redis in self._servers.values():
-            await redis.close()
+            await redis.nodes.close()
 
     def customer(self, name: str, seconds: float = SECONDS, session: str | None = None) -> AsyncCustomer:
         """A customer by its name, which waits for so many seconds at most.
@@ -278,7 +264,9 @@ class AsyncCustomer:
         """Sends a call once; returns a sentence if there is no room for it now."""
         used = self._used
         if not used or used.seat is not seat:
-            used = self._used = await self._used_of(seat, deadline)
+            redis, keys = await self._shard(seat.shard, deadline)
+            of_seat = [keys.seats, keys.frames(seat.tenant), keys.sessions(seat.generation), keys.waiting, keys.lease]
+            used = self._used = _Used(seat, redis, of_seat, seat.owned_by(self.name))
         session = [ticket.session, ticket.number, ticket.given_up, used.owner, seat.shard, seat.tenant]
         limits = [names.weight(len(ticket.stored)), names.MOST_WAITING, names.MOST_SESSIONS, RUNS if ticket.is_packed else FRAMES]
         try:
@@ -303,11 +291,6 @@ class AsyncCustomer:
             raise CallPassed(sentence, ticket)
         return ""
 
-    async def _used_of(self, seat: Seat, deadline: float) -> _Used:
-        redis, keys = await self._shard(seat.shard, deadline)
-        of_seat = [keys.seats, keys.frames(seat.tenant), keys.sessions(seat.generation), keys.waiting, keys.lease]
-        return _Used(seat, redis, of_seat, seat.owned_by(self.name))
-
     async def _give_up(self, ticket: Ticket, seat: Seat, why: str) -> None:
         """Ensures that a call is not taken later, even if a command with it is still in transit to the server."""
         deadline = self._system.now() + _SECONDS_TO_GIVE_UP
@@ -325,7 +308,13 @@ class AsyncCustomer:
         while True:
             try:
                 seat = await self._client.directory.patient(deadline).place(self.name)
-                if await self._claim(seat, deadline):
+                # A shard may have moved to another server since it was last looked up.
+                self._at.pop(seat.shard, None)
+                self._used = None
+                redis, keys = await self._shard(seat.shard, deadline)
+                claim = [seat.tenant, seat.generation, seat.owned_by(self.name)]
+                if await scripts.CLAIM(redis.patient(deadline), [keys.seats], claim):
+                    self._seat = seat
                     return seat
                 why = f"customer {self.name} is being moved"
             except NotServed as error:
@@ -334,17 +323,6 @@ class AsyncCustomer:
                 raise NotTaken(why, ticket)
             await asyncio.sleep(pause)
             pause = min(2 * pause, _LONGEST_PAUSE)
-
-    async def _claim(self, seat: Seat, deadline: float) -> bool:
-        # A shard may have moved to another server since it was last looked up.
-        self._at.pop(seat.shard, None)
-        self._used = None
-        redis, keys = await self._shard(seat.shard, deadline)
-        claim = [seat.tenant, seat.generation, seat.owned_by(self.name)]
-        if not await scripts.CLAIM(redis.patient(deadline), [keys.seats], claim):
-            return False
-        self._seat = seat
-        return True
 
     # Waiting.
 
@@ -355,11 +333,13 @@ class AsyncCustomer:
             while True:
                 # The first reply after the last id below this one is the reply to this call, since each call has one.
                 found = await redis.xread(name, behind, max(1, len(self._unread)))
-                if found and found[0][0] == place.entry:
-                    self._note_read(place, found)
-                    return self._said(found[0][1], ticket)
-                if found:
+                if found and found[0][0] != place.entry:
                     raise await self._gone(redis, keys, place, ticket)
+                if found:
+                    self._note_read(place, found)
+                    if FAULT in found[0][1]:
+                        raise NotDone(found[0][1][FAULT].decode(errors="replace"), ticket)
+                    return found[0][1][REPLIES]
                 await self._demand_hope(redis, keys, place, ticket)
                 if self._system.now() >= deadline:
                     raise NoReply(f"shard {place.shard} has not answered entry {place.entry.decode()}: does its worker run?", ticket)
@@ -372,11 +352,6 @@ class AsyncCustomer:
             ticket = self._unread.pop(place._replace(entry=entry), None)
             if ticket and entry != place.entry and REPLIES in fields:
                 ticket.answered = fields[REPLIES]
-
-    def _said(self, fields: dict[bytes, bytes], ticket: Ticket) -> bytes:
-        if FAULT in fields:
-            raise NotDone(fields[FAULT].decode(errors="replace"), ticket)
-        return fields[REPLIES]
 
     async def _gone(self, redis: Redis, keys: ShardKeys, place: Place, ticket: Ticket) -> Exception:
         """The reason why an entry has no reply although later ones have."""

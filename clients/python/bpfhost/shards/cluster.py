@@ -9,30 +9,34 @@ so have all keys of the directory, so each of these sets is on one node.
 from __future__ import annotations
 
 import asyncio
-from collections.abc import Callable, Sequence
+from collections import deque
+from collections.abc import Sequence
 from typing import Any
 
 from bpfhost.shards.errors import Away, Moved, RedisError
 from bpfhost.shards.link import RedisLink, Word, library
+from bpfhost.shards.system import System
 
-# Commands that may write. WAIT is sent after them.
-_WRITES = ("EVALSHA", "EVAL", "HSET", "HDEL", "DEL", "XADD", "XTRIM")
+# Commands that may write. WAIT is sent after them. It covers the last write, so after a script something is written, also without memory:
+# then it covers all that the script has read.
+_WRITES = ("EVALSHA", "EVAL", "HSET", "HDEL", "DEL", "SETNX", "XADD", "XTRIM")
+_TOUCH = "#!lua flags=allow-oom\nredis.call('SET', KEYS[1], '')"
 _SECONDS_FOR_REPLICAS = 1.0
 # A command is redirected at most so often.
 _MOST_MOVES = 4
+# A connection that was not used for so many seconds ends.
+SECONDS_IDLE = 30.0
 
 
 class Nodes:
-    """The servers that a URL names, and what is known of them: the node of each slot, and whether a node or its history has changed.
+    """The servers that a URL names, with the connections to them, and what is known of them.
 
-    A caller that watches them (`watch`) gets Away from then on if a node or a history has changed.
+    That is the node of each slot, and whether a node or its history has changed. A caller that watches them (`watch`) gets Away from then
+    on if a node or a history has changed.
     """
 
-    def __init__(self, url: str, link: Callable[[type[RedisLink], dict[str, Any]], RedisLink]) -> None:
-        """A URL, and what makes a connection of a class with these arguments; raises RedisError if it is no URL.
-
-        With TLS, the name in the server's certificate is checked.
-        """
+    def __init__(self, url: str, system: System) -> None:
+        """Raises RedisError if it is no URL. With TLS, the name in the server's certificate is checked."""
         redis = library("redis.asyncio")
         try:
             pool = redis.ConnectionPool.from_url(url)
@@ -46,20 +50,53 @@ class Nodes:
                 raise ValueError("cluster is 0 or 1, of hosts with ports, and replicas is a number")
         except (AttributeError, TypeError, ValueError, redis.RedisError) as error:
             raise RedisError(f"{url} is no URL of a Redis: {error}") from None
-        self._link, self._kind, self._words = link, type("Direct", (RedisLink, kind), {}), words
+        self._system, self._kind, self._words = system, type("Direct", (RedisLink, kind), {}), words
         self.is_cluster, self.replicas = cluster == "1", int(replicas)
         # Whether it is one server, without replicas.
         self.is_one = not self.is_cluster and not self.replicas
-        # The nodes that can be asked, and those of them that could not be reached the last time.
-        self._all, self._away = [f"{words.get('host', 'localhost')}:{words.get('port', 6379)}"], set[str]()
+        # The nodes that can be asked, and whether each of them could not be reached the last time.
+        self._all = {f"{words.get('host', 'localhost')}:{words.get('port', 6379)}": False}
         # The node of each slot, and the history that each node reports, by its replication id.
         self._known: dict[int | str, str] = {}
         self.is_watched = self.has_changed = False
+        # The lines that are not in use, with the times since when, the oldest first; and all of them.
+        self._idle: deque[tuple[float, Line]] = deque()
+        self.lines: set[Line] = set()
+        self._timer: asyncio.TimerHandle | None = None
+
+    # Connections.
 
     def connect(self, node: str) -> RedisLink:
         """A connection to a node; one server needs no name."""
         host, _, port = node.rpartition(":")
-        return self._link(self._kind, self._words | ({"host": host, "port": port} if self.is_cluster else {}))
+        return self._system.link(self._kind, self._words | ({"host": host, "port": port} if self.is_cluster else {}))
+
+    def line(self) -> Line:
+        """A line that nobody else uses until it is given back."""
+        return self._idle.pop()[1] if self._idle else Line(self)
+
+    def give_back(self, line: Line) -> None:
+        """Keeps a line for the next call."""
+        self._idle.append((self._system.now(), line))
+        if not self._timer:
+            self._shrink()
+
+    def _shrink(self) -> None:
+        """Ends the lines that were not used for a while, now and later."""
+        while self._idle and self._idle[0][0] <= self._system.now() - SECONDS_IDLE:
+            _, line = self._idle.popleft()
+            self.lines.discard(line)
+            line.cut()
+        self._timer = asyncio.get_running_loop().call_later(SECONDS_IDLE, self._shrink) if self._idle else None
+
+    async def close(self) -> None:
+        """Ends all connections."""
+        for line in self.lines:
+            line.cut()
+        # The event loop ends them in its next round.
+        await asyncio.sleep(0)
+
+    # What is known.
 
     def watch(self) -> None:
         """From now on each command raises Away if another node of a cluster, or a server with another history, would do it."""
@@ -69,32 +106,29 @@ class Nodes:
         """The node of a slot as far as it is known, or a node to ask; raises Away if something has changed since `watch`."""
         if self.has_changed:
             raise Away("Redis has another history since, or another node of its cluster serves a slot")
-        node = self._known.get(slot, self._all[0])
-        return next(one for one in (node, *self._all) if one not in self._away)
+        node = self._known.get(slot, next(iter(self._all)))
+        return next(one for one in (node, *self._all) if not self._all.get(one))
 
     def learn(self, of: int | str, now: str) -> bool:
         """Notes the node of a slot, or the history that a node reports; returns whether it differs from what was known before."""
-        before = self._known.get(of, now)
-        self._known[of] = now
+        before, self._known[of] = self._known.get(of, now), now
         self.has_changed |= self.is_watched and before != now
         return before != now
 
     def note(self, node: str, is_away: bool) -> None:
-        """Notes whether a node could be reached. If none could, all are asked again."""
-        if node not in self._all:
-            self._all.append(node)
-        (self._away.add if is_away else self._away.discard)(node)
-        if len(self._away) == len(self._all):
-            self._away.clear()
-            self._all.append(self._all.pop(0))
+        """Notes whether a node could be reached. If none could, all are asked again, the first one last."""
+        self._all[node] = is_away
+        if all(self._all.values()):
+            first, *others = self._all
+            self._all = dict.fromkeys([*others, first], False)
 
 
 class Line:
     """A connection to each node, on which commands are sent one after another; one that has ended is made anew."""
 
     def __init__(self, nodes: Nodes) -> None:
-        self._nodes = nodes
-        self._links: dict[str, RedisLink] = {}
+        self._nodes, self._links = nodes, dict[str, RedisLink]()
+        nodes.lines.add(self)
 
     def begin(self, words: Sequence[Word], seconds: float, slot: int) -> asyncio.Future[Any]:
         """The reply to a command, from the node that has a slot, within so many seconds.
@@ -108,48 +142,46 @@ class Line:
 
     def _to(self, node: str) -> RedisLink:
         """The connection to a node."""
-        link = self._links.get(node)
-        if link is None or link.is_over:
-            link = self._links[node] = self._nodes.connect(node)
-        return link
+        if node not in self._links or self._links[node].is_over:
+            self._links[node] = self._nodes.connect(node)
+        return self._links[node]
 
     async def _called(self, words: Sequence[Word], seconds: float, slot: int) -> Any:
         nodes = self._nodes
         node = nodes.find(slot)
         for _ in range(_MOST_MOVES):
-            link = self._to(node)
             try:
-                found = await self._asked(node, link, words, seconds)
+                return await self._asked(node, words, seconds)
             except Moved as moved:
+                node = str(moved).split()[-1]
                 # The caller has to know that the history of the new node of a slot may be another one.
-                if nodes.learn(slot, moved.node):
-                    raise Away(f"{moved.node} of the cluster serves a slot now, which another node served") from None
-                node = moved.node
+                if nodes.learn(slot, node):
+                    raise Away(f"{node} of the cluster serves a slot now, which another node served") from None
             except Away:
                 # It may report another history when it can be reached again.
-                link.is_checked = False
+                self._links[node].is_checked = False
                 nodes.note(node, is_away=True)
                 raise
-            else:
-                nodes.note(node, is_away=False)
-                return found
         raise Away("the nodes of the cluster do not agree on who serves a slot")
 
-    async def _asked(self, node: str, link: RedisLink, words: Sequence[Word], seconds: float) -> Any:
+    async def _asked(self, node: str, words: Sequence[Word], seconds: float) -> Any:
         """The reply of a node, whose history is looked at first if that is watched; if the command writes, so many replicas have it."""
-        nodes = self._nodes
+        nodes, link = self._nodes, self._to(node)
         if nodes.is_watched and not link.is_checked:
             said = bytes(await link.begin(["INFO", "replication"], seconds)).decode()
             link.is_checked = True
             if nodes.learn(node, said.partition("master_replid:")[2].partition("\r\n")[0]):
                 raise Away(f"{node} tells another history than before")
-        if not nodes.replicas or words[0] not in _WRITES:
-            return await link.begin(words, seconds)
-        limit = max(0.001, min(seconds, _SECONDS_FOR_REPLICAS))
-        begun = link.begin(words, seconds), link.begin(["WAIT", nodes.replicas, int(limit * 1000)], seconds + limit)
-        found, have = await asyncio.gather(*begun)
-        if have < nodes.replicas:
-            raise Away(f"{have} replicas have what was written, and {nodes.replicas} are to have it")
+        asked = [words]
+        if nodes.replicas and words[0] in _WRITES:
+            limit = max(0.001, min(seconds, _SECONDS_FOR_REPLICAS))
+            touch = [["EVAL", _TOUCH, 1, f"{words[3]}:touched"]] if words[0] in _WRITES[:2] else []
+            asked += [*touch, ["WAIT", nodes.replicas, int(limit * 1000)]]
+            seconds += limit
+        found, *more = await asyncio.gather(*(link.begin(one, seconds) for one in asked))
+        if more and more[-1] < nodes.replicas:
+            raise Away(f"{more[-1]} replicas have what was written, and {nodes.replicas} are to have it")
+        nodes.note(node, is_away=False)
         return found
 
     def cut(self) -> None:

@@ -10,6 +10,7 @@ from __future__ import annotations
 
 import asyncio
 import json
+import signal
 import sys
 from argparse import Namespace
 from collections.abc import Callable, Sequence
@@ -18,12 +19,14 @@ from typing import TextIO, cast
 
 from bpfhost.program import find_program
 from bpfhost.shards import moving, operating
-from bpfhost.shards.arguments import OF_SETTINGS, given, parse
+from bpfhost.shards.arguments import OF_LIMITS, OF_SETTINGS, given, parse
 from bpfhost.shards.client import AsyncClient
 from bpfhost.shards.connection import Redis
+from bpfhost.shards.directory import Seat
 from bpfhost.shards.errors import LeaseHeld, LeaseLost, MemoryRefused, NoReply, OtherShard, RedisError, SetAside, ShardError
 from bpfhost.shards.gateway.customers import hash_of, new_token
-from bpfhost.shards.gateway.running import serve
+from bpfhost.shards.gateway.limits import GatewayLimits
+from bpfhost.shards.gateway.server import Gateway, Tls
 from bpfhost.shards.library import find_library
 from bpfhost.shards.logs import JsonLines
 from bpfhost.shards.loop import new_loop
@@ -53,22 +56,20 @@ def main(words: Sequence[str] | None = None) -> int:
     said = parse(words)
 
     def run() -> int:
-        if said.word == "worker":
-            run_worker(said)
-        elif said.word == "gateway":
-            run_gateway(said)
-        elif said.word == "token":
-            run_token()
-        else:
-            asyncio.run(_run(said))
+        _ALONE.get(said.word, run_with_client)(said)
         return GOOD
 
     return status_of("bpfhost.shards", run, _STATUSES)
 
 
-async def _run(said: Namespace) -> None:
-    async with AsyncClient(said.redis, said.prefix) as client:
-        await _RUNS[said.word](client, said)
+def run_with_client(said: Namespace) -> None:
+    """Does what a subcommand does with a client of the directory."""
+
+    async def run() -> None:
+        async with AsyncClient(said.redis, said.prefix) as client:
+            await _RUNS[said.word](client, said)
+
+    asyncio.run(run())
 
 
 def run_worker(said: Namespace) -> None:
@@ -104,10 +105,43 @@ def run_gateway(said: Namespace) -> None:
     """Accepts customers until SIGTERM or SIGINT."""
     _log(said)
     with asyncio.Runner(loop_factory=new_loop) as runner:
-        runner.run(serve(said, _say))
+        runner.run(_serve(said))
 
 
-def run_token() -> None:
+async def _serve(said: Namespace) -> None:
+    """Runs a gateway; SIGHUP reads the file of customers again. A TCP address that other machines reach needs TLS.
+
+    Raises ShardError if a file of TLS is missing.
+    """
+    if bool(said.certificate) != bool(said.key) or said.clients and not said.certificate:
+        raise ShardError("TLS needs both --certificate and --key")
+    tls = Tls(said.certificate, said.key, said.clients) if said.certificate else None
+    gateway = Gateway(said.redis, said.customers, GatewayLimits(**given(said, OF_LIMITS)), said.prefix, _say)
+    page: Page | None = None
+    ended, loop = asyncio.Event(), asyncio.get_running_loop()
+    for number in (signal.SIGTERM, signal.SIGINT):
+        loop.add_signal_handler(number, ended.set)
+    loop.add_signal_handler(signal.SIGHUP, gateway.reload)
+    looking = asyncio.create_task(gateway.look())
+    try:
+        if said.metrics:
+            page = Page(said.metrics, gateway.told.text, gateway.health)
+            _say(f"metrics are read at {page.address}")
+        for address in said.listen or ["127.0.0.1:7443"]:
+            is_local = address.startswith(("unix:", "127.", "localhost:", "[::1]:"))
+            if not tls and not is_local:
+                raise ShardError(f"at {address} others could read tokens: TLS needs --certificate and --key")
+            own = None if address.startswith("unix:") else tls
+            _say(f"the gateway serves {len(gateway.customers)} customers at {await gateway.listen(address, own)}{', by TLS' if own else ''}")
+        await ended.wait()
+    finally:
+        await gateway.end()
+        looking.cancel()
+        if page:
+            page.close()
+
+
+def run_token(_said: Namespace) -> None:
     """Prints a new token, and its hash."""
     token = new_token()
     print(f"{token}\ntoken-sha256 = \"{hash_of(token)}\"")
@@ -130,14 +164,9 @@ async def run_client(client: AsyncClient, said: Namespace) -> None:
         sys.stdout.buffer.write(reply)
 
 
-async def run_move(client: AsyncClient, said: Namespace) -> None:
-    """Moves a customer, and prints its new seat."""
-    print(operating.place(said.name, await moving.move(client, said.name, said.to, said.seconds)))
-
-
-async def run_abort(client: AsyncClient, said: Namespace) -> None:
-    """Takes a move back, and prints the customer's seat."""
-    print(operating.place(said.name, await moving.abort_move(client, said.name, said.seconds)))
+async def run_move(said: Namespace, moved: Work[Seat]) -> None:
+    """Moves a customer, or takes a move back, and prints its new seat."""
+    print(operating.place(said.name, await moved))
 
 
 async def run_word(client: AsyncClient, said: Namespace) -> None:
@@ -164,11 +193,12 @@ async def run_show(client: AsyncClient, said: Namespace) -> None:
         print(line)
 
 
+_ALONE: dict[str, Callable[[Namespace], None]] = {"worker": run_worker, "gateway": run_gateway, "token": run_token}
 _RUNS: dict[str, Callable[[AsyncClient, Namespace], Work[None]]] = {
     "client": run_client,
-    "move": run_move,
+    "move": lambda client, said: run_move(said, moving.move(client, said.name, said.to, said.seconds)),
     "remove": lambda client, said: moving.remove(client, said.name, said.seconds),
-    "abort-move": run_abort,
+    "abort-move": lambda client, said: run_move(said, moving.abort_move(client, said.name, said.seconds)),
     "skip": run_word,
     "retry": run_word,
     "drain": run_drain,

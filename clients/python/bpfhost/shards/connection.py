@@ -7,9 +7,8 @@ import hashlib
 import math
 import os
 import urllib.parse
-from collections import deque
-from collections.abc import Callable, Mapping, Sequence
-from typing import Any
+from collections.abc import Mapping, Sequence
+from typing import Any, cast
 
 from bpfhost.shards.cluster import Line, Nodes
 from bpfhost.shards.errors import Away, NoScript, NotAllowed, RedisError
@@ -21,74 +20,20 @@ from bpfhost.shards.system import MACHINE, System
 _SECONDS_TO_ANSWER, _SECONDS_TO_BLOCK = 30.0, 1.0
 _LEAST_SECONDS, _SECONDS_FOR_AN_ANSWER = 0.25, 0.2
 _PAUSE, _LONGEST_PAUSE = 0.01, 0.25
-
-# A connection that was not used for so many seconds ends.
-SECONDS_IDLE = 30.0
+# What the options of a URL begin with that are for only one process.
+_OWN = ("username", "password", "ssl_")
+_DURABLE = {"appendonly": "yes", "maxmemory-policy": "noeviction", "appendfsync": "always"}
 
 Entry = tuple[bytes, dict[bytes, bytes]]
 
 
-def redis_url(url: str | None = None) -> str:
-    """A URL, as `redis://host:6379/0` or `unix:///path`; the default is that of the variable BPFHOST_REDIS, or of this machine's Redis."""
-    return url or os.environ.get("BPFHOST_REDIS") or "redis://127.0.0.1:6379/0"
-
-
-def without_secrets(url: str) -> str:
-    """A URL without what is for only one process: a user, a password, and files of TLS."""
-    found = urllib.parse.urlsplit(url)
-    said = [pair for pair in urllib.parse.parse_qsl(found.query) if not _is_own(pair[0])]
-    return _joined(found, found.netloc.rpartition("@")[2], said)
-
-
-def as_in(url: str, own: str) -> str:
-    """Adds the user and the files of TLS of this process's own URL to a URL that has none."""
+def as_in(url: str, own: str = "") -> str:
+    """A URL without what is for only one process, which is a user, a password, and files of TLS; with those of this process's own URL."""
     found, mine = urllib.parse.urlsplit(url), urllib.parse.urlsplit(own)
-    said = urllib.parse.parse_qsl(found.query)
-    said += [pair for pair in urllib.parse.parse_qsl(mine.query) if _is_own(pair[0]) and (found.scheme == "rediss" or "ssl" not in pair[0])]
-    return _joined(found, "".join(mine.netloc.rpartition("@")[:2]) + found.netloc, said)
-
-
-def _joined(found: urllib.parse.SplitResult, place: str, said: list[tuple[str, str]]) -> str:
-    return f"{found.scheme}://{place}{found.path}{'?' if said else ''}{urllib.parse.urlencode(said)}"
-
-
-def _is_own(word: str) -> bool:
-    return word.startswith("ssl_") or word in ("username", "password")
-
-
-class _Lines:
-    """The connections to a server: those that are not in use, with the times since when, the oldest first; and all of them."""
-
-    def __init__(self, nodes: Nodes, now: Callable[[], float]) -> None:
-        self._nodes, self._now = nodes, now
-        self._idle: deque[tuple[float, Line]] = deque()
-        self.all: set[Line] = set()
-        self._timer: asyncio.TimerHandle | None = None
-
-    def taken(self) -> Line:
-        line = self._idle.pop()[1] if self._idle else Line(self._nodes)
-        self.all.add(line)
-        return line
-
-    def give_back(self, line: Line) -> None:
-        self._idle.append((self._now(), line))
-        if not self._timer:
-            self._timer = asyncio.get_running_loop().call_later(SECONDS_IDLE, self._shrink)
-
-    def _shrink(self) -> None:
-        """Ends the connections that were not used for a while."""
-        while self._idle and self._idle[0][0] <= self._now() - SECONDS_IDLE:
-            line = self._idle.popleft()[1]
-            self.all.discard(line)
-            line.cut()
-        self._timer = asyncio.get_running_loop().call_later(SECONDS_IDLE, self._shrink) if self._idle else None
-
-    async def close(self) -> None:
-        self._idle.clear()
-        while self.all:
-            self.all.pop().cut()
-        # The event loop ends them in its next round.
-        await asyncio.sleep(0)
+    said = [pair for pair in urllib.parse.parse_qsl(found.query) if not pair[0].startswith(_OWN)]
+    said += [pair for pair in urllib.parse.parse_qsl(mine.query) if pair[0].startswith(_OWN if found.scheme == "rediss" else _OWN[:2])]
+    host = "".join(mine.netloc.rpartition("@")[:2]) + found.netloc.rpartition("@")[2]
+    return f"{found.scheme}://{host}{found.path}{'?' if said else ''}{urllib.parse.urlencode(said)}"
 
 
 def forgotten(task: asyncio.Future[Any]) -> None:
@@ -101,12 +46,13 @@ class Redis:
     """A server, for one event loop: calls that are under way at the same time have a connection each. Replies are bytes."""
 
     def __init__(self, url: str | None = None, system: System = MACHINE) -> None:
-        """The server of a URL (`redis_url`), to which a connection is made when it is first called; raises RedisError if it is no URL."""
-        self.url, self.system = redis_url(url), system
-        self.nodes = Nodes(self.url, system.link)
-        self.lines = _Lines(self.nodes, system.now)
-        self._slot = -1
-        self._deadline, self._patience = math.inf, 0.0
+        """The server of a URL, to which a connection is made when it is first called; raises RedisError if it is no URL.
+
+        It is as `redis://host:6379/0` or `unix:///path`; the default is that of the variable BPFHOST_REDIS, or of this machine's Redis.
+        """
+        self.url, self.system = url or os.environ.get("BPFHOST_REDIS") or "redis://127.0.0.1:6379/0", system
+        self.nodes = Nodes(self.url, system)
+        self._slot, self._deadline, self._patience = -1, math.inf, 0.0
 
     def _with(self, **changed: object) -> Redis:
         # Each call has one: `copy` takes ten times as long.
@@ -126,19 +72,11 @@ class Redis:
         """The same, but if the server is away calls are repeated, each for so many seconds: only for calls that may be done twice."""
         return self._with(_deadline=deadline, _patience=seconds)
 
-    def line(self) -> Line:
-        """A connection of its own, on which commands are sent without a wait for the reply to each (`begin`)."""
-        return self.lines.taken()
-
-    async def close(self) -> None:
-        """Ends the connections."""
-        await self.lines.close()
-
     async def call(self, *words: Word, wait: float = 0.0) -> Any:
         """The reply to a command, which may block for so many seconds. Raises Away if the server can't be reached in time."""
         until, pause = min(self._deadline, self.system.now() + self._patience) if self._patience else 0.0, _PAUSE
         while True:
-            line = self.lines.taken()
+            line = self.nodes.line()
             try:
                 return await self.begin(line, words, wait)
             except Away:
@@ -149,22 +87,19 @@ class Redis:
                 line.cut()
                 raise
             finally:
-                self.lines.give_back(line)
+                self.nodes.give_back(line)
             await asyncio.sleep(pause)
             pause = min(2 * pause, _LONGEST_PAUSE)
 
     def begin(self, line: Line, words: Sequence[Word], wait: float = 0.0) -> asyncio.Future[Any]:
         """Begins a command on a line, which may block for so many seconds. The wait for it raises Away if no reply comes."""
-        seconds = wait + _SECONDS_TO_ANSWER
-        if self._deadline < math.inf:
-            seconds = max(_LEAST_SECONDS, min(seconds, self._deadline - self.system.now()))
+        seconds = max(_LEAST_SECONDS, min(wait + _SECONDS_TO_ANSWER, self._deadline - self.system.now()))
         return line.begin(words, seconds, self._slot)
 
     # Commands, by their names.
 
     async def hget(self, name: str, field: Word) -> bytes | None:
-        found: bytes | None = await self.call("HGET", name, field)
-        return found
+        return cast("bytes | None", await self.call("HGET", name, field))
 
     async def hgetall(self, name: str) -> dict[bytes, bytes]:
         return _pairs(await self.call("HGETALL", name))
@@ -205,9 +140,8 @@ def _entries(found: Sequence[Any]) -> list[Entry]:
 
 
 def xread_words(places: Mapping[str, bytes], many: int, wait: float) -> list[Word]:
-    """The arguments of XREAD."""
-    block: list[Word] = ["BLOCK", max(1, int(wait * 1000))] if wait > 0 else []
-    return ["XREAD", "COUNT", many, *block, "STREAMS", *places, *places.values()]
+    """The arguments of XREAD, which waits for entries for so many seconds."""
+    return ["XREAD", "COUNT", many, "BLOCK", max(1, int(wait * 1000)), "STREAMS", *places, *places.values()]
 
 
 def entries_of(found: Any) -> dict[str, list[Entry]]:
@@ -220,31 +154,25 @@ class Script:
 
     def __init__(self, text: str, without_memory: bool = False) -> None:
         """`without_memory` is for a script that makes room, or needs almost none: it runs even if the server has no memory left."""
-        head = f"#!lua{' flags=allow-oom' if without_memory else ''}\n"
-        # If the client waits for replicas, each script writes something: the wait covers that write, and so all that the script has read.
-        self.text, self.touching = f"{head}{text}", f"{head}redis.call('SET', KEYS[1] .. ':touched', '')\n{text}"
-        self._names = [hashlib.sha1(text.encode()).hexdigest() for text in (self.text, self.touching)]
-
-    def name(self, redis: Redis) -> str:
-        """The name by which a server knows it."""
-        return self._names[redis.nodes.replicas > 0]
+        self.text = f"#!lua{' flags=allow-oom' if without_memory else ''}\n{text}"
+        # The name by which a server knows it.
+        self.name = hashlib.sha1(self.text.encode()).hexdigest()
 
     async def __call__(self, redis: Redis, keys: Sequence[str], arguments: Sequence[Word]) -> Any:
         """The result of the script. A server that has just started does not know the script yet."""
         try:
-            return await redis.call("EVALSHA", self.name(redis), len(keys), *keys, *arguments)
+            return await redis.call("EVALSHA", self.name, len(keys), *keys, *arguments)
         except NoScript:
-            return await redis.call("EVAL", self.touching if redis.nodes.replicas else self.text, len(keys), *keys, *arguments)
+            return await redis.call("EVAL", self.text, len(keys), *keys, *arguments)
 
     def begin(self, redis: Redis, line: Line, keys: Sequence[str], arguments: Sequence[Word]) -> asyncio.Future[Any]:
         """Begins the script on a line of a server. If its reply is a NoScript, the caller calls the script once more."""
-        return redis.begin(line, ["EVALSHA", self.name(redis), len(keys), *keys, *arguments])
+        return redis.begin(line, ["EVALSHA", self.name, len(keys), *keys, *arguments])
 
 
 async def told_by(redis: Redis, section: str) -> dict[str, str]:
     """What the server reports of itself in a section of INFO."""
-    lines = bytes(await redis.call("INFO", section)).decode().splitlines()
-    return dict(line.split(":", 1) for line in lines if ":" in line)
+    return dict(line.split(":", 1) for line in bytes(await redis.call("INFO", section)).decode().splitlines() if ":" in line)
 
 
 async def demand_durable(redis: Redis) -> str:
@@ -252,23 +180,20 @@ async def demand_durable(redis: Redis) -> str:
 
     Returns a sentence on what this user may not ask for, so that it could not be checked, or an empty string.
     """
-    persistence = await told_by(redis, "persistence")
-    if persistence.get("loading") == "1":
+    said = await told_by(redis, "persistence") | await told_by(redis, "memory")
+    if said.get("loading") == "1":
         # Meanwhile it says that it has no log.
         raise Away("Redis loads its files")
-    _demand("appendonly", "yes" if persistence.get("aof_enabled") == "1" else "no", "yes")
-    _demand("maxmemory-policy", (await told_by(redis, "memory")).get("maxmemory_policy", ""), "noeviction")
+    has = {"appendonly": "yes" if said.get("aof_enabled") == "1" else "no", "maxmemory-policy": said.get("maxmemory_policy", "")}
+    unseen = ""
     try:
-        found = _pairs(await redis.call("CONFIG", "GET", "appendfsync"))
+        has["appendfsync"] = _pairs(await redis.call("CONFIG", "GET", "appendfsync")).get(b"appendfsync", b"").decode()
     except NotAllowed:
-        return "this user may not see whether appendfsync is always, as a shard's log needs: `show` of an operator tells it"
-    _demand("appendfsync", found.get(b"appendfsync", b"").decode(), "always")
-    return ""
-
-
-def _demand(name: str, has: str, wanted: str) -> None:
-    if has != wanted:
-        raise RedisError(f"Redis has {name} {has}, and a shard's log needs {wanted}: else it may lose what it has answered")
+        unseen = "this user may not see whether appendfsync is always, as a shard's log needs: `show` of an operator tells it"
+    for name, found in has.items():
+        if found != _DURABLE[name]:
+            raise RedisError(f"Redis has {name} {found}, and a shard's log needs {_DURABLE[name]}: else it may lose what it has answered")
+    return unseen
 
 
 async def demand_version(redis: Redis) -> None:

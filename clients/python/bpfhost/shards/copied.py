@@ -11,6 +11,7 @@ Only a worker whose host is a process needs this: the library saves such maps by
 from __future__ import annotations
 
 from collections.abc import Iterable, Iterator
+from contextlib import AbstractContextManager
 
 from bpfhost import frames
 from bpfhost.host import Host
@@ -31,16 +32,13 @@ _OF_MAPS = (Command.MAP_UPDATE_ELEM, Command.MAP_DELETE_ELEM)
 Asked = tuple[bytes, bytes]
 
 
-class Copy:
+class Copy(AbstractContextManager["Copy"]):
     """The copy of one tenant, on a host of its own. It is a context manager, which ends the host."""
 
     def __init__(self, host: Host | HostHere) -> None:
         self._host = host
         self._tenancy = Tenancy()
         self._numbers: dict[LiveMap | OpenProgram, int] = {}
-
-    def __enter__(self) -> Copy:
-        return self
 
     def __exit__(self, *_error: object) -> None:
         self._host.kill()

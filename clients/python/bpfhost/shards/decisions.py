@@ -45,7 +45,7 @@ class Decisions:
 
     async def _decide(self, log: Log, aside: Aside, word: str) -> None:
         """Applies a decision on a tenant that is set aside."""
-        self._suspects.forgive(log.tenant)
+        self._suspects.given_up.pop(log.tenant, None)
         if aside.kind == ENTRY:
             await self._decide_entry(log, aside, word)
         elif word == RETRY or aside.kind != LOST:
@@ -64,6 +64,6 @@ class Decisions:
             await self._writing.write([Written(log.tenant, entry, FAULT, sentence.encode(), weight(size))])
             log.place = entry
         else:
-            self._suspects.try_again(log.tenant, entry)
+            self._suspects.careful[log.tenant] = entry
         await self._tenants.forget_aside(log.tenant)
         log.aside = None

@@ -1,4 +1,8 @@
-"""The directory: the shard and the tenant number of each customer. A new customer gets the least loaded shard."""
+"""The directory: the shard and the tenant number of each customer. A new customer gets the least loaded shard.
+
+A shard and the directory know each other by a name that is made when the shard is first served. So a worker that was given another Redis, or
+whose Redis has lost its data, serves nobody: it would reply as if its customers were new.
+"""
 
 from __future__ import annotations
 
@@ -8,7 +12,7 @@ from bpfhost.numbers import MOST_TENANTS
 from bpfhost.shards import directory_scripts as scripts
 from bpfhost.shards.connection import Redis
 from bpfhost.shards.errors import MoveError, NotServed, NotTaken, OtherShard, ShardError
-from bpfhost.shards.names import PREFIX, DirectoryKeys
+from bpfhost.shards.names import PREFIX, DirectoryKeys, ShardKeys
 from bpfhost.shards.scripts import FORGET
 
 # The highest number of a shard.
@@ -93,10 +97,7 @@ class Directory:
         """Stops or resumes offering a shard to customers. Raises ShardError if the shard is not known."""
         if shard not in await self.loads():
             raise ShardError(f"the directory knows no shard {shard}")
-        if is_drained:
-            await self.redis.call("HSET", self.keys.drained, shard, "1")
-        else:
-            await self.redis.call("HDEL", self.keys.drained, shard)
+        await self.redis.call(*(["HSET", self.keys.drained, shard, "1"] if is_drained else ["HDEL", self.keys.drained, shard]))
 
     async def drained(self) -> set[int]:
         """The shards that are not offered to customers."""
@@ -180,6 +181,24 @@ _WHY_NOT_REMOVED = {
     b"customers": "it has customers: `drain` moves them away",
     b"moves": "a customer is being moved to it: `abort-move` ends that",
 }
+
+
+async def register(redis: Redis, keys: ShardKeys, directory: Directory, server: str) -> bytes:
+    """Registers a shard in the directory, after its lease is held and its Redis is known to be durable; returns its name.
+
+    Raises OtherShard if the directory knows another one by this number, or none though the shard has customers.
+    """
+    own, known = await redis.call("GET", keys.incarnation), await directory.incarnation(keys.number)
+    if own is None and known is None:
+        await redis.call("SETNX", keys.incarnation, redis.system.fresh())
+        own = await redis.call("GET", keys.incarnation)
+    elif known is None and await redis.call("EXISTS", keys.seats):
+        raise OtherShard(
+            f"shard {keys.number} has customers, and the directory knows nothing of it: it is another directory, or was told that the"
+            f" shard is removed"
+        )
+    await directory.register(keys.number, own or b"nothing", server)
+    return bytes(own or b"")
 
 
 def demand_name(name: str) -> str:

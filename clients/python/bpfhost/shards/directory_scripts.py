@@ -57,19 +57,11 @@ if ARGV[3] ~= '' then
   return {seat, ARGV[3]}
 end
 local here, given, why = string.match(seat, '^%d+')
-if ARGV[2] == '' then
-  given, why = give_of_least(here)
-  if why == 'no shards' then why = 'no other' end
-elseif ARGV[2] == here then
-  why = 'here'
-elseif not redis.call('ZSCORE', KEYS[2], ARGV[2]) then
-  why = 'no shard'
-elseif not is_offered(ARGV[2]) then
-  why = 'not served'
-else
-  given, why = give_of(ARGV[2])
-end
-if not given then return {false, why} end
+if ARGV[2] == here then return {false, 'here'} end
+if ARGV[2] ~= '' and not redis.call('ZSCORE', KEYS[2], ARGV[2]) then return {false, 'no shard'} end
+if ARGV[2] ~= '' and not is_offered(ARGV[2]) then return {false, 'not served'} end
+if ARGV[2] == '' then given, why = give_of_least(here) else given, why = give_of(ARGV[2]) end
+if not given then return {false, why == 'no shards' and 'no other' or why} end
 redis.call('HSET', KEYS[5], ARGV[1], given)
 return {seat, given}
 """)

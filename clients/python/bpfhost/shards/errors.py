@@ -23,11 +23,7 @@ class Away(RedisError):
 
 
 class Moved(RedisError):
-    """Another node of a cluster has the slot of a key, `node` by its host and port."""
-
-    def __init__(self, node: str) -> None:
-        super().__init__(f"node {node} has the key")
-        self.node = node
+    """Another node of a cluster has the slot of a key: the last word of the text is its host and port."""
 
 
 class OutOfMemory(RedisError):

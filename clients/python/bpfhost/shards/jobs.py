@@ -6,19 +6,8 @@ from bpfhost.errors import StateError
 from bpfhost.shards.agenda import Agenda
 from bpfhost.shards.aside import ENTRY, STATE, Aside
 from bpfhost.shards.calls import Arrives, Leaves
-from bpfhost.shards.errors import (
-    HOST_ENDED,
-    Away,
-    CopyDiffers,
-    LeaseLost,
-    LogChanged,
-    OutOfMemory,
-    RedisError,
-    ShardError,
-    SnapshotDamaged,
-    StateRefused,
-    Stopped,
-)
+from bpfhost.shards.errors import HOST_ENDED, Away, CopyDiffers, LeaseLost, LogChanged, OutOfMemory, RedisError
+from bpfhost.shards.errors import ShardError, SnapshotDamaged, StateRefused, Stopped
 from bpfhost.shards.keeping import Keeping
 from bpfhost.shards.log import Log, Since
 from bpfhost.shards.manifest import Manifest
@@ -38,9 +27,12 @@ _SECONDS_BESIDE = 0.01
 class Jobs:
     """Does the jobs of one shard."""
 
-    def __init__(self, agenda: Agenda, states: States, suspects: Suspects, failed: set[int], patience: Patience) -> None:
-        """The tenants of which no snapshot can be taken for now are added to `failed`."""
-        self._agenda, self._states, self._suspects, self._failed, self._patience = agenda, states, suspects, failed, patience
+    def __init__(
+        self, serving: Serving, tenants: Tenants, agenda: Agenda, keeping: Keeping, writing: Writing, states: States, suspects: Suspects,
+        patience: Patience,
+    ) -> None:
+        self._serving, self._tenants, self._agenda, self._keeping, self._writing = serving, tenants, agenda, keeping, writing
+        self._states, self._suspects, self._patience = states, suspects, patience
 
     async def do_some(self) -> None:
         """Does some steps of the first job. A job that Redis or the host interrupted begins anew when it is due again."""
@@ -64,7 +56,7 @@ class Jobs:
                 raise
             except (ShardError, StateError) as error:
                 agenda.end(tenant)
-                self._failed.add(tenant)
+                self._keeping.failed.add(tenant)
                 patience.tell(f"shard {patience.shard}, tenant {tenant}: no snapshot can be taken: {error}")
             if now() >= until:
                 return
@@ -78,15 +70,7 @@ class Jobs:
             return False
         return True
 
-
-class Moving:
-    """Lets tenants of one shard leave and arrive."""
-
-    def __init__(
-        self, serving: Serving, tenants: Tenants, agenda: Agenda, keeping: Keeping, writing: Writing, suspects: Suspects
-    ) -> None:
-        self._serving, self._tenants, self._agenda = serving, tenants, agenda
-        self._keeping, self._writing, self._suspects = keeping, writing, suspects
+    # Tenants that leave and arrive.
 
     async def begin(self, item: Leaves | Arrives) -> None:
         """Lets a tenant leave or arrive, before all other jobs."""
@@ -103,7 +87,7 @@ class Moving:
                 await self._tenants.set_aside(log, Aside(STATE, item.entry.decode(), f"the tenant can't leave: {error}"))
                 return
             self._serving.empty(item.tenant)
-            await self._writing.write_left(log, item, manifest, self._keeping.empty(item.entry))
+            await self._writing.write_move(log, item, self._keeping.empty(item.entry), manifest)
         elif not await self._arrive(log, item):
             return
         log.place, log.since = item.entry, Since()
@@ -129,5 +113,5 @@ class Moving:
             sentence = f"what arrives at shard {self._writing.keys.number} is refused: {error}"
             await self._writing.write([Written(item.tenant, item.entry, FAULT, sentence.encode())])
         else:
-            await self._writing.write_arrived(log, item, manifest.at(item.entry))
+            await self._writing.write_move(log, item, manifest.at(item.entry))
         return True

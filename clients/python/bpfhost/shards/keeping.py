@@ -11,7 +11,8 @@ from collections.abc import Callable, Sequence
 
 from bpfhost.shards import scripts
 from bpfhost.shards.client import NAMELESS
-from bpfhost.shards.log import Log, Mark, Since
+from bpfhost.shards.connection import told_by
+from bpfhost.shards.log import Log, Since
 from bpfhost.shards.manifest import PIECE, Manifest
 from bpfhost.shards.metrics import Told
 from bpfhost.shards.names import START, after, order
@@ -28,11 +29,6 @@ _LOOKS = 8
 _MARKS = 32
 SECONDS_OF_SESSIONS = 86_400.0
 _LEAST_SECONDS, _SECONDS_TO_SETTLE = 1.0, 3.0
-
-
-def _age(marked: tuple[Mark, Log]) -> tuple[float, tuple[int, int]]:
-    """The order of the marks of several tenants, the oldest first."""
-    return marked[0].served, order(marked[0].place)
 
 
 class Keeping:
@@ -162,11 +158,12 @@ class Keeping:
     def _drop_oldest(self, logs: Sequence[Log], most: int) -> None:
         """Notes which replies of some tenants are to be dropped, so that they have at most so many bytes."""
         too_many = sum(log.kept_size() for log in logs) - most
-        for one, log in sorted(((one, log) for log in logs for one in log.marks), key=_age) if too_many > 0 else ():
+        marks = [(one.served, order(one.place), one, log.tenant) for log in logs for one in log.marks] if too_many > 0 else []
+        for _, _, one, tenant in sorted(marks, key=lambda mark: mark[:2]):
             if too_many <= 0:
                 break
             too_many -= one.size
-            self._drop_by_bytes[log.tenant] = max(self._drop_by_bytes.get(log.tenant, START), one.place, key=order)
+            self._drop_by_bytes[tenant] = max(self._drop_by_bytes.get(tenant, START), one.place, key=order)
 
     def is_due_to_look(self) -> bool:
         """Whether it is time to check what waits, and the server's memory."""
@@ -177,16 +174,18 @@ class Keeping:
         return True
 
     async def look_at_waiting(self, logs: Sequence[Log], busy: set[int]) -> None:
-        """Checks whether something is recorded as waiting though nothing waits."""
+        """Records that nothing waits, if the recorded weight still counts what others dropped."""
         weights = await self._redis.hgetall(self._keys.waiting)
         self._metrics.set("bpfhost_worker_waiting_bytes", sum(map(int, weights.values())))
         for tenant, weight in weights.items():
-            if weight != b"0" and int(tenant) not in busy:
-                await logs[int(tenant)].settle(self._writing.note)
+            log = logs[int(tenant)]
+            if weight != b"0" and log.tenant not in busy and not await self._redis.xrange(log.frames, after(log.place), b"+", 1):
+                await self._writing.note(self._keys.waiting, log.tenant, b"0")
 
     async def memory(self) -> tuple[int, int]:
-        """The memory that the server uses, and the most that it may use (`Writing.memory`)."""
-        used, most = await self._writing.memory()
+        """The memory that the server uses, and the most that it may use, in bytes: 0 if there is no such limit."""
+        said = await told_by(self._redis, "memory")
+        used, most = int(said["used_memory"]), int(said["maxmemory"])
         self._metrics.set("bpfhost_worker_redis_memory_bytes", used)
         self._metrics.set("bpfhost_worker_redis_memory_most_bytes", most)
         return used, most

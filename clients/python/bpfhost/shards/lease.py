@@ -118,7 +118,7 @@ class Lease:
 
     async def release(self) -> None:
         """Releases the lease, so that another worker need not wait."""
-        await scripts.RELEASE(self._redis, [self._keys.lease], [self.token])
+        await scripts.FORGET(self._redis, [self._keys.lease], ["token", self.token])
 
     async def lost(self) -> LeaseLost:
         """The error to raise if the lease is not this worker's any more."""

@@ -7,6 +7,7 @@ test runs of one program that are alike.
 from __future__ import annotations
 
 import ctypes
+import functools
 import os
 import shutil
 from array import array
@@ -28,6 +29,8 @@ from bpfhost.state import Steps, split, with_tenant
 SONAME = f"libbpfhost.so.{VERSION}"
 # The size of the buffer for replies in bytes.
 _ROOM = 1 << 16
+# The reply to a successful test run, of tenant 0, without its result.
+_REPLY = Reply(0, Command.PROG_TEST_RUN, 0, bytes(4)).to_bytes()
 
 
 def find_library(named: str | None, program: Program) -> Library | None:
@@ -61,11 +64,9 @@ class HostHere(LibraryHost):
         super().__init__(library, tenants)
         self._answers = bytearray(_ROOM)
         self._answers_at = _address_of(self._answers)
-        self._ends: dict[tuple[int, int], array[int]] = {}
 
-    def kill(self) -> None:
-        """Ends the host and frees its memory."""
-        self.close()
+    # Ends the host and frees its memory.
+    kill = LibraryHost.close
 
     def save(self, tenant: int) -> Steps[bytes]:
         """The frames that restore a tenant, which name tenant 0, in steps: one for each part of the save (docs/EMBEDDING.md).
@@ -121,16 +122,14 @@ class HostHere(LibraryHost):
         size, packets = size_of_packet(runs), runs[BEFORE_PACKET:]
         many = len(packets) // size
         context = (runs[12:BEFORE_PACKET], CONTEXT_WORDS, CONTEXT_WORDS)
-        status, results = self._run(tenant, int.from_bytes(runs[8:12], "little"), context, packets, self._ends_of(size, many))
+        status, results = self._run(tenant, int.from_bytes(runs[8:12], "little"), context, packets, _ends_of(size, many))
         return b"" if status else _results(results.tobytes(), many)
 
-    def _ends_of(self, size: int, many: int) -> array[int]:
-        """The offsets at which packets of one size end."""
-        if (size, many) not in self._ends:
-            if len(self._ends) >= 64:
-                self._ends.clear()
-            self._ends[size, many] = array("Q", range(size, size * many + 1, size))
-        return self._ends[size, many]
+
+@functools.lru_cache(64)
+def _ends_of(size: int, many: int) -> array[int]:
+    """The offsets at which packets of one size end."""
+    return array("Q", range(size, size * many + 1, size))
 
 
 def _address_of(data: bytearray) -> int:
@@ -140,8 +139,7 @@ def _address_of(data: bytearray) -> int:
 
 def _results(results: bytes, many: int) -> bytes:
     """The replies to successful test runs, of tenant 0."""
-    head = Reply(0, Command.PROG_TEST_RUN, 0, bytes(4)).to_bytes()
-    replies = bytearray(head * many)
+    replies = bytearray(_REPLY * many)
     for at in range(4):
-        replies[REPLY_HEAD + at :: len(head)] = results[at::4]
+        replies[REPLY_HEAD + at :: len(_REPLY)] = results[at::4]
     return bytes(replies)

@@ -18,17 +18,19 @@ from bpfhost.shards.errors import Away, Moved, NoScript, NotAllowed, OutOfMemory
 # An argument of a Redis command: bytes, a text or a number.
 Word = object
 
-_SECONDS_TO_CONNECT = 5.0
 # A read of the system allocates nothing: for the 256 KiB that asyncio asks for by itself it would map memory each time.
-_READ_AT_ONCE = 1 << 16
+_SECONDS_TO_CONNECT, _READ_AT_ONCE = 5.0, 1 << 16
 # A connection over a network that is gone ends by itself: if probes, or what was sent, are not acknowledged for some seconds. Linux's
 # TCP_USER_TIMEOUT has no name in the types of the standard library.
-_WATCHED = {"TCP_KEEPIDLE": 4, "TCP_KEEPINTVL": 2, "TCP_KEEPCNT": 3, "TCP_USER_TIMEOUT": 10_000}
+_OF_TCP = {"TCP_KEEPIDLE": 4, "TCP_KEEPINTVL": 2, "TCP_KEEPCNT": 3, "TCP_USER_TIMEOUT": 10_000}
+_WATCHED = [(socket.IPPROTO_TCP, getattr(socket, name), value) for name, value in _OF_TCP.items() if hasattr(socket, name)]
+_WATCHED += [(socket.SOL_SOCKET, socket.SO_KEEPALIVE, 1)]
 _LONGEST_NAME, _SILENT = 64, "it does not answer in time"
 # What Redis's errors begin with, and what is raised. With those of the second kind a server, or its cluster, can't run a command now, and
 # has run nothing of it.
 _ERRORS: tuple[tuple[str, type[RedisError], str], ...] = (
     ("NOSCRIPT", NoScript, "Redis does not have the script yet"),
+    ("MOVED ", Moved, "another node of the cluster has the slot: {rest}"),
     (r"(NOREPLICAS|UNBLOCKED|CLUSTERDOWN|MASTERDOWN|TRYAGAIN|ASK|LOADING|READONLY)\b", Away, "Redis can't do it just now: {said}"),
     ("NOAUTH|WRONGPASS|.* .*AUTH", RedisError, "Redis does not know this user, or not by this password: {rest}"),
     ("NOPERM", NotAllowed, "Redis refuses a command to this user: {rest}"),
@@ -51,11 +53,8 @@ def library(name: str) -> Any:
 
 def _error(said: str) -> RedisError:
     """An error that Redis replies."""
-    rest = said.partition(" ")[2]
-    if said.startswith("MOVED "):
-        return Moved(rest.split()[1])
     kind, sentence = next((kind, sentence) for begins, kind, sentence in _ERRORS if re.match(begins, said))
-    return kind(sentence.format(said=said.removeprefix("ERR "), rest=rest))
+    return kind(sentence.format(said=said.removeprefix("ERR "), rest=said.partition(" ")[2]))
 
 
 def packed(words: Sequence[Word]) -> bytes:
@@ -81,9 +80,8 @@ class RedisLink(asyncio.BufferedProtocol):
 
     transport: asyncio.Transport | None = None
     _timer: asyncio.TimerHandle | None = None
-    is_over = False
-    # Whether the history that its server reports was looked at (`cluster`).
-    is_checked = False
+    # Whether it has ended; whether the history that its server reports was looked at (`cluster`).
+    is_over = is_checked = False
 
     def __init__(self, **words: Any) -> None:
         """The arguments are those of the library's class."""
@@ -110,9 +108,12 @@ class RedisLink(asyncio.BufferedProtocol):
         try:
             async with asyncio.timeout(_SECONDS_TO_CONNECT):
                 if path := getattr(self, "path", None):
-                    await self._loop.create_unix_connection(lambda: self, path)
+                    self.transport, _ = await self._loop.create_unix_connection(lambda: self, path)
                 else:
-                    await self._loop.create_connection(lambda: self, self.host, self.port, ssl=self.ssl_context and self.ssl_context.get())
+                    tls = self.ssl_context and self.ssl_context.get()
+                    self.transport, _ = await self._loop.create_connection(lambda: self, self.host, self.port, ssl=tls)
+                    for level, option, value in _WATCHED:
+                        self.transport.get_extra_info("socket").setsockopt(level, option, value)
                 await self.on_connect()
         except Exception as error:
             self.cut(error)
@@ -141,8 +142,6 @@ class RedisLink(asyncio.BufferedProtocol):
 
     def cut(self, error: Exception = OSError("the connection was cut")) -> None:
         """Ends the connection: no more replies come to what was sent."""
-        if self.is_over:
-            return
         self.is_over = True
         self._opening.cancel()
         if self.transport:
@@ -156,13 +155,6 @@ class RedisLink(asyncio.BufferedProtocol):
 
     # What the event loop calls.
 
-    def connection_made(self, transport: asyncio.BaseTransport) -> None:
-        self.transport = cast(asyncio.Transport, transport)
-        made = transport.get_extra_info("socket")
-        for name, value in {"SO_KEEPALIVE": 1, **_WATCHED}.items() if made.family != socket.AF_UNIX else ():
-            if hasattr(socket, name):
-                made.setsockopt(socket.IPPROTO_TCP if name.startswith("TCP") else socket.SOL_SOCKET, getattr(socket, name), value)
-
     def get_buffer(self, sizehint: int) -> bytearray:
         return self._read
 
@@ -172,10 +164,8 @@ class RedisLink(asyncio.BufferedProtocol):
             replies.feed(self._read, 0, nbytes)
             while (reply := replies.gets()) is not False:
                 waits, _ = self._waiting.popleft()
-                if isinstance(reply, RedisError) and not waits.done():
-                    waits.set_exception(reply)
-                elif not waits.done():
-                    waits.set_result(reply)
+                if not waits.done():
+                    (waits.set_exception if isinstance(reply, RedisError) else waits.set_result)(reply)
         except (RedisError, IndexError):
             self.cut(OSError("what answers is no Redis"))
 

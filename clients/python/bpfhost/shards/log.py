@@ -3,7 +3,7 @@
 from __future__ import annotations
 
 import hashlib
-from collections.abc import AsyncIterator, Callable
+from collections.abc import AsyncIterator
 from dataclasses import dataclass, field
 
 from bpfhost.shards.aside import Aside
@@ -14,7 +14,6 @@ from bpfhost.shards.errors import ShardError, SnapshotDamaged
 from bpfhost.shards.manifest import Manifest
 from bpfhost.shards.names import REPLIES, START, ShardKeys, after, order
 from bpfhost.shards.steps import step
-from bpfhost.shards.system import Work
 from bpfhost.state import split
 
 _READ_AT_ONCE = 64
@@ -91,10 +90,6 @@ class Log:
     def replies(self) -> str:
         return self.keys.replies(self.tenant)
 
-    async def last(self) -> bytes:
-        """The last entry that has a reply."""
-        return await self.redis.last_id(self.replies)
-
     async def manifests(self) -> list[Manifest]:
         """The snapshots, the last one first; damaged ones are left out."""
         found = []
@@ -113,11 +108,6 @@ class Log:
         if order(dropped) <= order(place) or order(last) <= order(place):
             return True
         return not await self.redis.xrange(self.replies, after(place), min(dropped, last, key=order), 1)
-
-    async def settle(self, note: Callable[[str, int, bytes], Work[None]]) -> None:
-        """If nothing waits, records that: the recorded weight still counts what others dropped."""
-        if not await self.redis.xrange(self.frames, after(self.place), b"+", 1):
-            await note(self.keys.waiting, self.tenant, b"0")
 
     async def stream_of(self, manifest: Manifest) -> bytes:
         """The frames of a snapshot, in steps.

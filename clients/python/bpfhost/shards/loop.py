@@ -22,6 +22,16 @@ class _Selector(selectors.DefaultSelector):
         return super().select(timeout)
 
 
-def new_loop() -> asyncio.AbstractEventLoop:
-    """Such a loop: a call of Redis takes four rounds, and now one question to the system in place of four."""
-    return asyncio.SelectorEventLoop(_Selector())
+class RoundsLoop(asyncio.SelectorEventLoop):
+    """Such a loop: a call of Redis takes four rounds, and now one question to the system in place of four.
+
+    A caller that needs only one result runs it round by round: `run_forever` would need a further round to end.
+    """
+
+    # asyncio has no public name for one round.
+    run_round = asyncio.SelectorEventLoop._run_once  # type: ignore[attr-defined]
+
+
+def new_loop() -> RoundsLoop:
+    """A new loop."""
+    return RoundsLoop(_Selector())

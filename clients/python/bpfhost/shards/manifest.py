@@ -9,12 +9,14 @@ from __future__ import annotations
 import hashlib
 import json
 from dataclasses import asdict, dataclass, replace
+from pathlib import Path
 
+from bpfhost.program import Program
 from bpfhost.shards.errors import SnapshotDamaged
 
 VERSION = 1
-PIECE = 1 << 18
-_LARGEST = 1 << 32
+PIECE, _LARGEST = 1 << 18, 1 << 32
+_DIGITS = 16
 
 
 @dataclass(frozen=True)
@@ -62,3 +64,11 @@ class Manifest:
     def names(self) -> list[str]:
         """The names of its pieces."""
         return [f"{self.name}:{at}" for at in range((self.size + PIECE - 1) // PIECE)]
+
+
+def build_of(program: Program) -> str:
+    """A name of the program's bytes, the same for the same build of bpfhost; empty if they can't be read."""
+    try:
+        return hashlib.sha256(Path(program).read_bytes()).hexdigest()[:_DIGITS]
+    except OSError:
+        return ""

@@ -6,7 +6,7 @@ import asyncio
 from collections.abc import Callable
 
 from bpfhost.shards.connection import Redis
-from bpfhost.shards.errors import Away, LogChanged, Stopped
+from bpfhost.shards.errors import Away, LogChanged, RedisError, Stopped
 from bpfhost.shards.system import Answer, Work
 
 _SECONDS_TO_TELL = 30.0
@@ -41,10 +41,10 @@ class Patience:
                 await self.wait_for_redis(away, pause)
             pause = min(2 * pause, LONGEST_PAUSE)
 
-    async def wait_for_redis(self, away: Away, pause: float = _PAUSE) -> None:
-        """Waits a little for a Redis that is away, and reports that now and then; raises Stopped if the worker is stopped."""
+    async def wait_for_redis(self, error: RedisError, pause: float = _PAUSE) -> None:
+        """Waits a little for a Redis that is away or full, and reports that now and then; raises Stopped if the worker is stopped."""
         self.demand_same_log()
-        self.tell_now_and_then(f"shard {self.shard} waits: {away}")
+        self.tell_now_and_then(f"shard {self.shard} waits: {error}")
         if self.is_stopped():
             raise Stopped(f"shard {self.shard} waited for its Redis")
         await asyncio.sleep(pause)

@@ -8,7 +8,6 @@ from __future__ import annotations
 
 import asyncio
 from collections.abc import Callable, Sequence
-from typing import Any
 
 from bpfhost.shards.answering import Answering, Played
 from bpfhost.shards.calls import Arrives, Call, Leaves, NoCall
@@ -27,13 +26,7 @@ class Playing:
     """Plays the calls of one shard."""
 
     def __init__(
-        self,
-        serving: Serving,
-        reading: Reading,
-        answering: Answering,
-        suspects: Suspects,
-        system: System,
-        metrics: Told,
+        self, serving: Serving, reading: Reading, answering: Answering, suspects: Suspects, system: System, metrics: Told,
         came: asyncio.Event,
     ) -> None:
         """The event is set when something has come."""
@@ -65,17 +58,14 @@ class Playing:
         timer = asyncio.get_running_loop().call_later(seconds, self._came.set)
         while True:
             # If no more batches can be sent, what comes meanwhile is taken together.
-            await self._until_one(self._answering.first() if self._answering.is_full() else [*asked, *self._answering.first()], until)
+            tasks = self._answering.first() if self._answering.is_full() else [*asked, *self._answering.first()]
+            while not any(task.done() for task in tasks) and self._system.now() < until:
+                self._came.clear()
+                await self._came.wait()
             await self._answering.look()
             if any(task.done() for task in asked) or self._system.now() >= until or is_due():
                 break
         timer.cancel()
-
-    async def _until_one(self, tasks: Sequence[asyncio.Future[Any]], until: float) -> None:
-        """Waits until one of these is done, or until a time, at which the worker is woken."""
-        while not any(task.done() for task in tasks) and self._system.now() < until:
-            self._came.clear()
-            await self._came.wait()
 
     async def play(self) -> list[Leaves | Arrives]:
         """Plays the calls that have come, and returns the other entries."""
@@ -90,7 +80,7 @@ class Playing:
     async def _play(self, calls: Sequence[Call | NoCall]) -> None:
         """Plays calls, and writes their replies; one at a time if one of them may have ended a host."""
         self._reading.taken(calls)
-        if self._suspects.are_there:
+        if self._suspects.careful:
             await self.settle()
             for call in calls:
                 if not await self._played([call]):

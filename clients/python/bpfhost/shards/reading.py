@@ -44,20 +44,14 @@ class Reading:
     """Reads one shard."""
 
     def __init__(
-        self,
-        redis: Redis,
-        keys: ShardKeys,
-        tenants: Tenants,
-        busy: set[int],
-        patience: Patience,
-        settings: Settings,
+        self, redis: Redis, keys: ShardKeys, tenants: Tenants, busy: set[int], patience: Patience, settings: Settings,
         wake: Callable[[object], None],
     ) -> None:
         """Tenants that are busy are not read; `wake` is called when something has come."""
         self._redis, self._tenants, self._busy, self._patience = redis, tenants, busy, patience
         self._settings, self._wake = settings, wake
         lanes = settings.lanes
-        self._lanes = [_Lane(redis.line(), keys, range(at, MOST_TENANTS, lanes)) for at in range(lanes)]
+        self._lanes = [_Lane(redis.nodes.line(), keys, range(at, MOST_TENANTS, lanes)) for at in range(lanes)]
         # The ids up to which tenants were read whose replies are not written yet.
         self._read_to: dict[int, bytes] = {}
 
@@ -109,12 +103,15 @@ class Reading:
             lane.task.add_done_callback(self._wake)
 
     async def shares(self) -> list[list[Item]]:
-        """What each tenant has in this turn: calls, or one entry that is no call."""
+        """What each tenant has in this turn: calls, or one entry that is no call. Waits a little if Redis is away."""
         found: list[list[Item]] = []
         for lane in self._lanes:
             if lane.task and lane.task.done():
                 task, lane.task = lane.task, None
-                found += self._shares(lane, await self._found(task))
+                try:
+                    found += self._shares(lane, entries_of(await task))
+                except Away as away:
+                    await self._patience.wait_for_redis(away)
         return found
 
     def _shares(self, lane: _Lane, found: dict[str, list[Entry]]) -> Iterator[list[Item]]:
@@ -128,14 +125,6 @@ class Reading:
             most = max([most, *(item.count for item in items if isinstance(item, Call))])
             yield share_of(items)
         lane.at_once = max(1, min(_MOST_READ, TURN_FRAMES // most))
-
-    async def _found(self, task: asyncio.Future[Any]) -> dict[str, list[Entry]]:
-        """The entries that have come; empty if Redis is away, and then the worker waits for it."""
-        try:
-            return entries_of(await task)
-        except Away as away:
-            await self._patience.wait_for_redis(away)
-            return {}
 
 
 def share_of(items: Sequence[Item]) -> list[Item]:

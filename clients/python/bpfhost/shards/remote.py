@@ -68,15 +68,11 @@ class _Broken(Exception):
     """The connection has ended; the text is the reason."""
 
 
-class GatewayCustomer(Asking):
+class GatewayCustomer(Asking, contextlib.AbstractContextManager["GatewayCustomer"]):
     """Sends the calls of one customer; only one thread may use it. It is a context manager, which closes its connection."""
 
     def __init__(
-        self,
-        addresses: Sequence[str],
-        token: str | None = None,
-        session: str | None = None,
-        tls: CustomerTls | None = None,
+        self, addresses: Sequence[str], token: str | None = None, session: str | None = None, tls: CustomerTls | None = None,
         seconds: float = SECONDS,
     ) -> None:
         """Gateways, as `host:port` or `unix:PATH`, one of which is used.
@@ -96,9 +92,6 @@ class GatewayCustomer(Asking):
         self._open: collections.deque[Posted] = collections.deque()
         self._unanswered = self._size = 0
         self._out = bytearray()
-
-    def __enter__(self) -> GatewayCustomer:
-        return self
 
     def __exit__(self, *_error: object) -> None:
         self.close()

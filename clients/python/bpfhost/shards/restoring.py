@@ -3,7 +3,7 @@
 from __future__ import annotations
 
 from bpfhost.shards.aside import DIFFERS, LOST, STATE, Aside
-from bpfhost.shards.calls import Arrives, Call, Item, Leaves, NoCall, item_of, size_of
+from bpfhost.shards.calls import Arrives, Call, Leaves, NoCall, item_of, size_of
 from bpfhost.shards.errors import RepliesDiffer, SnapshotDamaged, StateRefused
 from bpfhost.shards.log import Log, Replies, Since
 from bpfhost.shards.manifest import Manifest
@@ -19,7 +19,7 @@ async def restored(serving: Serving, log: Log, accepts: bool = False) -> tuple[s
     written ones are ignored.
     """
     await log.read_marks()
-    last = await log.last()
+    last = await log.redis.last_id(log.replies)
     try:
         return await _from_best(serving, log, last, accepts), None
     except RepliesDiffer as error:
@@ -103,11 +103,9 @@ async def _play_control(serving: Serving, log: Log, item: Leaves | Arrives) -> N
         await in_steps(serving.make(log.tenant, await log.stream_of(Manifest.read(item.manifest))))
 
 
-def _play(serving: Serving, log: Log, item: Item, replies: Replies, accepts: bool) -> None:
+def _play(serving: Serving, log: Log, item: Call | NoCall, replies: Replies, accepts: bool) -> None:
     """Plays a call again; raises RepliesDiffer if the reply differs."""
     was = replies.get(item.entry)
-    if not isinstance(item, (Call, NoCall)):
-        return
     if was is not None and FAULT in was:
         # It was skipped, or is no call.
         return

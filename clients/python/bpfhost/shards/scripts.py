@@ -179,11 +179,6 @@ redis.call('HINCRBY', KEYS[1], 'served', ARGV[2])
 return redis.call('HINCRBY', KEYS[1], 'count', 1)
 """, without_memory=True)
 
-# Releases a lease. KEYS: lease. ARGV: token.
-RELEASE = Script(_UNDER_LEASE + """
-return redis.call('HDEL', KEYS[1], 'token')
-""", without_memory=True)
-
 # Writes replies of some tenants under the ids of their frames; once, even if it is called twice. If earlier replies are still being
 # written, the arguments name them: if they are missing, nothing is written, so that no reply is stored before an earlier one.
 # KEYS: lease, waiting, then the replies of each tenant. ARGV: token, then for each tenant its number, the weight of the calls, how many
@@ -208,26 +203,15 @@ end
 return 1
 """)
 
-# Writes the reply to an entry with which a tenant leaves or arrives, once, and drops the snapshot before its last one.
-# KEYS: lease, replies, snapshots, .. ARGV: token, entry, tenant, ..
-_ONCE = _UNDER_LEASE + """
+# Writes the reply to an entry with which a tenant leaves or arrives, once, and its last snapshot: that of no state, or of the state that it
+# came with. The snapshot before it is dropped. If the tenant has left, its state is kept under its generation.
+# KEYS: lease, replies, snapshots, and left if it has left. ARGV: token, entry, tenant, manifest, and generation and manifest of what is left.
+WRITE_MOVE = Script(_UNDER_LEASE + """
 if #redis.call('XRANGE', KEYS[2], ARGV[2], ARGV[2]) > 0 then return 1 end
 redis.call('XADD', KEYS[2], ARGV[2], 'r', '')
 redis.call('HDEL', KEYS[3], ARGV[3] .. ':before')
-"""
-
-# Writes that a tenant has left: its state is kept under its generation, and the tenant is empty from this entry on.
-# KEYS: lease, replies, snapshots, left. ARGV: token, entry, tenant, generation, manifest of the state, manifest of no state.
-WRITE_LEFT = Script(_ONCE + """
-redis.call('HSET', KEYS[4], ARGV[4], ARGV[5])
-redis.call('HSET', KEYS[3], ARGV[3], ARGV[6])
-return 1
-""")
-
-# Writes that a tenant has arrived: the state that it came with is its last snapshot.
-# KEYS: lease, replies, snapshots. ARGV: token, entry, tenant, manifest.
-WRITE_ARRIVED = Script(_ONCE + """
 redis.call('HSET', KEYS[3], ARGV[3], ARGV[4])
+if KEYS[4] then redis.call('HSET', KEYS[4], ARGV[5], ARGV[6]) end
 return 1
 """)
 
@@ -267,17 +251,4 @@ SAY = Script("""
 if redis.call('HGET', KEYS[1], ARGV[1]) ~= ARGV[2] then return 0 end
 redis.call('HSET', KEYS[2], ARGV[1], ARGV[3])
 return 1
-""", without_memory=True)
-
-# The name of a shard, which is made when it is first served. KEYS: incarnation. ARGV: name.
-BE_MADE = Script("""
-redis.call('SETNX', KEYS[1], ARGV[1])
-return redis.call('GET', KEYS[1])
-""")
-
-# Which keys exist, as 1 and 0. KEYS: any.
-ARE_THERE = Script("""
-local found = {}
-for at, key in ipairs(KEYS) do found[at] = redis.call('EXISTS', key) end
-return found
 """, without_memory=True)

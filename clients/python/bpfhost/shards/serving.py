@@ -54,11 +54,7 @@ class Serving:
     """
 
     def __init__(
-        self,
-        program: Program,
-        system: System,
-        alive: Callable[[], None] = lambda: None,
-        library: Library | None = None,
+        self, program: Program, system: System, alive: Callable[[], None] = lambda: None, library: Library | None = None,
         most_asked: int = MOST_ASKED,
     ) -> None:
         """With a library the host is in this process, otherwise it is a separate process. It is sent so many frames at most."""

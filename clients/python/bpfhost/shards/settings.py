@@ -18,8 +18,8 @@ class Settings:
 
     These are the seconds of its lease; how many calls, frames, or bytes of frames and replies, a starting worker plays again at most, in
     all of its tenants (a snapshot is taken of the tenant that has most of them); for how long replies are kept for those that have not
-    read them, and how many bytes of them at most, of all customers and of one, the oldest dropped first; how many frames a host is sent before another one is started
-    with the same state; how long snapshots are taken at the end; and in how many lanes streams are read.
+    read them, and how many bytes of them at most, of all customers and of one, the oldest dropped first; how many frames a host is sent
+    before another one is started with the same state; how long snapshots are taken at the end; and in how many lanes streams are read.
     """
 
     lease_seconds: float = SECONDS

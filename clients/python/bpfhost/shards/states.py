@@ -67,7 +67,7 @@ class States:
         if ended < MOST_TRIES:
             await at_once(self.make(log))
             return
-        log.place = await log.last()
+        log.place = await log.redis.last_id(log.replies)
         sentence = f"the state of tenant {log.tenant} ended the host {MOST_TRIES} times"
         await self._tenants.set_aside(log, Aside(STATE, after(log.place).decode(), sentence))
 

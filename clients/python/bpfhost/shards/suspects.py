@@ -2,6 +2,7 @@
 
 from __future__ import annotations
 
+from collections import Counter
 from collections.abc import Sequence
 
 from bpfhost.shards.aside import ENTRY, MOST_TRIES, Aside
@@ -19,23 +20,19 @@ class Suspects:
     def __init__(self, tenants: Tenants, states: States, failed: set[int], patience: Patience) -> None:
         """The tenants without snapshots for now are added to `failed`."""
         self._tenants, self._states, self._failed, self._patience = tenants, states, failed, patience
-        # How often each entry, or job after a place, was tried; and the entry of each tenant that has to be played by itself.
-        self._tries: dict[tuple[int, bytes], int] = {}
-        self._careful: dict[int, bytes] = {}
+        # How often each entry, or job after a place, was tried; and the entry of each tenant that has to be played by itself: while there
+        # is one, calls are played one at a time.
+        self._tries = Counter[tuple[int, bytes]]()
+        self.careful: dict[int, bytes] = {}
         # Tenants with a job that ended hosts, and their places then.
-        self._given_up: dict[int, bytes] = {}
-
-    @property
-    def are_there(self) -> bool:
-        """Whether calls have to be played one at a time."""
-        return bool(self._careful)
+        self.given_up: dict[int, bytes] = {}
 
     async def host_has_ended(self, suspects: Sequence[Call | NoCall], error: Exception) -> None:
         """Notes the entries that may have ended the host, sets an entry aside that has done so three times, and starts another host."""
         for call in suspects:
             key = call.tenant, call.entry
-            self._tries[key] = self._tries.get(key, 0) + 1
-            self._careful.setdefault(call.tenant, call.entry)
+            self._tries[key] += 1
+            self.careful.setdefault(call.tenant, call.entry)
         self._patience.tell_of_host(error)
         await self._states.make_all()
         if len(suspects) == 1 and self._tries[suspects[0].tenant, suspects[0].entry] >= MOST_TRIES:
@@ -43,20 +40,16 @@ class Suspects:
 
     async def _give_up(self, call: Call | NoCall, error: Exception) -> None:
         log, entry = self._tenants.logs[call.tenant], call.entry.decode()
-        self._careful.pop(call.tenant, None)
+        self.careful.pop(call.tenant, None)
         self._tries.pop((call.tenant, call.entry), None)
         aside = Aside(ENTRY, entry, f"entry {entry} of shard {self._patience.shard} ended the host {MOST_TRIES} times: {error}")
         await self._patience.waiting(lambda: self._tenants.set_aside(log, aside))
 
     def is_answered(self, tenant: int, entry: bytes) -> None:
         """Notes that an entry did not end the host."""
-        if self._careful.get(tenant) == entry:
-            del self._careful[tenant]
+        if self.careful.get(tenant) == entry:
+            del self.careful[tenant]
             self._tries.pop((tenant, entry), None)
-
-    def try_again(self, tenant: int, entry: bytes) -> None:
-        """Lets an entry that was set aside be played by itself."""
-        self._careful[tenant] = entry
 
     async def job_ended_host(self, tenant: int, error: Exception) -> None:
         """Starts another host. A job that ended the host three times is given up.
@@ -65,19 +58,15 @@ class Suspects:
         """
         place = self._tenants.logs[tenant].place
         key = tenant, b"behind " + place
-        self._tries[key] = self._tries.get(key, 0) + 1
+        self._tries[key] += 1
         self._patience.tell_of_host(error)
         await self._states.make_all()
         if self._tries[key] >= MOST_TRIES:
             del self._tries[key]
             self._failed.add(tenant)
-            self._given_up[tenant] = place
-
-    def forgive(self, tenant: int) -> None:
-        """Lets jobs of a tenant be tried again."""
-        self._given_up.pop(tenant, None)
+            self.given_up[tenant] = place
 
     def demand_hope(self, log: Log) -> None:
         """Raises StateRefused if a job of the tenant was given up, and the tenant has no new entries since."""
-        if self._given_up.get(log.tenant) == log.place:
+        if self.given_up.get(log.tenant) == log.place:
             raise StateRefused(f"it ended the host {MOST_TRIES} times")

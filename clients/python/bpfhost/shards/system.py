@@ -7,7 +7,7 @@ from __future__ import annotations
 
 import time
 import uuid
-from collections.abc import Coroutine
+from collections.abc import Callable, Coroutine
 from typing import Any, TypeVar
 
 from bpfhost.host import Host
@@ -22,8 +22,7 @@ Work = Coroutine[Any, Any, Answer]
 class System:
     """This machine. Its clock is monotonic, and no other machine's."""
 
-    def now(self) -> float:
-        return time.monotonic()
+    now: Callable[[], float] = time.monotonic
 
     def link(self, kind: type[RedisLink], words: dict[str, Any]) -> RedisLink:
         return kind(**words)

@@ -5,10 +5,12 @@ from __future__ import annotations
 from collections.abc import Callable
 
 from bpfhost.numbers import MOST_TENANTS
-from bpfhost.shards import scripts
 from bpfhost.shards.aside import Aside
+from bpfhost.shards.errors import ShardError, SnapshotDamaged
 from bpfhost.shards.log import Log
+from bpfhost.shards.manifest import Manifest
 from bpfhost.shards.names import order
+from bpfhost.shards.steps import at_once
 from bpfhost.shards.writing import Writing
 
 _SECONDS_OF_PATIENCE = 5.0
@@ -37,13 +39,20 @@ class Tenants:
 
     async def with_a_log(self) -> list[int]:
         """The tenants that ever had an entry; the others are new."""
-        streams = [name for log in self.logs for name in (log.frames, log.replies)]
-        found = await scripts.ARE_THERE(self._redis, streams, [])
-        return [tenant for tenant in range(MOST_TENANTS) if any(found[2 * tenant : 2 * tenant + 2])]
+        return [log.tenant for log in self.logs if await self._redis.call("EXISTS", log.frames, log.replies)]
 
     async def drop_strays(self) -> None:
-        """Drops pieces that no snapshot names."""
-        await self._writing.drop_strays(self.logs)
+        """Drops pieces that no manifest names, since a worker died before it could write the manifest."""
+        kept: set[str] = set()
+        for log in self.logs:
+            kept.update(name for manifest in await log.manifests() for name in manifest.names())
+        for said in (await self._redis.hgetall(self._keys.left)).values():
+            try:
+                kept.update(Manifest.read(said).names())
+            except SnapshotDamaged as damaged:
+                raise ShardError(f"the state of a customer that left shard {self._keys.number} is damaged: {damaged}") from None
+        strays = [name.decode() for name in await self._redis.call("HKEYS", self._keys.pieces)]
+        await at_once(self._writing.drop_pieces([name for name in strays if name not in kept and not name.startswith("arrival-")]))
 
     # What is set aside.
 

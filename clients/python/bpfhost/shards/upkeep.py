@@ -2,10 +2,8 @@
 
 from __future__ import annotations
 
-import asyncio
-
 from bpfhost.shards.agenda import Agenda
-from bpfhost.shards.errors import OutOfMemory, Stopped
+from bpfhost.shards.errors import OutOfMemory
 from bpfhost.shards.keeping import Keeping
 from bpfhost.shards.names import START
 from bpfhost.shards.patience import LONGEST_PAUSE, Patience
@@ -77,17 +75,13 @@ class Upkeep:
 
         It takes no snapshot of the tenants whose replies are not written yet: their state includes calls that have no replies.
         """
-        patience = self._patience
         for log in self._tenants.logs:
             if log.tenant in played | self._agenda.busy or log.aside or log.place == START:
                 await at_once(self._keeping.drop_before(log))
             else:
                 await at_once(self._keeping.make_room(self._serving, log))
-        patience.tell_now_and_then(f"shard {patience.shard} waits: {error}. {_memory(*await self._keeping.memory())}")
         self._serving.alive()
-        if patience.is_stopped():
-            raise Stopped("stopped")
-        await asyncio.sleep(LONGEST_PAUSE)
+        await self._patience.wait_for_redis(OutOfMemory(f"{error}. {_memory(*await self._keeping.memory())}"), LONGEST_PAUSE)
 
 
 def _memory(used: int, most: int) -> str:

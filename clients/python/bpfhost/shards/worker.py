@@ -15,27 +15,25 @@ from collections.abc import Callable, Sequence
 from bpfhost.errors import StateError
 from bpfhost.library import Library
 from bpfhost.program import Program
-from bpfhost.shards import metrics
 from bpfhost.shards.agenda import Agenda
 from bpfhost.shards.answering import Answering, Played
 from bpfhost.shards.attending import Attending
-from bpfhost.shards.building import build_of
 from bpfhost.shards.calls import Call
-from bpfhost.shards.connection import Redis, demand_durable, demand_version, forgotten, without_secrets
+from bpfhost.shards.connection import Redis, as_in, demand_durable, demand_version, forgotten
 from bpfhost.shards.decisions import SECONDS_TO_LOOK, Decisions
-from bpfhost.shards.directory import Directory
+from bpfhost.shards.directory import Directory, register
 from bpfhost.shards.errors import LeaseLost, LogChanged, OutOfMemory, RedisError, ShardError, Stopped
-from bpfhost.shards.jobs import Jobs, Moving
+from bpfhost.shards.jobs import Jobs
 from bpfhost.shards.keeping import Keeping
 from bpfhost.shards.lease import Lease
 from bpfhost.shards.log import Log
 from bpfhost.shards.loop import new_loop
-from bpfhost.shards.metrics import Told
+from bpfhost.shards.manifest import build_of
+from bpfhost.shards.metrics import WORKER, Numbers, Told
 from bpfhost.shards.names import ShardKeys
 from bpfhost.shards.patience import Patience
 from bpfhost.shards.playing import Playing
 from bpfhost.shards.reading import Reading
-from bpfhost.shards.registering import register
 from bpfhost.shards.serving import Serving
 from bpfhost.shards.settings import Settings
 from bpfhost.shards.states import States
@@ -51,20 +49,14 @@ class Worker:
     """The worker of one shard."""
 
     def __init__(
-        self,
-        redis: Redis,
-        keys: ShardKeys,
-        program: Program,
-        settings: Settings = Settings(),
-        tell: Callable[[str], None] = print,
-        directory: Redis | None = None,
-        library: Library | None = None,
+        self, redis: Redis, keys: ShardKeys, program: Program, settings: Settings = Settings(), tell: Callable[[str], None] = print,
+        directory: Redis | None = None, library: Library | None = None,
     ) -> None:
         """The directory is in the shard's Redis if no other one is named. With a library, the host is in this process."""
         self._serves = False
-        self.metrics = Told(metrics.WORKER, self._numbers)
+        self.metrics = Told(WORKER, self._numbers)
         self._redis, self._keys, self._settings = redis.near(keys.lease), keys, settings
-        self._server = without_secrets(redis.url) if directory else ""
+        self._server = as_in(redis.url) if directory else ""
         self._directory = Directory(directory or redis, keys.prefix)
         self._lease = Lease(self._redis, keys, settings.lease_seconds)
         self._patience = patience = Patience(self._redis, keys.number, tell)
@@ -76,8 +68,7 @@ class Worker:
         self._suspects = suspects = Suspects(tenants, states, keeping.failed, patience)
         self._upkeep = Upkeep(serving, tenants, agenda, keeping, states, patience)
         self._decisions = Decisions(serving, tenants, agenda, writing, states, suspects, patience)
-        self._jobs = Jobs(agenda, states, suspects, keeping.failed, patience)
-        self._moving = Moving(serving, tenants, agenda, keeping, writing, suspects)
+        self._jobs = Jobs(serving, tenants, agenda, keeping, writing, states, suspects, patience)
         # It is set when something has come of what the worker waits for.
         self._came = asyncio.Event()
         self._reading = Reading(self._redis, keys, tenants, agenda.busy, patience, settings, self._wake)
@@ -102,7 +93,7 @@ class Worker:
                 await self.serve(is_stopped)
             finally:
                 for redis in dict.fromkeys((self._redis, self._directory.redis)):
-                    await redis.close()
+                    await redis.nodes.close()
 
         with asyncio.Runner(loop_factory=new_loop) as runner:
             runner.run(run())
@@ -202,7 +193,7 @@ class Worker:
         wait = 0.0 if self._agenda.jobs else min(self._settings.lease_seconds / 4, SECONDS_TO_LOOK)
         await self._playing.wait(wait, self._upkeep.is_due)
         for item in await self._playing.play():
-            await self._moving.begin(item)
+            await self._jobs.begin(item)
         await self._upkeep.look_at_snapshots()
         await self._jobs.do_some()
 
@@ -237,7 +228,7 @@ class Worker:
 
     # For metrics and health.
 
-    def _numbers(self) -> metrics.Numbers:
+    def _numbers(self) -> Numbers:
         """Metrics that are computed when they are read."""
         return {
             "bpfhost_worker_lease_age_seconds": self._lease.age(),

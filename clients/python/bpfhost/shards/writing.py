@@ -9,14 +9,14 @@ from bpfhost.parts import in_parts
 from bpfhost.shards import scripts
 from bpfhost.shards.calls import Arrives, Leaves
 from bpfhost.shards.cluster import Line
-from bpfhost.shards.connection import Redis, Script, told_by
-from bpfhost.shards.errors import Away, NoScript, OutOfMemory, ShardError, SnapshotDamaged
+from bpfhost.shards.connection import Redis, Script
+from bpfhost.shards.errors import Away, NoScript, OutOfMemory
 from bpfhost.shards.lease import Lease
 from bpfhost.shards.log import Log
 from bpfhost.shards.manifest import Manifest
 from bpfhost.shards.names import ShardKeys
 from bpfhost.shards.serving import Written
-from bpfhost.shards.steps import at_once, step
+from bpfhost.shards.steps import step
 from bpfhost.shards.link import Word
 
 # A script gets about so many bytes of replies at most, and so many names of pieces.
@@ -69,16 +69,13 @@ class Writing:
             words += (word for one in own for word in (one.entry, one.name, one.value))
         return [self.keys.waiting, *map(self.keys.replies, of)], words
 
-    async def write_left(self, log: Log, item: Leaves, state: Manifest, nothing: Manifest) -> None:
-        """Writes that a tenant has left."""
-        keys = [log.replies, self.keys.snapshots, self.keys.left]
-        await self._do(scripts.WRITE_LEFT, keys, [item.entry, item.tenant, item.generation, state.to_bytes(), nothing.to_bytes()])
-        log.snapshot, log.before, log.is_cut = nothing, None, True
-
-    async def write_arrived(self, log: Log, item: Arrives, state: Manifest) -> None:
-        """Writes that a tenant has arrived."""
-        await self._do(scripts.WRITE_ARRIVED, [log.replies, self.keys.snapshots], [item.entry, item.tenant, state.to_bytes()])
-        log.snapshot, log.before, log.is_cut = state, None, True
+    async def write_move(self, log: Log, item: Leaves | Arrives, last: Manifest, left: Manifest | None = None) -> None:
+        """Writes that a tenant has arrived, or has left with a state that is kept, and the last snapshot that it has from then on."""
+        keys, words = [log.replies, self.keys.snapshots], [item.entry, item.tenant, last.to_bytes()]
+        if isinstance(item, Leaves) and left:
+            keys, words = [*keys, self.keys.left], [*words, item.generation, left.to_bytes()]
+        await self._do(scripts.WRITE_MOVE, keys, words)
+        log.snapshot, log.before, log.is_cut = last, None, True
 
     async def note(self, name: str, field: Word, value: bytes) -> None:
         """Writes a field of a hash of the shard, or deletes it."""
@@ -102,23 +99,3 @@ class Writing:
         for some in in_parts(dropped, lambda _: 1, _NAMES_AT_ONCE):
             await self._do(scripts.DROP_PIECES, [self.keys.pieces], some)
             await step()
-
-    async def drop_strays(self, logs: Sequence[Log]) -> None:
-        """Drops pieces that no manifest names, since a worker died before it could write the manifest."""
-        kept: set[str] = set()
-        for log in logs:
-            kept.update(name for manifest in await log.manifests() for name in manifest.names())
-        for said in (await self.redis.hgetall(self.keys.left)).values():
-            try:
-                kept.update(Manifest.read(said).names())
-            except SnapshotDamaged as damaged:
-                raise ShardError(f"the state of a customer that left shard {self.keys.number} is damaged: {damaged}") from None
-        strays = [name.decode() for name in await self.redis.call("HKEYS", self.keys.pieces)]
-        await at_once(self.drop_pieces([name for name in strays if name not in kept and not name.startswith("arrival-")]))
-
-    # Memory.
-
-    async def memory(self) -> tuple[int, int]:
-        """The memory that the server uses, and the most that it may use, in bytes: 0 if there is no such limit."""
-        said = await told_by(self.redis, "memory")
-        return int(said["used_memory"]), int(said["maxmemory"])

@@ -21,7 +21,10 @@ class Redis(Blocking[connection.Redis]):
     stream = waits(connection.Redis.stream)
     last_id = waits(connection.Redis.last_id)
     dropped_id = waits(connection.Redis.dropped_id)
-    close = waits(connection.Redis.close)
+
+    def close(self) -> None:
+        """Ends the connections."""
+        self.loop.run(self.aio.nodes.close())
 
     def until(self, deadline: float) -> Redis:
         """The same server, whose calls end at a time of the system's clock."""
@@ -54,7 +57,7 @@ class Redis(Blocking[connection.Redis]):
 
 
 def connect(url: str | None = None) -> Redis:
-    """The Redis of a URL (`redis_url`), on an event loop of its own."""
+    """The Redis of a URL, on an event loop of its own."""
     return Redis(connection.Redis(url), Loop())
 
 

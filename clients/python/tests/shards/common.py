@@ -16,9 +16,8 @@ from bpfhost.shards.calls import Call
 from bpfhost.shards import operating
 from bpfhost.shards.client import AsyncClient
 from bpfhost.shards.connection import Redis
-from bpfhost.shards.directory import Seat
+from bpfhost.shards.directory import Seat, register
 from bpfhost.shards.metrics import Told
-from bpfhost.shards.registering import register
 from bpfhost.shards.system import Work
 from tests.common import PROGRAM, HostTest
 from tests.shards import blocking_redis

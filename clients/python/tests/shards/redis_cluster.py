@@ -3,6 +3,7 @@
 from __future__ import annotations
 
 import contextlib
+import os
 import socket
 import subprocess
 import time
@@ -19,9 +20,13 @@ _SECONDS = 60
 
 
 def _free_ports(many: int) -> list[int]:
-    """Ports that are free at the moment, and whose bus ports, 10,000 above them, are free too."""
+    """Ports that are free at the moment, and whose bus ports, 10,000 above them, are free too.
+
+    Each process begins at another one: the ports of a node that is killed are free for a while, and another run of the tests may be near.
+    """
     found: list[int] = []
-    for port in range(21_000, 29_000):
+    first = 21_000 + os.getpid() % 80 * 100
+    for port in (*range(first, 29_000), *range(21_000, first)):
         with contextlib.suppress(OSError), contextlib.ExitStack() as stack:
             for one in (port, port + 10_000):
                 stack.enter_context(socket.create_server(("127.0.0.1", one)))

@@ -15,7 +15,7 @@ from bpfhost.shards.cluster import Nodes
 from bpfhost.shards.errors import Away
 from bpfhost.shards.link import RedisLink
 from bpfhost.shards.names import DirectoryKeys
-from bpfhost.shards.system import MACHINE
+from bpfhost.shards.system import MACHINE, System
 from tests.common import PROGRAM, HostTest
 from tests.shards.blocking_redis import shard_of
 from tests.shards.common import CREATE, WorkerThread, put
@@ -147,8 +147,12 @@ class Words(unittest.TestCase):
     def test_urls(self) -> None:
         made = list[dict[str, Any]]()
 
+        class Noting(System):
+            def link(self, kind: type[RedisLink], words: dict[str, Any]) -> RedisLink:
+                return cast(RedisLink, made.append(words))
+
         def nodes(url: str) -> Nodes:
-            return Nodes(url, lambda _kind, words: cast(RedisLink, made.append(words)))
+            return Nodes(url, Noting())
 
         known = nodes("redis://u:p@h:1/0?cluster=1&db=2&replicas=2")
         self.assertEqual((known.is_cluster, known.replicas, known.is_one, known.find(7)), (True, 2, False, "h:1"))
@@ -168,7 +172,7 @@ class Words(unittest.TestCase):
             nodes("redis://h/0?cluster=1&nonsense=1")
 
     def test_nodes(self) -> None:
-        nodes = Nodes("redis://a:1/0?cluster=1", MACHINE.link)
+        nodes = Nodes("redis://a:1/0?cluster=1", MACHINE)
         nodes.watch()
         self.assertEqual((nodes.find(5), nodes.learn(5, "b:2"), nodes.find(5)), ("a:1", False, "b:2"))
         nodes.note("b:2", is_away=True)

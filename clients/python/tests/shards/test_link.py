@@ -7,7 +7,7 @@ import unittest
 from pathlib import Path
 from unittest import mock
 
-from bpfhost.shards import connection
+from bpfhost.shards import cluster
 from bpfhost.shards.cluster import Nodes
 from bpfhost.shards.connection import Redis, forgotten, xread_words
 from bpfhost.shards.errors import Away, NoScript, OutOfMemory, RedisError
@@ -19,17 +19,17 @@ from tests.shards.common import ShardTest
 
 def linked(url: str) -> RedisLink:
     """A connection to a URL."""
-    return Nodes(url, MACHINE.link).connect("")
+    return Nodes(url, MACHINE).connect("")
 
 
 class Commands(ShardTest, unittest.IsolatedAsyncioTestCase):
     async def asyncSetUp(self) -> None:
         self.redis = Redis(self.server.url)
-        self.addAsyncCleanup(self.redis.close)
+        self.addAsyncCleanup(self.redis.nodes.close)
 
     async def test_many_at_once(self) -> None:
         """Replies come in the order of the commands, also those that nobody waits for."""
-        line = self.redis.line()
+        line = self.redis.nodes.line()
         tasks = [self.redis.begin(line, ["ECHO", number]) for number in range(50)]
         self.assertEqual(await tasks[7], b"7")
         blocked = self.redis.begin(line, xread_words({"none": b"0-0"}, 1, 0.05), 0.05)
@@ -39,7 +39,7 @@ class Commands(ShardTest, unittest.IsolatedAsyncioTestCase):
 
     async def test_what_is_refused(self) -> None:
         """A command that is refused leaves the connection as it is."""
-        line = self.redis.line()
+        line = self.redis.nodes.line()
         asked = [self.redis.begin(line, words) for words in (("NONSENSE",), ("EVALSHA", "0" * 40, 0), ("ECHO", 1), ("HGET", "x"))]
         for task, error in zip(asked, (RedisError, NoScript, None, RedisError)):
             if error:
@@ -53,7 +53,7 @@ class Commands(ShardTest, unittest.IsolatedAsyncioTestCase):
 
     async def test_a_line_that_is_cut(self) -> None:
         """None of the sent commands has a reply, and the next command has a new connection."""
-        line = self.redis.line()
+        line = self.redis.nodes.line()
         self.assertEqual(await self.redis.begin(line, ["ECHO", 0]), b"0")
         blocks = xread_words({"none": b"0-0"}, 1, 60.0)
         waits, behind = self.redis.begin(line, blocks, 60.0), self.redis.begin(line, ["ECHO", 1])
@@ -67,7 +67,7 @@ class Commands(ShardTest, unittest.IsolatedAsyncioTestCase):
 
     async def test_a_call_that_is_cancelled(self) -> None:
         """Its reply, which comes later, is no other command's: neither of one that was sent after it, nor of the next one."""
-        line, blocks = self.redis.line(), xread_words({"none": b"0-0"}, 1, 0.2)
+        line, blocks = self.redis.nodes.line(), xread_words({"none": b"0-0"}, 1, 0.2)
         for late in (self.redis.begin(line, blocks, 0.2), self.redis.begin(line, ["ECHO", "late"])):
             behind = self.redis.begin(line, ["ECHO", "behind"])
             await asyncio.sleep(0)
@@ -78,7 +78,7 @@ class Commands(ShardTest, unittest.IsolatedAsyncioTestCase):
 
     async def test_connections_that_nobody_uses(self) -> None:
         """They end after a while."""
-        with mock.patch.object(connection, "SECONDS_IDLE", 0.2):
+        with mock.patch.object(cluster, "SECONDS_IDLE", 0.2):
             await asyncio.gather(*(self.redis.call("BLPOP", f"none-{number}", 0.1, wait=0.1) for number in range(40)))
             clients = len(bytes(await self.redis.call("CLIENT", "LIST")).splitlines())
             self.assertGreaterEqual(clients, 40)

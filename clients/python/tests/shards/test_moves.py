@@ -64,7 +64,7 @@ class Moves(ShardTest):
             moves = (directory_scripts.BEGIN_MOVE, scripts.CLAIM, scripts.LEAVE, scripts.ARRIVE, scripts.SEAT, directory_scripts.END_MOVE)
 
             async def only_moves(script: Script, redis: Redis, *arguments: object) -> object:
-                if redis.lines in [one.lines for one in mover.aio._servers.values()] and script in moves:
+                if redis.nodes in [one.nodes for one in mover.aio._servers.values()] and script in moves:
                     return await breaks(script, redis, *arguments)
                 return await right(script, redis, *arguments)  # type: ignore[arg-type]
 

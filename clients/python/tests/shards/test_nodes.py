@@ -10,6 +10,7 @@ from typing import Any, cast
 from bpfhost.shards.cluster import Line, Nodes
 from bpfhost.shards.errors import Away, Moved
 from bpfhost.shards.link import RedisLink, Word
+from bpfhost.shards.system import System
 
 
 class MovedLink:
@@ -22,16 +23,23 @@ class MovedLink:
 
     def begin(self, words: Sequence[Word], seconds: float) -> asyncio.Future[Any]:
         reply = asyncio.get_running_loop().create_future()
-        reply.set_exception(Moved(self._node))
+        reply.set_exception(Moved(f"another node of the cluster has the slot: 5 {self._node}"))
         return reply
 
     def cut(self) -> None:
         """There is nothing to cut."""
 
 
+class Redirecting(System):
+    """A machine with such connections."""
+
+    def link(self, kind: type[RedisLink], words: dict[str, Any]) -> RedisLink:
+        return cast(RedisLink, MovedLink("b:1"))
+
+
 class SlotThatMoved(unittest.IsolatedAsyncioTestCase):
     def setUp(self) -> None:
-        self.nodes = Nodes("redis://a:1/0?cluster=1", lambda _kind, _words: cast(RedisLink, MovedLink("b:1")))
+        self.nodes = Nodes("redis://a:1/0?cluster=1", Redirecting())
         self.lines = [Line(self.nodes) for _ in range(2)]
 
     async def test_commands_behind_one_another(self) -> None:

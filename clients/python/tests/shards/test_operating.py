@@ -12,7 +12,7 @@ from bpfhost.shards import MoveError, NotTaken, OtherShard, Settings, ShardError
 from bpfhost.shards import attending
 from bpfhost.shards.connection import Script
 from tests.shards.blocking_redis import connect, shard_of
-from tests.shards.common import CREATE, LOOK_UP, SECONDS, ShardTest, WorkerThread, put, did, drained, shown
+from tests.shards.common import CREATE, LOOK_UP, SECONDS, ShardTest, WorkerThread, did, drained, put, registered, shown
 from tests.shards.redis_server import RedisServer
 
 
@@ -222,6 +222,7 @@ class Names(ShardTest):
 
     def test_the_name_that_is_made_with_a_shard(self) -> None:
         redis, keys = shard_of(self.client, 5)
-        first = redis.run(scripts.BE_MADE, [keys.incarnation], ["one"])
-        self.assertEqual([first, redis.run(scripts.BE_MADE, [keys.incarnation], ["two"])], [b"one", b"one"])
+        made = [registered(redis, keys, self.client) for _ in range(2)]
+        self.assertEqual(made, [redis.get(keys.incarnation)] * 2)
+        self.assertTrue(made[0])
         self.assertEqual(ShardKeys(5).incarnation, "bpfhost:{5}:incarnation")

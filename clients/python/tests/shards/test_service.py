@@ -301,11 +301,11 @@ class Limits(ServiceTest):
             await asyncio.gather(*(ask(caller, names[number % 60]) for number, caller in enumerate(callers)))
 
         service.do(ask_all)
-        self.assertGreater(len(service.gateway.client.redis.lines.all), 16)
+        self.assertGreater(len(service.gateway.client.redis.nodes.lines), 16)
         for caller in callers:
             caller.end.abort()
         service.world.run(service.world.now + 61)
-        self.assertLessEqual(len(service.gateway.client.redis.lines.all), 16)
+        self.assertLessEqual(len(service.gateway.client.redis.nodes.lines), 16)
 
     def test_who_is_refused(self) -> None:
         """Tokens that nobody has are logged with the address that they come from, and not more often than now and then."""

@@ -202,7 +202,7 @@ class Calls(ShardTest):
 
         def loses(redis: connection.Redis, line: Line, words: Sequence[object], wait: float = 0.0) -> Awaitable[object]:
             reply = right(redis, line, words, wait)
-            return lose(reply) if scripts.ASK.name(redis) in words and len(lost) < 3 else reply
+            return lose(reply) if scripts.ASK.name in words and len(lost) < 3 else reply
 
         with mock.patch.object(connection.Redis, "begin", loses):
             self.assertEqual(customer.ask(frames.map_update_elem(0, 3, b"key1", bytes(8), 1)).status, 0)
@@ -223,7 +223,7 @@ class Calls(ShardTest):
         right, late = connection.Redis.begin, list[Sequence[object]]()
 
         async def delays(server: connection.Redis, line: Line, words: Sequence[object], wait: float = 0.0) -> object:
-            if scripts.ASK.name(server) in words and not late:
+            if scripts.ASK.name in words and not late:
                 late.append(words)
                 raise Away("cut")
             return await right(server, line, words, wait)

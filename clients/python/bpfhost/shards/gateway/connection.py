@@ -132,7 +132,8 @@ class Connection:
         self._gateway.came(known, session, self)
         self.known, self._session = known, session
         client = self._gateway.client
-        own = NAMELESS + client.system.fresh() if session is None else _own(session)
+        # A client without a gateway can't have the name of a gateway's session.
+        own = f"{NAMELESS if session.startswith(NAMELESS) else ''}gateway {session}" if session else NAMELESS + client.system.fresh()
         self._customer = AsyncCustomer(client, known.name, self._limits.seconds, own)
         self._incoming.acked = answered
         last = await self._resume(self._customer, answered) if session else None
@@ -307,8 +308,3 @@ class Connection:
                 # Reads and drops what the customer still sends, so that the system does not drop what the customer has not read yet.
                 while await self._reader.read(_READ_AT_ONCE):
                     pass
-
-
-def _own(session: str) -> str:
-    """The name of a gateway's session; a client without a gateway can't have it."""
-    return f"{NAMELESS if session.startswith(NAMELESS) else ''}gateway {session}"

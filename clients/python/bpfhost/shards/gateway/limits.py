@@ -130,14 +130,6 @@ class Addresses:
         rate.take(1, now)
         return True
 
-    def came(self, address: str) -> None:
-        """Notes a connection whose customer is not known yet."""
-        self.unknown[address] += 1
-
-    def known(self, address: str) -> None:
-        """Notes that its customer is known, or it has ended."""
-        subtract(self.unknown, address)
-
 
 def subtract(counts: collections.Counter[Key], key: Key, many: int = 1) -> None:
     """Makes a count smaller; one of nothing is forgotten."""

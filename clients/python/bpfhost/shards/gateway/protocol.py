@@ -121,16 +121,12 @@ def read_hello(frame: bytes) -> tuple[str | None, str | None, int]:
         raise Refusal(Why.WRONG, "what says who the customer is has no JSON object") from None
     if not all(one is None or isinstance(one, str) for one in (token, session)) or session == "":
         raise Refusal(Why.WRONG, "a token and a session are texts, and not empty")
-    if any(one and not _is_unicode(one) for one in (token, session)):
+    # JSON can name half of a surrogate pair, and UTF-8 can't.
+    if any("\ud800" <= letter <= "\udfff" for letter in f"{token}{session}"):
         raise Refusal(Why.WRONG, "a token and a session are texts of whole Unicode characters")
     if not (answered is None or isinstance(answered, int) and 0 <= answered < 1 << 53):
         raise Refusal(Why.WRONG, "the number of replies is a whole number")
     return token, session, answered or 0
-
-
-def _is_unicode(text: str) -> bool:
-    """Whether a text has no half of a surrogate pair, which JSON can name and UTF-8 can't."""
-    return not any("\ud800" <= letter <= "\udfff" for letter in text)
 
 
 class Incoming:

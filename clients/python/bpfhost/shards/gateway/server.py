@@ -15,7 +15,6 @@ from dataclasses import dataclass
 from pathlib import Path
 from typing import Any
 
-from bpfhost.shards import metrics
 from bpfhost.shards.client import AsyncClient
 from bpfhost.shards.errors import ShardError
 from bpfhost.shards.gateway.connection import Connection
@@ -23,7 +22,7 @@ from bpfhost.shards.gateway.customers import Customers, Known
 from bpfhost.shards.gateway.limits import Addresses, GatewayLimits, Rate, Unread, network_of, subtract
 from bpfhost.shards.gateway.protocol import Refusal, Why
 from bpfhost.shards.gateway.sharing import SECONDS, Sharing
-from bpfhost.shards.metrics import Numbers, Told
+from bpfhost.shards.metrics import GATEWAY, Numbers, Told
 from bpfhost.shards.names import PREFIX
 from bpfhost.shards.system import MACHINE, System
 
@@ -62,19 +61,14 @@ class Gateway:
     """Accepts customers, and enforces their limits."""
 
     def __init__(
-        self,
-        url: str | None,
-        customers: Path,
-        limits: GatewayLimits = GatewayLimits(),
-        prefix: str = PREFIX,
-        tell: Callable[[str], None] = print,
-        system: System = MACHINE,
+        self, url: str | None, customers: Path, limits: GatewayLimits = GatewayLimits(), prefix: str = PREFIX,
+        tell: Callable[[str], None] = print, system: System = MACHINE,
     ) -> None:
         """The directory's Redis, by its URL, and the file of customers."""
         self.limits, self._file, self._tell = limits, customers, tell
         self.customers = Customers(customers)
         self.client = AsyncClient(url, prefix, system)
-        self.told = Told(metrics.GATEWAY, self._numbers)
+        self.told = Told(GATEWAY, self._numbers)
         self.unread: Unread[Connection] = Unread(limits.bytes_of_customer, limits.bytes_of_shard, self._end_unread)
         self.addresses, self.sharing = Addresses(limits), Sharing(self.client)
         self.connections: dict[Connection, str] = {}
@@ -138,7 +132,7 @@ class Gateway:
         task = asyncio.create_task(serves)
         self._tasks.add(task)
         self._unknown[task] = address
-        self.addresses.came(address)
+        self.addresses.unknown[address] += 1
         task.add_done_callback(self._done)
         if len(self._unknown) > self.limits.unknown:
             first = next(iter(self._unknown))
@@ -149,7 +143,7 @@ class Gateway:
     def _is_known(self, task: asyncio.Task[Any] | None) -> None:
         """Notes that the customer of a connection is known, or that it ends."""
         if task in self._unknown:
-            self.addresses.known(self._unknown.pop(task))
+            subtract(self.addresses.unknown, self._unknown.pop(task))
 
     def _done(self, task: asyncio.Task[None]) -> None:
         self._tasks.discard(task)

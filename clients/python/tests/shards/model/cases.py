@@ -171,10 +171,10 @@ def worker(shard: int, name: str, starts: int, skips: bytes = b"", tenant: int =
         replies = keys.replies(tenant)
         if field == b"leave":
             used = [keys.lease, replies, keys.snapshots, keys.left]
-            return [(_script(scripts.WRITE_LEFT, used, token, entry, tenant, value, f"state {count}", "nothing"), 0)]
+            return [(_script(scripts.WRITE_MOVE, used, token, entry, tenant, "nothing", value, f"state {count}"), 0)]
         if field == b"arrive":
             arrived = int(value.split()[1])
-            return [(_script(scripts.WRITE_ARRIVED, [keys.lease, replies, keys.snapshots], token, entry, tenant, value), arrived)]
+            return [(_script(scripts.WRITE_MOVE, [keys.lease, replies, keys.snapshots], token, entry, tenant, value), arrived)]
         writes = [(_write(token, b"", entry, count + 1), count + 1)]
         if value == skips:
             used = [keys.lease, keys.waiting, replies]

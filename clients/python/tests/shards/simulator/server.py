@@ -74,8 +74,8 @@ class Store:
 
     # Any kind.
 
-    def _exists(self, name: bytes) -> int:
-        return int(name in self.keys)
+    def _exists(self, *names: bytes) -> int:
+        return sum(name in self.keys for name in names)
 
     def _del(self, name: bytes) -> int:
         return int(self.keys.pop(name, None) is not None)

@@ -13,7 +13,7 @@ use Rattle.tagged_model.specs.declared.value.Tagged.TheVariants.{Scalar, Map}
 use Rattle.tagged_model.specs.Table.{Table}
 use Rattle.tagged_model.specs.Cells.{and_then}
 use Rattle.tagged_model.specs.State.{RunState, with_map, input}
-use Rattle.tagged_model.specs.Helpers.{GivenMap, map_argument, argument, number_given, replies, returns, updated, removed, packet_bytes, packet_answer, called}
+use Rattle.tagged_model.specs.Helpers.{GivenMap, map_argument, argument, number_given, replies, returns, updated, removed, packet_bytes, packet_result, called}
 use Rattle.arena.specs.Memory.{Memory, base, part_start, with_bytes}
 use Rattle.arena.specs.PartLaws.{part_within}
 use Rattle.bpf_helpers.specs.inside.Below.{LawsBelow}
@@ -311,7 +311,7 @@ module _ (env : Environment) (l : Layout) (flat : FlatState) (s : RunState)
         ap (λ (n : ℕ). named_offset flat.memory env.tenant n (slice_index words 2)) count
         ∙ ap (λ (w : ℕ). named_offset flat.memory env.tenant (slice_index flat.registers 4) w) to
         ∙ st.offset_is in
-        let r : (word ≡ packet_answer env.packet (slice_index words 1) (slice_index words 3))
+        let r : (word ≡ packet_result env.packet (slice_index words 1) (slice_index words 3))
         × (after
         ≡ with_bytes flat.memory (part_start flat.memory env.tenant + st.offset)
         (packet_bytes env.packet (slice_index words 1) (slice_index words 3))) =
@@ -322,12 +322,12 @@ module _ (env : Environment) (l : Layout) (flat : FlatState) (s : RunState)
         ap (λ (x : List ℕ). packet_bytes x (slice_index words 1) (slice_index words 3)) (sym same)
         ∙ ap (λ (x : ℕ). packet_bytes s.packet x (slice_index words 3)) offset
         ∙ ap (λ (x : ℕ). packet_bytes s.packet (slice_index flat.registers 2) x) count in
-        let gives : packet_answer env.packet (slice_index words 1) (slice_index words 3)
-        ≡ packet_answer s.packet (slice_index flat.registers 2) (slice_index flat.registers 4) =
-        ap (λ (x : List ℕ). packet_answer x (slice_index words 1) (slice_index words 3)) (sym same)
-        ∙ ap (λ (x : ℕ). packet_answer s.packet x (slice_index words 3)) offset
-        ∙ ap (λ (x : ℕ). packet_answer s.packet (slice_index flat.registers 2) x) count in
-        let answer = packet_answer s.packet (slice_index flat.registers 2) (slice_index flat.registers 4) in
+        let gives : packet_result env.packet (slice_index words 1) (slice_index words 3)
+        ≡ packet_result s.packet (slice_index flat.registers 2) (slice_index flat.registers 4) =
+        ap (λ (x : List ℕ). packet_result x (slice_index words 1) (slice_index words 3)) (sym same)
+        ∙ ap (λ (x : ℕ). packet_result s.packet x (slice_index words 3)) offset
+        ∙ ap (λ (x : ℕ). packet_result s.packet (slice_index flat.registers 2) x) count in
+        let answer = packet_result s.packet (slice_index flat.registers 2) (slice_index flat.registers 4) in
         let written =
         with_bytes flat.memory (part_start flat.memory env.tenant + st.offset)
         (packet_bytes s.packet (slice_index flat.registers 2) (slice_index flat.registers 4)) in

@@ -13,7 +13,7 @@ use Rattle.tagged_model.specs.declared.value.Tagged.{Tagged}
 use Rattle.tagged_model.specs.declared.value.Tagged.TheVariants.{Scalar, Map, Pointer}
 use Rattle.tagged_model.specs.Cells.{and_then}
 use Rattle.tagged_model.specs.State.{RunState, output}
-use Rattle.tagged_model.specs.Helpers.{argument, number_given, length_given, context_given, packet_bytes, packet_answer, is_in_packet, returns, called}
+use Rattle.tagged_model.specs.Helpers.{argument, number_given, length_given, context_given, packet_bytes, packet_result, is_in_packet, returns, called}
 use Rattle.arena.specs.Memory.{part_start, with_bytes}
 use Rattle.arena.specs.Apart.{WritesStayInside}
 use Rattle.bpf_helpers.specs.Layout.{Layout, IsWord}
@@ -67,7 +67,7 @@ module _ (env : Environment) (l : Layout) (flat : FlatState) (s : RunState)
     written : (offset n : ℕ) (u v : RunState)
         → slice_index flat.registers 2 ≡ offset → slice_index flat.registers 4 ≡ n
         → argument s 3 (λ p. output s p (packet_bytes s.packet offset n)) ≡ Some v
-        → Some (returns v (Scalar (packet_answer s.packet offset n))) ≡ Some u
+        → Some (returns v (Scalar (packet_result s.packet offset n))) ≡ Some u
         → LoadKeepsSimulation env l flat s u
     written offset n u v first last e f =
         let d = also_some (s.registers 3) (λ p. output s p (packet_bytes s.packet offset n)) v e in
@@ -97,9 +97,9 @@ module _ (env : Environment) (l : Layout) (flat : FlatState) (s : RunState)
               v)
               (sym first) r.2);
           is =
-              sym (same_Some (returns v (Scalar (packet_answer s.packet offset n))) u f)
-              ∙ ap (λ (x : ℕ). returns v (Scalar (packet_answer s.packet x n))) (sym first)
-              ∙ ap (λ (x : ℕ). returns v (Scalar (packet_answer s.packet (slice_index flat.registers 2) x))) (sym last);
+              sym (same_Some (returns v (Scalar (packet_result s.packet offset n))) u f)
+              ∙ ap (λ (x : ℕ). returns v (Scalar (packet_result s.packet x n))) (sym first)
+              ∙ ap (λ (x : ℕ). returns v (Scalar (packet_result s.packet (slice_index flat.registers 2) x))) (sym last);
         }
 
     -- if the tagged machine has a load of bytes, the memory with the bytes written represents the state after it
@@ -113,7 +113,7 @@ module _ (env : Environment) (l : Layout) (flat : FlatState) (s : RunState)
         and_then (argument s 4 length_given)
         (λ n.
         and_then (argument s 3 (λ p. output s p (packet_bytes s.packet offset n)))
-        (λ t. Some (returns t (Scalar (packet_answer s.packet offset n)))))))
+        (λ t. Some (returns t (Scalar (packet_result s.packet offset n)))))))
         u e in
         let b =
         also_some (argument s 2 number_given)
@@ -121,17 +121,17 @@ module _ (env : Environment) (l : Layout) (flat : FlatState) (s : RunState)
         and_then (argument s 4 length_given)
         (λ n.
         and_then (argument s 3 (λ p. output s p (packet_bytes s.packet offset n)))
-        (λ t. Some (returns t (Scalar (packet_answer s.packet offset n))))))
+        (λ t. Some (returns t (Scalar (packet_result s.packet offset n))))))
         u a.2 in
         let c =
         also_some (argument s 4 length_given)
         (λ n.
         and_then (argument s 3 (λ p. output s p (packet_bytes s.packet b.0 n)))
-        (λ t. Some (returns t (Scalar (packet_answer s.packet b.0 n)))))
+        (λ t. Some (returns t (Scalar (packet_result s.packet b.0 n)))))
         u b.2 in
         let d =
         also_some (argument s 3 (λ p. output s p (packet_bytes s.packet b.0 c.0)))
-        (λ t. Some (returns t (Scalar (packet_answer s.packet b.0 c.0))))
+        (λ t. Some (returns t (Scalar (packet_result s.packet b.0 c.0))))
         u c.2 in
         written b.0 c.0 u d.0 (number_word 2 b.0 (omega arith) b.1) (length_word 4 c.0 (omega arith) c.1) d.1 d.2
 

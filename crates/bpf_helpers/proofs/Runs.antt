@@ -15,7 +15,7 @@ use Rattle.tagged_model.specs.declared.value.Tagged.{Tagged}
 use Rattle.tagged_model.specs.declared.value.Tagged.TheVariants.{Pointer}
 use Rattle.tagged_model.specs.Cells.{holds, bytes}
 use Rattle.tagged_model.specs.State.{RunState}
-use Rattle.tagged_model.specs.Step.{MapsByDescriptor, begins_with, start_of_run, first_map, last_map}
+use Rattle.tagged_model.specs.Step.{MapsByDescriptor, begins_with, start_of_run, map_at_start, map_after_run}
 use Rattle.arena.specs.Memory.{Memory, base, size_of, part_start, part_bytes}
 use Rattle.arena.specs.PartLaws.{part_within}
 use Rattle.bpf_maps.specs.declared.part.TheConstants.{PART}
@@ -153,7 +153,7 @@ module _ (env : Environment) (memory : Memory) (registers : List ℕ) (maps : Ma
       → HasMap layout
       (stored_maps (part_start env.memory env.tenant) memory.bytes env.maps)
       (slice_index env.bind i) m
-      (first_map (map_in (part_bytes env.memory env.tenant) env.maps (slice_index env.bind i)))
+      (map_at_start (map_in (part_bytes env.memory env.tenant) env.maps (slice_index env.bind i)))
   unfolding layout count_at object_at
   map_begins i m e =
       let lt = index_within i m e in
@@ -227,8 +227,8 @@ module _ (env : Environment) (memory : Memory) (registers : List ℕ) (maps : Ma
     maps = record {
       count = ready.count;
       each = λ i m e. (
-        first_map (map_in (part_bytes env.memory env.tenant) env.maps (slice_index env.bind i)),
-        ap (option_map first_map) (given i m e),
+        map_at_start (map_in (part_bytes env.memory env.tenant) env.maps (slice_index env.bind i)),
+        ap (option_map map_at_start) (given i m e),
         map_begins i m e,
       );
       listed = listed;
@@ -256,12 +256,12 @@ module _ (env : Environment) (l : Layout) (flat : FlatState) (s : RunState)
       → IsSome (live_at new (slice_index env.bind i))
       → keys_at new (slice_index env.bind i) ≡ after_run (keys_at flat.maps (slice_index env.bind i))
       → SameAreas flat.maps new
-      → option_map last_map (s.maps m) ≡ Some (map_in (part_bytes flat.memory env.tenant) new (slice_index env.bind i))
+      → option_map map_after_run (s.maps m) ≡ Some (map_in (part_bytes flat.memory env.tenant) new (slice_index env.bind i))
   map_ends keep new i m named live ended areas =
       let g = stands.maps.each i m named in
       let k = slice_index env.bind i in
       let shape : shape_at new k ≡ shape_at flat.maps k = ap (λ (x : KeyTable). x.shape) ended in
-      ap (option_map last_map) g.1
+      ap (option_map map_after_run) g.1
       ∙ ap (λ x. Some x) (sym (maps_end l (part_start env.memory env.tenant) flat.memory.bytes flat.maps new k m g.0
       (value_in (part_bytes flat.memory env.tenant) new k)
       g.2 ended

@@ -2,7 +2,7 @@
 use Rattle.std.proofs.Common.{◌≡◌, ◌≤◌, ℕ, Bool, true, false, List, [], ◌∷◌, length, Option, Some, None}
 use Rattle.std.proofs.Common.{is_some, option_map, IfSome, cond, refl, subst, sym, ap, ◌∙◌, if◌then◌else◌, arith}
 use Rattle.std.specs.Cmp.Lexicographic.{bytes_decides}
-use Rattle.tagged_model.specs.Table.{found, is_key, first_key, key_behind, key_after}
+use Rattle.tagged_model.specs.Table.{found, is_key, first_key, key_after_present, key_after}
 use Rattle.bpf_maps.specs.declared.key_ref.KeyRef.{KeyRef}
 use Rattle.bpf_maps.specs.KeyRef.{key_bytes}
 use Rattle.bpf_maps.specs.KeyTable.{IsSized}
@@ -20,15 +20,15 @@ either_sized : (n : ℕ) (test : Bool) (a b : Option (List ℕ))
 either_sized n true a b h k = h
 either_sized n false a b h k = k
 
-behind_sized : (n : ℕ) (key : List ℕ) (es : List (List ℕ × ℕ)) → IsSized n es → HasSize n (key_behind key es)
+behind_sized : (n : ℕ) (key : List ℕ) (es : List (List ℕ × ℕ)) → IsSized n es → HasSize n (key_after_present key es)
 behind_sized n key [] sized = tt
 behind_sized n key (e ∷ es) sized =
-    either_sized n (is_key key e.0) (first_key es) (key_behind key es) (first_sized n es sized.1)
+    either_sized n (is_key key e.0) (first_key es) (key_after_present key es) (first_sized n es sized.1)
     (behind_sized n key es sized.1)
 
 after_sized : (n : ℕ) (key : List ℕ) (es : List (List ℕ × ℕ)) → IsSized n es → HasSize n (key_after key es)
 after_sized n key es sized =
-    either_sized n (is_some (found key es)) (key_behind key es) (first_key es)
+    either_sized n (is_some (found key es)) (key_after_present key es) (first_key es)
     (behind_sized n key es sized) (first_sized n es sized)
 
 given_of : (n : ℕ) (given : Option KeyRef)

@@ -6,7 +6,7 @@ use Rattle.std.proofs.lemmas.Bool.Decides.{nat_tests}
 use Rattle.std.specs.Cmp.Lexicographic.{bytes_decides}
 use Rattle.std.specs.Map.{values_of}
 use Rattle.words.specs.Bytes.{number_of}
-use Rattle.tagged_model.specs.Table.{is_key, found, first_key, key_behind, key_after, index_key, indexed}
+use Rattle.tagged_model.specs.Table.{is_key, found, first_key, key_after_present, key_after, index_key, indexed}
 use Rattle.bpf_maps.specs.KeyTable.{occurrences, IsSized}
 
 abbrev pub itself : ℕ → ℕ
@@ -90,25 +90,25 @@ less b i m e = ap (λ (x : ℕ). if b then Some (index_key x) else None) e
 behind_index : (first n k : ℕ)
     → first + n ≤ 2 ^ 32 → first ≤ k
     → k < first + n
-    → key_behind (index_key k) (indexed itself first n)
+    → key_after_present (index_key k) (indexed itself first n)
     ≡ (if nat_lt (k + 1) (first + n) then Some (index_key (k + 1)) else None)
 unfolding indexed
 behind_index first zero k h l u = absurd (omega arith)
 behind_index first (suc n) k h l u =
     let head : is_key (index_key k) (index_key first) ≡ nat_eq k first = same_key k first (omega arith) (omega arith) in
     ap (λ (b : Bool).
-    if b then first_key (indexed itself (first + 1) n) else key_behind (index_key k) (indexed itself (first + 1) n))
+    if b then first_key (indexed itself (first + 1) n) else key_after_present (index_key k) (indexed itself (first + 1) n))
     head
     ∙ by (nat_eq k first) refl (λ q. behind_index (first + 1) n k (omega arith) q (omega arith))
   where
     by : (b : Bool)
         → nat_eq k first ≡ b
         → (first + 1 ≤ k
-        → key_behind (index_key k) (indexed itself (first + 1) n)
+        → key_after_present (index_key k) (indexed itself (first + 1) n)
         ≡ (if nat_lt (k + 1) (first + 1 + n) then Some (index_key (k + 1)) else None))
         → (if b
         then first_key (indexed itself (first + 1) n)
-        else key_behind (index_key k) (indexed itself (first + 1) n))
+        else key_after_present (index_key k) (indexed itself (first + 1) n))
         ≡ (if nat_lt (k + 1) (first + suc n) then Some (index_key (k + 1)) else None)
     by true e r =
         let q : k ≡ first = eqb-true k first e in
@@ -130,7 +130,7 @@ after_index n k h l =
     found_index 0 n k (omega arith) (omega arith) (omega arith) ∙ ap (λ (b : Bool). if b then Some k else None) t in
     let m : 0 + n ≡ n = omega arith in
     ap (λ (o : Option ℕ).
-    if is_some o then key_behind (index_key k) (indexed itself 0 n) else first_key (indexed itself 0 n))
+    if is_some o then key_after_present (index_key k) (indexed itself 0 n) else first_key (indexed itself 0 n))
     f
     ∙ behind_index 0 n k (omega arith) (omega arith) (omega arith)
     ∙ ap (λ (x : ℕ). if nat_lt (k + 1) x then Some (index_key (k + 1)) else None) m
@@ -140,7 +140,7 @@ pub after_other : (n : ℕ) (key : List ℕ)
     → found key (indexed itself 0 n) ≡ None
     → key_after key (indexed itself 0 n) ≡ (if nat_lt 0 n then Some (index_key 0) else None)
 after_other n key h =
-    ap (λ (o : Option ℕ). if is_some o then key_behind key (indexed itself 0 n) else first_key (indexed itself 0 n)) h
+    ap (λ (o : Option ℕ). if is_some o then key_after_present key (indexed itself 0 n) else first_key (indexed itself 0 n)) h
     ∙ first_index 0 n
 
 -- ---- the elements

@@ -5,7 +5,7 @@ use Rattle.std.specs.Map.{values_of}
 use Rattle.std.specs.Option.{option_map_or}
 use Rattle.std.proofs.lemmas.Bool.{cases_lt, lt-ltb, le-ltb}
 use Rattle.std.proofs.lemmas.Option.{none-some, same_Some}
-use Rattle.ordered_keys.specs.Orders.{first_entry, entry_behind, next_entry}
+use Rattle.ordered_keys.specs.Orders.{first_entry, entry_after_element, next_entry}
 use Rattle.tagged_model.specs.declared.shape.MapKind.{MapKind}
 use Rattle.tagged_model.specs.declared.shape.MapKind.TheVariants.{Array}
 use Rattle.tagged_model.specs.Table.{index_key, indexed, new_entries}
@@ -27,15 +27,15 @@ module _ {K : Type 0} (bytes : K → List ℕ) where
   first_shown (e ∷ es) = refl
 
   behind_shown : (p : ℕ) (es : List (K × ℕ))
-      → entry_behind p (shown_by bytes es) ≡ option_map shown_one (entry_behind p es)
+      → entry_after_element p (shown_by bytes es) ≡ option_map shown_one (entry_after_element p es)
   behind_shown p [] = refl
   behind_shown p (e ∷ es) = by (nat_eq p e.1) (first_shown es) (behind_shown p es)
     where
       by : (b : Bool)
           → first_entry (shown_by bytes es) ≡ option_map shown_one (first_entry es)
-          → entry_behind p (shown_by bytes es) ≡ option_map shown_one (entry_behind p es)
-          → (if b then first_entry (shown_by bytes es) else entry_behind p (shown_by bytes es))
-          ≡ option_map shown_one (if b then first_entry es else entry_behind p es)
+          → entry_after_element p (shown_by bytes es) ≡ option_map shown_one (entry_after_element p es)
+          → (if b then first_entry (shown_by bytes es) else entry_after_element p (shown_by bytes es))
+          ≡ option_map shown_one (if b then first_entry es else entry_after_element p es)
       by true f r = f
       by false f r = r
 
@@ -63,7 +63,7 @@ first_index first (suc n) =
     let e : nat_lt first (first + suc n) ≡ true = lt-ltb first (first + suc n) (omega arith) in
     ap (λ (b : Bool). if b then placed first else None) (sym e)
 
-behind_index : (p first n : ℕ) → first ≤ p → entry_behind p (indexed itself first n) ≡ index_entry (p + 1) (first + n)
+behind_index : (p first n : ℕ) → first ≤ p → entry_after_element p (indexed itself first n) ≡ index_entry (p + 1) (first + n)
 unfolding indexed
 behind_index p first zero le =
     let e : nat_lt (p + 1) (first + 0) ≡ false = le-ltb (p + 1) (first + 0) (omega (arith, le)) in
@@ -83,8 +83,8 @@ behind_index p first (suc n) le = by (nat_eq p first) refl (behind_index p (firs
 
     by : (b : Bool)
         → nat_eq p first ≡ b
-        → (first + 1 ≤ p → entry_behind p (indexed itself (first + 1) n) ≡ index_entry (p + 1) (first + 1 + n))
-        → (if b then first_entry (indexed itself (first + 1) n) else entry_behind p (indexed itself (first + 1) n))
+        → (first + 1 ≤ p → entry_after_element p (indexed itself (first + 1) n) ≡ index_entry (p + 1) (first + 1 + n))
+        → (if b then first_entry (indexed itself (first + 1) n) else entry_after_element p (indexed itself (first + 1) n))
         ≡ index_entry (p + 1) (first + suc n)
     by true e r =
         let same : p ≡ first = eqb-true p first e in
@@ -133,16 +133,16 @@ first_occurs (x ∷ es) e is =
     counted e.1 x.1 (occurrences e.1 (values_of es)) (ap (λ (y : List ℕ × ℕ). y.1) (sym (same_Some x e is)))
 
 behind_occurs : (p : ℕ) (es : List (List ℕ × ℕ)) (e : List ℕ × ℕ)
-    → entry_behind p es ≡ Some e → 1 ≤ occurrences e.1 (values_of es)
+    → entry_after_element p es ≡ Some e → 1 ≤ occurrences e.1 (values_of es)
 behind_occurs p [] e is = absurd (none-some e is)
 behind_occurs p (x ∷ es) e is =
     more (nat_eq e.1 x.1) (occurrences e.1 (values_of es))
     (by (nat_eq p x.1) is (first_occurs es e) (behind_occurs p es e))
   where
     by : (b : Bool)
-        → (if b then first_entry es else entry_behind p es) ≡ Some e
+        → (if b then first_entry es else entry_after_element p es) ≡ Some e
         → (first_entry es ≡ Some e → 1 ≤ occurrences e.1 (values_of es))
-        → (entry_behind p es ≡ Some e → 1 ≤ occurrences e.1 (values_of es))
+        → (entry_after_element p es ≡ Some e → 1 ≤ occurrences e.1 (values_of es))
         → 1 ≤ occurrences e.1 (values_of es)
     by true is f r = f is
     by false is f r = r is

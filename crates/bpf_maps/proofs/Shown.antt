@@ -2,8 +2,8 @@
 use Rattle.std.proofs.Common.{◌≡◌, ℕ, Bool, true, false, cond, List, [], ◌∷◌, ◌++◌, Option, Some, None, is_some, option_map}
 use Rattle.std.proofs.Common.{Result, Ok, Err, OnOk, OnErr, ◌⊎◌, inl, inr, is_err, true≢false, refl, sym, ap, ◌∙◌, if◌then◌else◌}
 use Rattle.std.specs.Map.{lookup, remove_entry, values_of}
-use Rattle.tagged_model.specs.Table.{is_key, found, without, with_key, first_key, key_behind, key_after}
-use Rattle.ordered_keys.specs.Orders.{first_key_of, key_behind_passing, key_following}
+use Rattle.tagged_model.specs.Table.{is_key, found, without, with_key, first_key, key_after_present, key_after}
+use Rattle.ordered_keys.specs.Orders.{first_key_of, key_after_match, key_following}
 use Rattle.bpf_maps.specs.KeyLists.{shown_by}
 
 cond_map : {A B : Type 0} (f : A → B) (b : Bool) (x y : A) → f (cond b x y) ≡ cond b (f x) (f y)
@@ -47,16 +47,16 @@ module _ {K : Type 0} (bytes : K → List ℕ) where
 
     -- the key after the first that passes the test has the bytes of the key after `key`
     pub behind_shown : (es : List (K × ℕ))
-        → Tests es → option_map bytes (key_behind_passing test es) ≡ key_behind key (view es)
+        → Tests es → option_map bytes (key_after_match test es) ≡ key_after_present key (view es)
     behind_shown [] h = refl
     behind_shown (e ∷ es) h =
         by (test e.0) (behind_shown es h.1)
-        ∙ ap (λ (b : Bool). if b then first_key (view es) else key_behind key (view es)) h.0
+        ∙ ap (λ (b : Bool). if b then first_key (view es) else key_after_present key (view es)) h.0
       where
         by : (b : Bool)
-            → option_map bytes (key_behind_passing test es) ≡ key_behind key (view es)
-            → option_map bytes (if b then first_key_of es else key_behind_passing test es)
-            ≡ (if b then first_key (view es) else key_behind key (view es))
+            → option_map bytes (key_after_match test es) ≡ key_after_present key (view es)
+            → option_map bytes (if b then first_key_of es else key_after_match test es)
+            ≡ (if b then first_key (view es) else key_after_present key (view es))
         by true r = first_shown es
         by false r = r
 
@@ -65,11 +65,11 @@ module _ {K : Type 0} (bytes : K → List ℕ) where
         → Tests es → option_map bytes (key_following test es) ≡ key_after key (view es)
     following_shown es h =
         by (is_some (lookup test es))
-        ∙ ap (λ (o : Option ℕ). if is_some o then key_behind key (view es) else first_key (view es)) (found_shown es h)
+        ∙ ap (λ (o : Option ℕ). if is_some o then key_after_present key (view es) else first_key (view es)) (found_shown es h)
       where
         by : (b : Bool)
-            → option_map bytes (if b then key_behind_passing test es else first_key_of es)
-            ≡ (if b then key_behind key (view es) else first_key (view es))
+            → option_map bytes (if b then key_after_match test es else first_key_of es)
+            ≡ (if b then key_after_present key (view es) else first_key (view es))
         by true = behind_shown es h
         by false = first_shown es
 
@@ -79,7 +79,7 @@ module _ {K : Type 0} (bytes : K → List ℕ) where
         → option_map bytes (first_key_of es) ≡ key_after key (view es)
     first_follows es h none =
         first_shown es
-        ∙ ap (λ (o : Option ℕ). if is_some o then key_behind key (view es) else first_key (view es))
+        ∙ ap (λ (o : Option ℕ). if is_some o then key_after_present key (view es) else first_key (view es))
         (sym (sym (found_shown es h) ∙ none))
 
   -- ---- a new key

@@ -54,13 +54,13 @@ record IsWithout {A : Type 0} (k : ℕ) (xs : List (Option A)) : Type 0 where
 
 -- if a list has an element at k, there is a list that lacks only this one (`IsWithout`); for the
 -- induction of `few_slots`
-without_slot : {A : Type 0} (k : ℕ) (xs : List (Option A))
+without_position : {A : Type 0} (k : ℕ) (xs : List (Option A))
     → IsSome (get_or xs k None)
     → IsWithout k xs
 unfolding total
-without_slot k [] some = absurd (false≢true some)
-without_slot zero (None ∷ xs) some = absurd (false≢true some)
-without_slot zero (Some x ∷ xs) some = record {
+without_position k [] some = absurd (false≢true some)
+without_position zero (None ∷ xs) some = absurd (false≢true some)
+without_position zero (Some x ∷ xs) some = record {
   slots = None ∷ xs;
   fewer = omega arith;
   others = λ j. none_else j;
@@ -69,8 +69,8 @@ without_slot zero (Some x ∷ xs) some = record {
     none_else : (j : ℕ) → j ≢ 0 → get_or (None ∷ xs) j None ≡ get_or (Some x ∷ xs) j None
     none_else zero h = absurd (h refl)
     none_else (suc j) h = refl
-without_slot (suc k) (x ∷ xs) some =
-    let rest = without_slot k xs some in
+without_position (suc k) (x ∷ xs) some =
+    let rest = without_position k xs some in
     record {
       slots = x ∷ rest.slots;
       fewer = let one = rest.fewer in omega arith;
@@ -91,7 +91,7 @@ few_slots : {A : Type 0} (n : ℕ) (at : ℕ → ℕ) (xs : List (Option A))
     → n ≤ total (λ x. 1) xs
 few_slots zero at xs used apart = omega arith
 few_slots (suc m) at xs used apart =
-    let rest = without_slot (at m) xs (used m (omega arith)) in
+    let rest = without_position (at m) xs (used m (omega arith)) in
     let fewer = rest.fewer in
     let most = few_slots m at rest.slots
     (λ i lt.

@@ -149,7 +149,7 @@ impl ArrayMap {
         ensures { option_map shown_entry result ≡ next_entry element self.now.entries }
     {
         self.keys_are_its_indices();
-        let index = index_behind(element);
+        let index = index_after_element(element);
         if index >= u64::from(self.shape.max_entries) {
             return None;
         }
@@ -159,7 +159,7 @@ impl ArrayMap {
 }
 
 /// The index that follows an element; 0 if no element is given.
-fn index_behind(element: Option<u32>) -> u64
+fn index_after_element(element: Option<u32>) -> u64
     ensures { result ≡ option_map_or (λ p. p + 1) element 0 }
 {
     match element {

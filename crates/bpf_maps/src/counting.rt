@@ -54,7 +54,7 @@ impl Maps {
 
     /// The live hash maps, for the creation of a map of this kind: a new hash map frees spare maps if they and the live ones are too many
     /// (`SpareMaps`). An array takes no memory and frees none, so for an array none are counted.
-    pub(crate) fn live_beside(&self, kind: MapKind) -> LiveHashMaps {
+    pub(crate) fn live_hash_maps_for(&self, kind: MapKind) -> LiveHashMaps {
         match kind {
             MapKind::Array => NO_HASH_MAPS,
             MapKind::Hash => self.live_hash_maps(),

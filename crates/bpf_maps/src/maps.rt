@@ -169,7 +169,7 @@ impl Maps {
         if self.bytes + size > LARGEST_SUM {
             return Err(MapFault::NoSpace);
         }
-        let live = self.live_beside(shape.kind);
+        let live = self.live_hash_maps_for(shape.kind);
         let spares = &mut self.spares;
         let Ok(map) = BpfMap::with_spares(self.alloc, shape, self.seed, spares, live) else {
             self.refused = true;

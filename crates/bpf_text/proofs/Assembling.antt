@@ -35,7 +35,7 @@ use Rattle.bpf_text.specs.declared.fault.TextFaultKind.TheVariants.{Range, Unkno
 use Rattle.bpf_text.specs.Fault.{NoneBelow, IsFirstFaultyLine, memory_fault, empty_fault}
 use Rattle.bpf_text.specs.inside.Faults.{fault_on}
 use Rattle.bpf_text.specs.inside.Labels.{Labels, definition_of, definition_at, FindsLabels, kept_line, kept_slot}
-use Rattle.bpf_text.specs.inside.Labels.{kept_distance, code_fault, label_fault, kept_fault, kept_form, kept_forms, IsFormed}
+use Rattle.bpf_text.specs.inside.Labels.{kept_distance, code_fault, label_fault, kept_fault, kept_form, kept_forms, IsNoneOrWellFormed}
 use Rattle.bpf_text.specs.Assembly.{AreRead, line_slots, slots_on, label_line, label_slot, distance, passes, is_known}
 use Rattle.bpf_text.specs.Assembly.{is_twice, line_fault, line_fault_of, fault_at, forms_from, IsAssembled, IsOwnFault}
 use Rattle.bpf_text.specs.Lines.{text_lines}
@@ -376,13 +376,13 @@ ends labels lines i slot insns finds past so =
 
 -- ---- lines that are read
 
-read_formed : (bytes : List ℕ) (line : Option Line) → ReadAs bytes line → IsFormed line
+read_formed : (bytes : List ℕ) (line : Option Line) → ReadAs bytes line → IsNoneOrWellFormed line
 read_formed bytes None h = tt
 read_formed bytes (Some line) h = h.0
 
 -- each line that is read is well formed
 pub all_formed : (text : List (List ℕ)) (lines : List (Option Line))
-    → AreRead text lines → AllByRecursion IsFormed lines
+    → AreRead text lines → AllByRecursion IsNoneOrWellFormed lines
 all_formed [] [] h = tt
 all_formed [] (line ∷ lines) h = absurd h
 all_formed (bytes ∷ text) [] h = absurd h
@@ -390,7 +390,7 @@ all_formed (bytes ∷ text) (line ∷ lines) h = (read_formed bytes line h.0, al
 
 -- if all lines are well formed, so is the line at an index
 pub formed_at : (lines : List (Option Line)) (i : ℕ) (d : Option Line)
-    → i < length lines → AllByRecursion IsFormed lines → IsFormed (get_or lines i d)
+    → i < length lines → AllByRecursion IsNoneOrWellFormed lines → IsNoneOrWellFormed (get_or lines i d)
 formed_at [] i d h all = absurd (omega arith)
 formed_at (line ∷ lines) zero d h all = all.0
 formed_at (line ∷ lines) (suc i) d h all = formed_at lines i d (omega arith) all.1

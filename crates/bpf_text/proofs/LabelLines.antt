@@ -5,7 +5,7 @@ use Rattle.std.specs.Prelude.{option_map, is_some}
 use Rattle.std.specs.Option.{option_copied}
 use Rattle.text_line.specs.declared.form.Line.{Line as CodeLine}
 use Rattle.text_line.specs.Shown.{seen_option, seen_lines}
-use Rattle.bpf_text.specs.inside.Labels.{or_else, Labels, definition_of, definition_at, FindsLabels, label_defined}
+use Rattle.bpf_text.specs.inside.Labels.{or_else, Labels, definition_of, definition_at, FindsLabels, defined_label}
 use Rattle.text_line.specs.Line.{Line, blank, label, code, ReadAs}
 use Rattle.std.specs.Str.{bytes_eq}
 use Rattle.std.proofs.lemmas.Slice.Eq.{bytes_eq-Decides}
@@ -60,7 +60,7 @@ or_none : (o : Option Definition) → or_else o None ≡ o
 or_none None = refl
 or_none (Some p) = refl
 
-defines_is : (q name : List ℕ) (x : Option Line) → label_defined x ≡ Some name → defines q x ≡ bytes_eq q name
+defines_is : (q name : List ℕ) (x : Option Line) → defined_label x ≡ Some name → defines q x ≡ bytes_eq q name
 defines_is q name None e = absurd (let no : Some name ≡ None = sym e in cc no)
 defines_is q name (Some blank) e = absurd (let no : Some name ≡ None = sym e in cc no)
 defines_is q name (Some (label n)) e = let same : n ≡ name = cc in ap (bytes_eq q) same
@@ -68,7 +68,7 @@ defines_is q name (Some (code f n)) e = absurd (let no : Some name ≡ None = sy
 
 noted_step : (old new : Option Definition) (definition : Definition) (name q : List ℕ)
     (x : Option Line) (b : Bool)
-    → label_defined x ≡ Some name → bytes_eq name q ≡ b
+    → defined_label x ≡ Some name → bytes_eq name q ≡ b
     → (b ≡ true → old ≡ None)
     → new ≡ cond b (some_definition definition) old
     → new ≡ or_else old (cond (defines q x) (some_definition definition) None)
@@ -83,7 +83,7 @@ noted_step old new definition name q x false is eq none e =
 
 -- the definition of a name that had none is kept now
 pub noted : (old new : Labels) (definition : Definition) (name : List ℕ) (x : Option Line)
-    → label_defined x ≡ Some name → definition_of old name ≡ None
+    → defined_label x ≡ Some name → definition_of old name ≡ None
     → ((q : List ℕ) → definition_of new q ≡ cond (bytes_eq name q) (some_definition definition) (definition_of old q))
     → (q : List ℕ)
     → definition_of new q ≡ or_else (definition_of old q) (cond (defines q x) (some_definition definition) None)

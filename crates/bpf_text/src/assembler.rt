@@ -10,8 +10,8 @@ ghost use Rattle.text_line.specs.Shown.{seen_option, seen_lines};
 ghost use Rattle.bpf_text.specs.declared.fault.TextFault.{TextFault as AnyFault};
 ghost use Rattle.bpf_text.specs.Fault.{IsFirstFaultyLine, memory_fault, empty_fault};
 ghost use Rattle.bpf_text.specs.Assembly.{AreRead, IsAssembled, IsOwnFault, line_slots, slots_on, defines, fault_at, forms_from};
-ghost use Rattle.bpf_text.specs.inside.Labels.{label_defined, or_else, definition_of, FindsLabels};
-ghost use Rattle.bpf_text.specs.inside.Labels.{kept_distance, code_fault, kept_fault, kept_form, IsFormed};
+ghost use Rattle.bpf_text.specs.inside.Labels.{defined_label, or_else, definition_of, FindsLabels};
+ghost use Rattle.bpf_text.specs.inside.Labels.{kept_distance, code_fault, kept_fault, kept_form, IsNoneOrWellFormed};
 ghost use Rattle.text_line.specs.Form.{IsForm};
 ghost use Rattle.text_line.specs.Ranges.{resolved};
 ghost use Rattle.text_line.specs.Written.{written};
@@ -60,7 +60,7 @@ fn line_slots(line: &Option<Line<'_>>) -> usize
 
 /// The name of the label that a line defines; `None` if it defines none.
 fn defined<'a>(line: &Option<Line<'a>>) -> Option<&'a str>
-    ensures { option_map (λ n. n.now) result ≡ label_defined (seen_option line.now) }
+    ensures { option_map (λ n. n.now) result ≡ defined_label (seen_option line.now) }
 {
     match line {
         Some(Line::Label(name)) => Some(*name),
@@ -154,7 +154,7 @@ fn instruction(
     line: &Option<Line<'_>>,
     here: Definition,
 ) -> Result<Option<Insn>, TextFaultKind>
-    requires form { IsFormed (seen_option line.now) }
+    requires form { IsNoneOrWellFormed (seen_option line.now) }
     requires room { here.slot ≤ MAX_SLOTS }
     ensures found { IfOk result (λ insn. map written (option_to_list insn)
         ≡ kept_form labels.now here.slot (seen_option line.now)) }
@@ -184,7 +184,7 @@ fn instructions(
     lines: &[Option<Line<'_>>],
     labels: &HashMap<&str, Definition>,
 ) -> Result<Vec<Insn>, TextFault>
-    requires formed { AllByRecursion IsFormed (seen_lines lines.now) }
+    requires formed { AllByRecursion IsNoneOrWellFormed (seen_lines lines.now) }
     requires labels { FindsLabels (seen_lines lines.now) labels.now (length lines.now) }
     ensures none { OnOk result ((i : ℕ) → fault_at (seen_lines lines.now) i ≡ None) }
     ensures forms { IfOk result (λ insns. map written insns.items

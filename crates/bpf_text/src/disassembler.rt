@@ -14,7 +14,7 @@ use crate::laws;
 use insn_codec::{
     AccessSize, AluOp, AtomicOp, AtomicSize, Condition, Insn, Load, Movsx, Operand, Program, Reg,
 };
-use insn_set::{alu_symbol, condition_symbol, narrow_name, order_name, size_name};
+use insn_set::{alu_symbol, condition_symbol, extension_name, order_name, size_name};
 use std::alloc::{AllocError, Global};
 use std::fmt::Write;
 
@@ -128,7 +128,7 @@ fn write_movsx(text: &mut String, movsx: &Movsx) -> Result<(), AllocError>
     } = *movsx;
     let (dst, bits, src) = (
         register_name(wide, dst),
-        narrow_name(bits),
+        extension_name(bits),
         register_name(wide, src),
     );
     write!(text, "{dst} = ({bits}){src}")

@@ -10,7 +10,7 @@ use Rattle.std.proofs.lemmas.List.{get_or-replicate}
 use Rattle.std.proofs.lemmas.List.Sums.{position_or_len_is}
 use Rattle.std.proofs.lemmas.Nat.Bits.{bit_at-zero, bit_at_ones, bit_at-trailing_ones, bit_at_set_same, bit_at_set_other, bit_at_clear_same, bit_at_clear_other}
 use Rattle.fd_table.specs.Table.{nothing_open}
-use Rattle.fd_table.specs.Bits.{TellsTaken}
+use Rattle.fd_table.specs.Bits.{MarksTaken}
 
 free_bit : (b : Bool) (bit : ℕ) → bit ≡ 0 → bit ≡ cond b 0 1 → b ≡ true
 free_bit true bit zero e = refl
@@ -28,7 +28,7 @@ module _ {A : Type 0} where
   -- the lowest 0 is the index of the first free entry
   below_full : (word : ℕ) (entries : List (Option A))
       → length entries ≡ 64 → word + 1 < 2 ^ 64
-      → TellsTaken word entries
+      → MarksTaken word entries
       → (trailing_ones w64 word < 64) × (position_or_len is_none entries ≡ trailing_ones w64 word)
   below_full word entries len room tells =
       let (within, here, before) = bit_at-trailing_ones w64 word room in
@@ -42,7 +42,7 @@ module _ {A : Type 0} where
       )
 
   -- if there is no 0, no entry is free
-  at_full : (word : ℕ) (entries : List (Option A)) → length entries ≡ 64 → word ≡ 2 ^ 64 - 1 → TellsTaken word entries
+  at_full : (word : ℕ) (entries : List (Option A)) → length entries ≡ 64 → word ≡ 2 ^ 64 - 1 → MarksTaken word entries
       → (trailing_ones w64 word ≡ 64) × (position_or_len is_none entries ≡ 64)
   at_full word entries len full tells =
       let ones : (k : ℕ) → k < 64 → bit_at word k ≡ 1 = λ k lt. ap (λ w. bit_at w k) full ∙ bit_at_ones 64 k lt in (
@@ -54,7 +54,7 @@ module _ {A : Type 0} where
 
   first_free : (word : ℕ) (entries : List (Option A))
       → length entries ≡ 64 → word < 2 ^ 64
-      → TellsTaken word entries → (word + 1 < 2 ^ 64) ⊎ (2 ^ 64 ≤ word + 1)
+      → MarksTaken word entries → (word + 1 < 2 ^ 64) ⊎ (2 ^ 64 ≤ word + 1)
       → position_or_len is_none entries ≡ trailing_ones w64 word
   first_free word entries len small tells (inl room) = (below_full word entries len room tells).1
   first_free word entries len small tells (inr full) =
@@ -64,7 +64,7 @@ module _ {A : Type 0} where
   -- if a bit is 0, the ones below the lowest 0 give the index of the first free entry
   pub some_free : (word index : ℕ) (entries seen : List (Option A))
       → entries ≡ seen → length entries ≡ 64
-      → word < 2 ^ 64 → TellsTaken word entries
+      → word < 2 ^ 64 → MarksTaken word entries
       → index ≡ trailing_ones w64 word → index < 64
       → Some index ≡ position is_none seen
   some_free word index entries seen same len small tells ones lt =
@@ -77,7 +77,7 @@ module _ {A : Type 0} where
   -- if no bit is 0, no entry is free
   pub none_free : (word index : ℕ) (entries seen : List (Option A))
       → entries ≡ seen → length entries ≡ 64
-      → word < 2 ^ 64 → TellsTaken word entries
+      → word < 2 ^ 64 → MarksTaken word entries
       → index ≡ trailing_ones w64 word → 64 ≤ index
       → None ≡ position is_none seen
   none_free word index entries seen same len small tells ones above =
@@ -89,7 +89,7 @@ module _ {A : Type 0} where
 
   more_at : (word : ℕ) (entries : List (Option A)) (index : ℕ) (x : A)
       → index < length entries → index < 64
-      → TellsTaken word entries → (k : ℕ) → k < 64
+      → MarksTaken word entries → (k : ℕ) → k < 64
       → (k ≡ index) ⊎ (k ≡ index → ⊥)
       → bit_at (bit_or word (1 * 2 ^ index % 2 ^ 64)) k
       ≡ cond (is_none (get_or (set entries index (Some x)) k None)) 0 1
@@ -105,14 +105,14 @@ module _ {A : Type 0} where
   -- after an entry is taken, its bit is set
   pub taken_more : (word : ℕ) (entries : List (Option A)) (index : ℕ) (x : A)
       → length entries ≡ 64 → index < 64
-      → TellsTaken word entries
-      → TellsTaken (bit_or word (1 * 2 ^ index % 2 ^ 64)) (set entries index (Some x))
+      → MarksTaken word entries
+      → MarksTaken (bit_or word (1 * 2 ^ index % 2 ^ 64)) (set entries index (Some x))
   taken_more word entries index x len lt tells k low =
       more_at word entries index x (omega arith) lt tells k low (cases_eq k index)
 
   less_at : (word : ℕ) (entries : List (Option A)) (index : ℕ)
       → index < length entries → index < 64
-      → TellsTaken word entries → (k : ℕ) → k < 64
+      → MarksTaken word entries → (k : ℕ) → k < 64
       → (k ≡ index) ⊎ (k ≡ index → ⊥)
       → bit_at (bit_and word (bit_not w64 (1 * 2 ^ index % 2 ^ 64))) k
       ≡ cond (is_none (get_or (set entries index None) k None)) 0 1
@@ -128,22 +128,22 @@ module _ {A : Type 0} where
   -- after an entry is freed, its bit is cleared
   pub taken_less : (word : ℕ) (entries : List (Option A)) (index : ℕ)
       → length entries ≡ 64 → index < 64
-      → TellsTaken word entries
-      → TellsTaken (bit_and word (bit_not w64 (1 * 2 ^ index % 2 ^ 64))) (set entries index None)
+      → MarksTaken word entries
+      → MarksTaken (bit_and word (bit_not w64 (1 * 2 ^ index % 2 ^ 64))) (set entries index None)
   taken_less word entries index len lt tells k low =
       less_at word entries index (omega arith) lt tells k low (cases_eq k index)
 
 -- the same, if `left` is None
 pub left_free : {A : Type 0} (word : ℕ) (entries : List (Option A)) (index : ℕ) (left : Option A)
     → length entries ≡ 64 → index < 64
-    → TellsTaken word entries → left ≡ None
-    → TellsTaken (bit_and word (bit_not w64 (1 * 2 ^ index % 2 ^ 64))) (set entries index left)
+    → MarksTaken word entries → left ≡ None
+    → MarksTaken (bit_and word (bit_not w64 (1 * 2 ^ index % 2 ^ 64))) (set entries index left)
 left_free {A = A} word entries index left len lt tells gone =
-    subst (λ (o : Option A). TellsTaken (bit_and word (bit_not w64 (1 * 2 ^ index % 2 ^ 64))) (set entries index o))
+    subst (λ (o : Option A). MarksTaken (bit_and word (bit_not w64 (1 * 2 ^ index % 2 ^ 64))) (set entries index o))
     (sym gone) (taken_less word entries index len lt tells)
 
 -- no bit is set if nothing is open
-pub none_taken : (A : Type 0) (entries : List (Option A)) → entries ≡ nothing_open → TellsTaken 0 entries
+pub none_taken : (A : Type 0) (entries : List (Option A)) → entries ≡ nothing_open → MarksTaken 0 entries
 none_taken A entries none k lt =
     bit_at-zero k
     ∙ sym (ap (λ (os : List (Option A)). cond (is_none (get_or os k None)) 0 1) none

@@ -4,8 +4,8 @@ use Rattle.std.specs.Int.{bit_at}
 use Rattle.fd_table.specs.Table.{most}
 
 -- for each index below 64, the bit of the word is 0 if the entry is free, and 1 if it is taken
-abbrev pub TellsTaken : {A : Type 0} → ℕ → List (Option A) → Type 0
-TellsTaken word entries =
+abbrev pub MarksTaken : {A : Type 0} → ℕ → List (Option A) → Type 0
+MarksTaken word entries =
     (index : ℕ)
     → index < most
     → bit_at word index ≡ (if is_none (slice_index_or entries index None) then 0 else 1)

@@ -25,13 +25,13 @@ pub struct FdTable<T> {
 impl<T> Model for FdTable<T> {
     ghost use Rattle.std.specs.Prelude.{◌≡◌, List, Option, vec_len};
     ghost use Rattle.fd_table.specs.Table.{most};
-    ghost use Rattle.fd_table.specs.Bits.{TellsTaken};
+    ghost use Rattle.fd_table.specs.Bits.{MarksTaken};
 
     ghost Value = { List (Option T) };
 
     ghost view = { λ t. t.entries.items };
 
-    ghost invariant = { λ t. (vec_len t.entries ≡ most) × TellsTaken t.taken t.entries.items };
+    ghost invariant = { λ t. (vec_len t.entries ≡ most) × MarksTaken t.taken t.entries.items };
 }
 
 /// `MOST` free entries. `AllocError`: out of memory.

@@ -18,7 +18,7 @@ ghost use Rattle.insn_codec.specs.inside.Form.{listed, is_form, alu_at, jump_at,
 ghost use Rattle.insn_codec.specs.inside.FirstFault.{fault_in_form, IsFaultOf, IsFaultAt};
 
 use crate::fault::FaultKind;
-use crate::opcode::{SourceBit, lists_offset, signed_form, size_at};
+use crate::opcode::{SourceBit, allows_offset, signed_operator, size_at};
 use insn_set::{
     AtomicOp, AtomicSize, Insn, Load, Movsx, RawSlot, Reg, alu_by_number, condition_by_number,
     load_by_opcode,
@@ -62,7 +62,7 @@ fn read_operation(
     ensures none { IfOk result (λ second. second ≡ None) }
     ensures fault { IfErr result (IsFaultOf (form.Alu wide op source) (fields slot.now)) }
 {
-    let is_listed = source.lists_operand(slot) && lists_offset(op, wide, source, slot.offset);
+    let is_listed = source.lists_operand(slot) && allows_offset(op, wide, source, slot.offset);
     check_fields(is_listed, slot)?;
     let (dst, src) = (Reg::new(slot.dst()), Reg::new(slot.src()));
     if slot.offset == 0 {
@@ -87,7 +87,7 @@ fn read_operation(
     } else {
         *entry = Insn::Alu {
             wide,
-            op: signed_form(op),
+            op: signed_operator(op),
             dst,
             src: source.operand(slot, src),
         };

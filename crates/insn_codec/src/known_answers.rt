@@ -40,7 +40,7 @@ fn written_instructions() {
 }
 
 /// The bytes of an exit are decoded as the exit, of one slot.
-fn read_instruction() {
+fn exit_is_decoded() {
     let found = decode(&[0x95, 0, 0, 0, 0, 0, 0, 0]);
     let is_exit = found == Ok((Insn::Exit, 1));
     prove!(is_exit);

@@ -63,15 +63,15 @@ impl SourceBit {
 
 /// Whether an instruction with the opcode of this operator may have this offset (RFC 9669, section 4.1). Of two operators with one opcode,
 /// `op` is the unsigned one.
-pub(crate) fn lists_offset(op: AluOp, wide: bool, source: SourceBit, offset: u16) -> bool
+pub(crate) fn allows_offset(op: AluOp, wide: bool, source: SourceBit, offset: u16) -> bool
     ensures { result ≡ offset_listed wide op source offset }
 {
-    offset == 0 || lists_other_offset(op, wide, source, offset)
+    offset == 0 || allows_other_offset(op, wide, source, offset)
 }
 
 /// Whether an instruction with the opcode of this operator may have this offset, which is not 0: 1 is for a signed division or remainder,
 /// and 8, 16 or 32 are the bits from which a move extends the sign. Other operators have only offset 0.
-fn lists_other_offset(op: AluOp, wide: bool, source: SourceBit, offset: u16) -> bool
+fn allows_other_offset(op: AluOp, wide: bool, source: SourceBit, offset: u16) -> bool
     requires { offset ≢ 0 }
     ensures { result ≡ offset_listed wide op source offset }
 {
@@ -84,7 +84,7 @@ fn lists_other_offset(op: AluOp, wide: bool, source: SourceBit, offset: u16) -> 
 
 /// The signed operator with the opcode of `op`, which is meant at offset 1. By the precondition an offset of 1 is allowed, so `op` is `Div`
 /// or `Mod`.
-pub(crate) fn signed_form(op: AluOp) -> AluOp
+pub(crate) fn signed_operator(op: AluOp) -> AluOp
     requires { IsTrue (offset_listed false op source_variant.Imm 1) }
     ensures number { alu_number result ≡ alu_number op }
     ensures offset { alu_offset result ≡ 1 }

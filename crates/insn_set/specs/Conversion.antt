@@ -20,7 +20,7 @@ order_name Swap bits.Bits32 = codes "bswap32"
 order_name Swap bits.Bits64 = codes "bswap64"
 
 -- the name of the sign extension that starts from this many low bits
-abbrev pub narrow_name : ExtendedBits → List ℕ
-narrow_name narrow.Bits8 = codes "s8"
-narrow_name narrow.Bits16 = codes "s16"
-narrow_name narrow.Bits32 = codes "s32"
+abbrev pub extension_name : ExtendedBits → List ℕ
+extension_name narrow.Bits8 = codes "s8"
+extension_name narrow.Bits16 = codes "s16"
+extension_name narrow.Bits32 = codes "s32"

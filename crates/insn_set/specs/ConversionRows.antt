@@ -1,5 +1,5 @@
 -- The byte-order conversion with a name, and the sign extension with a name, by the tables of the
--- code; they undo `order_name` and `narrow_name`. This project's own.
+-- code; they undo `order_name` and `extension_name`. This project's own.
 use Rattle.std.specs.Prelude.{ℕ, List, Option, map}
 use Rattle.words.specs.declared.operator.ByteOrder.{ByteOrder}
 use Rattle.words.specs.declared.operator.KeptBits.{KeptBits}
@@ -21,5 +21,5 @@ abbrev pub extensions : List (List ℕ × ExtendedBits)
 extensions = map (λ row. (row.0.now, row.1)) EXTENSIONS
 
 -- the number of low bits from which the sign extension with this name starts, if there is one
-abbrev pub narrow_by_name : List ℕ → Option ExtendedBits
-narrow_by_name n = named extensions n
+abbrev pub extension_by_name : List ℕ → Option ExtendedBits
+extension_by_name n = named extensions n

@@ -27,8 +27,8 @@ use Rattle.insn_set.specs.Operator.{alu_number, alu_symbol}
 use Rattle.insn_set.specs.OperatorRows.{alu_rows, alu_by_number, alu_by_symbol}
 use Rattle.insn_set.specs.Load.{load_opcode, size_name}
 use Rattle.insn_set.specs.LoadRows.{load_rows, load_by_opcode, size_by_name}
-use Rattle.insn_set.specs.Conversion.{order_name, narrow_name}
-use Rattle.insn_set.specs.ConversionRows.{orders, order_by_name, extensions, narrow_by_name}
+use Rattle.insn_set.specs.Conversion.{order_name, extension_name}
+use Rattle.insn_set.specs.ConversionRows.{orders, order_by_name, extensions, extension_by_name}
 use Rattle.insn_set.specs.TableLaws.{found_number, found_symbol, number_of, symbol_of, name_of}
 
 -- ---- atomic operations
@@ -164,10 +164,11 @@ pub order_name_is : (s : List ℕ) (o : ByteOrder × KeptBits)
 order_name_is s o e = name_of (λ o. order_name o.0 o.1) orders s o refl e
 
 -- a sign extension is found by its name
-pub narrow_name_again : (b : ExtendedBits) → narrow_by_name (narrow_name b) ≡ Some b
-narrow_name_again narrow.Bits8 = refl
-narrow_name_again _ = refl
+pub extension_name_again : (b : ExtendedBits) → extension_by_name (extension_name b) ≡ Some b
+extension_name_again narrow.Bits8 = refl
+extension_name_again _ = refl
 
 -- the sign extension that is found by a name has this name
-pub narrow_name_is : (s : List ℕ) (b : ExtendedBits) → narrow_by_name s ≡ Some b → narrow_name b ≡ s
-narrow_name_is s b e = name_of narrow_name extensions s b refl e
+pub extension_name_is : (s : List ℕ) (b : ExtendedBits)
+    → extension_by_name s ≡ Some b → extension_name b ≡ s
+extension_name_is s b e = name_of extension_name extensions s b refl e

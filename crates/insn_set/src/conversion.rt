@@ -1,8 +1,8 @@
 //! The names of byte-order conversions (RFC 9669, section 4.2) and of sign extensions (section 4.1): a row for each.
 
 ghost use Rattle.std.specs.Prelude.{◌≡◌, IfSome};
-ghost use Rattle.insn_set.specs.Conversion.{order_name, narrow_name};
-ghost use Rattle.insn_set.specs.ConversionRows.{order_by_name, narrow_by_name};
+ghost use Rattle.insn_set.specs.Conversion.{order_name, extension_name};
+ghost use Rattle.insn_set.specs.ConversionRows.{order_by_name, extension_by_name};
 
 use crate::table::named;
 use words::{ByteOrder, ExtendedBits, KeptBits};
@@ -45,16 +45,16 @@ pub fn order_by_name(name: &str) -> Option<(ByteOrder, KeptBits)>
 }
 
 /// The name of the sign extension from `bits` low bits in a line of text.
-pub fn narrow_name(bits: ExtendedBits) -> &'static str
-    ensures { result.now ≡ narrow_name bits }
+pub fn extension_name(bits: ExtendedBits) -> &'static str
+    ensures { result.now ≡ extension_name bits }
 {
     EXTENSIONS[bits as usize].0
 }
 
 /// The number of low bits from which the sign extension with this name starts; `None` if there is none.
-pub fn narrow_by_name(name: &str) -> Option<ExtendedBits>
-    ensures value { result ≡ narrow_by_name name.now }
-    ensures inverse { IfSome result (λ b. narrow_name b ≡ name.now) }
+pub fn extension_by_name(name: &str) -> Option<ExtendedBits>
+    ensures value { result ≡ extension_by_name name.now }
+    ensures inverse { IfSome result (λ b. extension_name b ≡ name.now) }
 {
     named(&EXTENSIONS, name)
 }

@@ -5,23 +5,23 @@ use Rattle.std.proofs.lemmas.Bool.{cond_both, eqb-true, eqb-false, ltb-true, ltb
 use Rattle.std.proofs.lemmas.Bool.Decides.{nat_tests}
 use Rattle.interval.specs.declared.range.Range.{Range}
 use Rattle.interval.specs.Ranges.{IsMember}
-use Rattle.interval.specs.Refine.{RangePair, swapped, where_equal, where_different, where_above, where_at_most, IsPairOn, EdgePairs, edges, unchanged, refined}
+use Rattle.interval.specs.Refine.{RangePair, swapped, if_equal, if_different, if_above, if_at_most, IsPairOn, EdgePairs, edges, unchanged, refined}
 use Rattle.words.specs.declared.operator.Condition.{Condition}
 use Rattle.words.specs.declared.operator.Condition.TheVariants.{Equal, NotEqual, Above, AboveOrEqual, Below, BelowOrEqual}
 use Rattle.words.specs.Operate.{operand_bits}
 use Rattle.words.specs.Compare.{holds, compares}
 use Rattle.interval.specs.Laws.{IsOfWords, IsPairOfWords}
 
-equal_keeps : (a b : Range) (x y : ℕ) → IsMember x a → IsMember y b → x ≡ y → IsPairOn (where_equal a b) x y
+equal_keeps : (a b : Range) (x y : ℕ) → IsMember x a → IsMember y b → x ≡ y → IsPairOn (if_equal a b) x y
 equal_keeps a b x y h k e = grind (arith, nat_tests)
 
-above_keeps : (a b : Range) (x y : ℕ) → IsMember x a → IsMember y b → y < x → IsPairOn (where_above a b) x y
+above_keeps : (a b : Range) (x y : ℕ) → IsMember x a → IsMember y b → y < x → IsPairOn (if_above a b) x y
 above_keeps a b x y h k e = grind (arith, nat_tests)
 
-at_most_keeps : (a b : Range) (x y : ℕ) → IsMember x a → IsMember y b → x ≤ y → IsPairOn (where_at_most a b) x y
+at_most_keeps : (a b : Range) (x y : ℕ) → IsMember x a → IsMember y b → x ≤ y → IsPairOn (if_at_most a b) x y
 at_most_keeps a b x y h k e = grind (arith, nat_tests)
 
-different_keeps : (a b : Range) (x y : ℕ) → IsMember x a → IsMember y b → x ≢ y → IsPairOn (where_different a b) x y
+different_keeps : (a b : Range) (x y : ℕ) → IsMember x a → IsMember y b → x ≢ y → IsPairOn (if_different a b) x y
 different_keeps a b x y h k e = grind (arith, nat_tests)
 
 turned_keeps : (e : Option RangePair) (x y : ℕ) → IsPairOn e y x → IsPairOn (swapped e) x y
@@ -57,12 +57,12 @@ edges_keep n BelowOrEqual a b x y h k = (
   (λ t. above_keeps a b x y h k (leb-false x y t)),
 )
 edges_keep n Below a b x y h k = (
-  (λ t. turned_keeps (where_above b a) x y (above_keeps b a y x k h (ltb-true x y t))),
-  (λ t. turned_keeps (where_at_most b a) x y (at_most_keeps b a y x k h (ltb-false x y t))),
+  (λ t. turned_keeps (if_above b a) x y (above_keeps b a y x k h (ltb-true x y t))),
+  (λ t. turned_keeps (if_at_most b a) x y (at_most_keeps b a y x k h (ltb-false x y t))),
 )
 edges_keep n AboveOrEqual a b x y h k = (
-  (λ t. turned_keeps (where_at_most b a) x y (at_most_keeps b a y x k h (leb-true y x t))),
-  (λ t. turned_keeps (where_above b a) x y (above_keeps b a y x k h (leb-false y x t))),
+  (λ t. turned_keeps (if_at_most b a) x y (at_most_keeps b a y x k h (leb-true y x t))),
+  (λ t. turned_keeps (if_above b a) x y (above_keeps b a y x k h (leb-false y x t))),
 )
 edges_keep n condition a b x y h k = stay n condition a b x y h k
 
@@ -90,16 +90,16 @@ refined_keep n condition a b x y h k =
 
 -- ---- the ranges on the edges are ranges of words
 
-equal_words : (a b : Range) → IsOfWords a → IsOfWords b → IsPairOfWords (where_equal a b)
+equal_words : (a b : Range) → IsOfWords a → IsOfWords b → IsPairOfWords (if_equal a b)
 equal_words a b p q = grind (arith, nat_tests)
 
-different_words : (a b : Range) → IsOfWords a → IsOfWords b → IsPairOfWords (where_different a b)
+different_words : (a b : Range) → IsOfWords a → IsOfWords b → IsPairOfWords (if_different a b)
 different_words a b p q = grind (arith, nat_tests)
 
-above_words : (a b : Range) → IsOfWords a → IsOfWords b → IsPairOfWords (where_above a b)
+above_words : (a b : Range) → IsOfWords a → IsOfWords b → IsPairOfWords (if_above a b)
 above_words a b p q = grind (arith, nat_tests)
 
-at_most_words : (a b : Range) → IsOfWords a → IsOfWords b → IsPairOfWords (where_at_most a b)
+at_most_words : (a b : Range) → IsOfWords a → IsOfWords b → IsPairOfWords (if_at_most a b)
 at_most_words a b p q = grind (arith, nat_tests)
 
 turned_words : (e : Option RangePair) → IsPairOfWords e → IsPairOfWords (swapped e)
@@ -115,9 +115,9 @@ edges_words NotEqual a b p q = (different_words a b p q, equal_words a b p q)
 edges_words Above a b p q = (above_words a b p q, at_most_words a b p q)
 edges_words BelowOrEqual a b p q = (at_most_words a b p q, above_words a b p q)
 edges_words Below a b p q =
-    (turned_words (where_above b a) (above_words b a q p), turned_words (where_at_most b a) (at_most_words b a q p))
+    (turned_words (if_above b a) (above_words b a q p), turned_words (if_at_most b a) (at_most_words b a q p))
 edges_words AboveOrEqual a b p q =
-    (turned_words (where_at_most b a) (at_most_words b a q p), turned_words (where_above b a) (above_words b a q p))
+    (turned_words (if_at_most b a) (at_most_words b a q p), turned_words (if_above b a) (above_words b a q p))
 edges_words condition a b p q = ((p, q), (p, q))
 
 -- on both edges of a comparison, ranges of words are refined to ranges of words

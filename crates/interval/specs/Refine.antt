@@ -30,31 +30,31 @@ except r v =
 
 -- the edge on which the operands are equal: both are in the intersection of the ranges, and None if
 -- it is empty
-abbrev pub where_equal : Range → Range → Option RangePair
-where_equal a b =
+abbrev pub if_equal : Range → Range → Option RangePair
+if_equal a b =
     let lo = max a.lo b.lo in
     let hi = min a.hi b.hi in
     if nat_le lo hi then Some (span lo hi, span lo hi) else None
 
 -- the edge on which the operands differ: if one is one number, the range of the other loses it at
 -- its ends; None if both are this number
-abbrev pub where_different : Range → Range → Option RangePair
-where_different a b =
+abbrev pub if_different : Range → Range → Option RangePair
+if_different a b =
     if is_constant b then option_map (λ r. (r, b)) (except a b.lo) else
     (if is_constant a then option_map (λ r. (a, r)) (except b a.lo) else Some (a, b))
 
 -- the edge on which the first operand is above the second: the first is above the least member of
 -- b, the second below the greatest of a; None if no member of a is above one of b
-abbrev pub where_above : Range → Range → Option RangePair
-where_above a b =
+abbrev pub if_above : Range → Range → Option RangePair
+if_above a b =
     if nat_le a.hi b.lo
     then None
     else Some (span (max a.lo (b.lo + 1)) a.hi, span b.lo (min b.hi (a.hi - 1)))
 
 -- the edge on which the first operand is at most the second: the first is at most the greatest
 -- member of b, the second at least the least of a; None if all members of a are above those of b
-abbrev pub where_at_most : Range → Range → Option RangePair
-where_at_most a b =
+abbrev pub if_at_most : Range → Range → Option RangePair
+if_at_most a b =
     if nat_lt b.hi a.lo then None else Some (span a.lo (min a.hi b.hi), span (max a.lo b.lo) b.hi)
 
 -- ---- both edges: if the comparison holds, and if it fails
@@ -70,12 +70,12 @@ unchanged a b = (Some (a, b), Some (a, b))
 -- the ranges on both edges, first of the edge on which the comparison holds, for operands of its
 -- width; signed comparisons and the test of a common bit refine nothing
 abbrev pub edges : Condition → Range → Range → EdgePairs
-edges Equal a b = (where_equal a b, where_different a b)
-edges NotEqual a b = (where_different a b, where_equal a b)
-edges Above a b = (where_above a b, where_at_most a b)
-edges BelowOrEqual a b = (where_at_most a b, where_above a b)
-edges Below a b = (swapped (where_above b a), swapped (where_at_most b a))
-edges AboveOrEqual a b = (swapped (where_at_most b a), swapped (where_above b a))
+edges Equal a b = (if_equal a b, if_different a b)
+edges NotEqual a b = (if_different a b, if_equal a b)
+edges Above a b = (if_above a b, if_at_most a b)
+edges BelowOrEqual a b = (if_at_most a b, if_above a b)
+edges Below a b = (swapped (if_above b a), swapped (if_at_most b a))
+edges AboveOrEqual a b = (swapped (if_at_most b a), swapped (if_above b a))
 edges SignedAbove a b = unchanged a b
 edges SignedAboveOrEqual a b = unchanged a b
 edges SignedBelow a b = unchanged a b

@@ -63,8 +63,8 @@ pub fn alu32(op: Operator, a: Range, b: Range) -> Range
     if let Operator::End { .. } = op {
         return alu64(op, a, b);
     }
-    let a = low_half(a);
-    let b = low_half(b);
+    let a = range_of_low_word(a);
+    let b = range_of_low_word(b);
     if are_constants(op, a, b) {
         Range::constant(words32::operate(op, a.lo, b.lo))
     } else {
@@ -74,7 +74,7 @@ pub fn alu32(op: Operator, a: Range, b: Range) -> Range
 
 /// The range of the members' low 32 bits: the range itself if all members have 32 bits, one number if there is one member, else all 32-bit
 /// numbers.
-fn low_half(r: Range) -> Range
+fn range_of_low_word(r: Range) -> Range
     ensures value { result ≡ operand_range 32 r }
     ensures bound { result.hi < 2 ^ 32 }
 {

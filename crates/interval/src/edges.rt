@@ -4,7 +4,7 @@ ghost use Rattle.std.specs.Prelude.{◌≡◌, ℕ, ◌+◌, ◌-◌, IsTrue, Is
 ghost use Rattle.words.specs.Widths.{width};
 ghost use Rattle.words.specs.Compare.{compares};
 ghost use Rattle.interval.specs.Ranges.{IsMember};
-ghost use Rattle.interval.specs.Refine.{except, where_equal, where_different, where_above, where_at_most, refined, IsPairOn, swapped};
+ghost use Rattle.interval.specs.Refine.{except, if_equal, if_different, if_above, if_at_most, refined, IsPairOn, swapped};
 
 use crate::range::{Range, greatest};
 use words::Condition;
@@ -28,12 +28,12 @@ pub fn refine(condition: Condition, wide: bool, a: Range, b: Range) -> (Edge, Ed
         return (Some((a, b)), Some((a, b)));
     }
     match condition {
-        Condition::Equal => (where_equal(a, b), where_different(a, b)),
-        Condition::NotEqual => (where_different(a, b), where_equal(a, b)),
-        Condition::Above => (where_above(a, b), where_at_most(a, b)),
-        Condition::BelowOrEqual => (where_at_most(a, b), where_above(a, b)),
-        Condition::Below => (swapped(where_above(b, a)), swapped(where_at_most(b, a))),
-        Condition::AboveOrEqual => (swapped(where_at_most(b, a)), swapped(where_above(b, a))),
+        Condition::Equal => (if_equal(a, b), if_different(a, b)),
+        Condition::NotEqual => (if_different(a, b), if_equal(a, b)),
+        Condition::Above => (if_above(a, b), if_at_most(a, b)),
+        Condition::BelowOrEqual => (if_at_most(a, b), if_above(a, b)),
+        Condition::Below => (swapped(if_above(b, a)), swapped(if_at_most(b, a))),
+        Condition::AboveOrEqual => (swapped(if_at_most(b, a)), swapped(if_above(b, a))),
         Condition::SignedAbove
         | Condition::SignedAboveOrEqual
         | Condition::SignedBelow
@@ -53,8 +53,8 @@ fn swapped(edge: Edge) -> Edge
 }
 
 /// The edge on which the operands are equal: both are in the intersection of the ranges, and `None` if it is empty.
-fn where_equal(a: Range, b: Range) -> Edge
-    ensures { result ≡ where_equal a b }
+fn if_equal(a: Range, b: Range) -> Edge
+    ensures { result ≡ if_equal a b }
 {
     let lo = a.lo.max(b.lo);
     let hi = a.hi.min(b.hi);
@@ -67,8 +67,8 @@ fn where_equal(a: Range, b: Range) -> Edge
 
 /// The edge on which the operands differ: if one is a constant, the other's range loses that number at its ends. `None` if both are one and
 /// the same constant.
-fn where_different(a: Range, b: Range) -> Edge
-    ensures { result ≡ where_different a b }
+fn if_different(a: Range, b: Range) -> Edge
+    ensures { result ≡ if_different a b }
 {
     if b.is_constant() {
         let rest = except(a, b.lo)?;
@@ -99,8 +99,8 @@ fn except(r: Range, value: u64) -> Option<Range>
 
 /// The edge on which the first operand is above the second: the first is above the least member of `b`, the second below the greatest of
 /// `a`. `None` if no member of `a` is above one of `b`.
-fn where_above(a: Range, b: Range) -> Edge
-    ensures { result ≡ where_above a b }
+fn if_above(a: Range, b: Range) -> Edge
+    ensures { result ≡ if_above a b }
 {
     if a.hi <= b.lo {
         return None;
@@ -112,8 +112,8 @@ fn where_above(a: Range, b: Range) -> Edge
 
 /// The edge on which the first operand is at most the second: the first is at most the greatest member of `b`, the second at least the
 /// least of `a`. `None` if all members of `a` are above those of `b`.
-fn where_at_most(a: Range, b: Range) -> Edge
-    ensures { result ≡ where_at_most a b }
+fn if_at_most(a: Range, b: Range) -> Edge
+    ensures { result ≡ if_at_most a b }
 {
     if a.lo > b.hi {
         return None;

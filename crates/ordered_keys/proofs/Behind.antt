@@ -2,7 +2,7 @@
 use Rattle.std.proofs.Common.{◌≡◌, ℕ, zero, suc, ◌+◌, ◌<◌, Bool, true, false, List, [], ◌∷◌, ◌++◌, Option, Some, None, slice_index_or}
 use Rattle.std.proofs.Common.{option_map, option_to_list, IfSome, refl, sym, ap, subst, ◌∙◌, nat_eq, if◌then◌else◌, true≢false, arith, eqb-true, eq-eqb}
 use Rattle.std.proofs.lemmas.Option.{none-some, same_Some}
-use Rattle.ordered_keys.specs.Orders.{Order, occurrences, first_element, following, first_entry, entry_behind, next_entry}
+use Rattle.ordered_keys.specs.Orders.{Order, occurrences, first_element, following, first_entry, entry_after_element, next_entry}
 use Rattle.ordered_keys.specs.inside.Ordered.{entry_of, is_entry_of, next_of_elements, in_order, HaveEntries, IsIndexed}
 use Rattle.ordered_keys.proofs.Ordered.{entry_at, first_member, following_member}
 
@@ -37,16 +37,16 @@ module _ {K : Type 0} (es : List (K × ℕ)) (indices : List ℕ) where
 
   behind_in_order : (p : ℕ) (ps : List ℕ)
       → HaveEntries es indices ps
-      → entry_behind p (in_order es indices ps) ≡ entry_or_none (following p ps)
+      → entry_after_element p (in_order es indices ps) ≡ entry_or_none (following p ps)
   behind_in_order p [] h = refl
   behind_in_order p (q ∷ ps) h =
-      ap (λ (o : Option (K × ℕ)). entry_behind p (option_to_list o ++ in_order es indices ps)) h.0.1
+      ap (λ (o : Option (K × ℕ)). entry_after_element p (option_to_list o ++ in_order es indices ps)) h.0.1
       ∙ by (nat_eq p q) (first_in_order ps h.1) (behind_in_order p ps h.1)
     where
       by : (b : Bool)
           → first_entry (in_order es indices ps) ≡ entry_or_none (first_element ps)
-          → entry_behind p (in_order es indices ps) ≡ entry_or_none (following p ps)
-          → (if b then first_entry (in_order es indices ps) else entry_behind p (in_order es indices ps))
+          → entry_after_element p (in_order es indices ps) ≡ entry_or_none (following p ps)
+          → (if b then first_entry (in_order es indices ps) else entry_after_element p (in_order es indices ps))
           ≡ entry_or_none (if b then first_element ps else following p ps)
       by true f r = f
       by false f r = r

@@ -6,7 +6,7 @@ use Rattle.std.specs.List.{IsDistinct, AllByRecursion}
 use Rattle.std.specs.Map.{lookup, remove_entry, keys_of, values_of}
 use Rattle.std.proofs.lemmas.Option.{none-some, same_Some}
 use Rattle.std.proofs.lemmas.Map.Keys.{IsDistinct-head, IsDistinct-tail}
-use Rattle.ordered_keys.specs.Orders.{Order, occurrences, first_element, following, taken_out, first_key_of, key_behind_passing, key_following}
+use Rattle.ordered_keys.specs.Orders.{Order, occurrences, first_element, following, taken_out, first_key_of, key_after_match, key_following}
 use Rattle.ordered_keys.specs.inside.Links.{AreWithin}
 use Rattle.ordered_keys.specs.inside.Ordered.{entry_of, key_of, in_order, HaveEntries, IsIndexed}
 use Rattle.ordered_keys.proofs.Rings.{times_head, unequal, here_or_later, within_at}
@@ -216,16 +216,16 @@ module _ {K : Type 0} (es : List (K × ℕ)) (indices : List ℕ) where
       -- if only p is marked, the key after the first that passes the test is that of the element after p
       pub behind_shown : (ps : List ℕ)
           → AreMarked (nat_eq p) ps
-          → key_behind_passing test (shown ps) ≡ key_of es indices (following p ps)
+          → key_after_match test (shown ps) ≡ key_of es indices (following p ps)
       behind_shown [] h = refl
       behind_shown (q ∷ ps) h =
-          ap (key_behind_passing test) (head_is q ps h.0.0 h.0.1)
-          ∙ ap (λ (b : Bool). if b then first_key_of (shown ps) else key_behind_passing test (shown ps)) h.0.2
+          ap (key_after_match test) (head_is q ps h.0.0 h.0.1)
+          ∙ ap (λ (b : Bool). if b then first_key_of (shown ps) else key_after_match test (shown ps)) h.0.2
           ∙ by (nat_eq p q) (behind_shown ps h.1)
         where
           by : (b : Bool)
-              → key_behind_passing test (shown ps) ≡ key_of es indices (following p ps)
-              → (if b then first_key_of (shown ps) else key_behind_passing test (shown ps))
+              → key_after_match test (shown ps) ≡ key_of es indices (following p ps)
+              → (if b then first_key_of (shown ps) else key_after_match test (shown ps))
               ≡ key_of es indices (if b then first_element ps else following p ps)
           by true r = first_shown ps (unmarked (nat_eq p) ps h.1)
           by false r = r
@@ -357,14 +357,14 @@ module _ {K : Type 0} (es : List (K × ℕ)) (indices : List ℕ) (order : Order
     -- the key that follows the found key is that of the element that follows its element in the order
     pub following_in_order : key_following test entries ≡ key_of es indices (following p order.elements)
     following_in_order =
-        ap (λ (o : Option ℕ). if is_some o then key_behind_passing test entries else first_key_of entries)
+        ap (λ (o : Option ℕ). if is_some o then key_after_match test entries else first_key_of entries)
         found_in_order
         ∙ behind_shown es indices test p order.elements found_marked
 
   -- the key that follows an absent key is the first one
   pub following_absent : lookup test es ≡ None → key_following test entries ≡ first_key_of entries
   following_absent none =
-      ap (λ (o : Option ℕ). if is_some o then key_behind_passing test entries else first_key_of entries)
+      ap (λ (o : Option ℕ). if is_some o then key_after_match test entries else first_key_of entries)
       (absent_in_order none)
 
   -- a look-up in the table and one in the order have the same result

@@ -57,13 +57,13 @@ module _ {K : Type 0} where
   module _ (test : K → Bool) where
     -- the key that follows the first one that passes the test; None if that is the last, or if none
     -- passes
-    abbrev pub key_behind_passing : List (K × ℕ) → Option K
-    key_behind_passing [] = None
-    key_behind_passing (e ∷ es) = if test e.0 then first_key_of es else key_behind_passing es
+    abbrev pub key_after_match : List (K × ℕ) → Option K
+    key_after_match [] = None
+    key_after_match (e ∷ es) = if test e.0 then first_key_of es else key_after_match es
 
     -- the key that follows the first one that passes the test, or the first key if none passes
     abbrev pub key_following : List (K × ℕ) → Option K
-    key_following es = if is_some (lookup test es) then key_behind_passing es else first_key_of es
+    key_following es = if is_some (lookup test es) then key_after_match es else first_key_of es
 
   -- a borrowed key, with its element
   abbrev pub lent_entry : Bor K × ℕ → K × ℕ
@@ -75,11 +75,11 @@ module _ {K : Type 0} where
   first_entry (e ∷ es) = Some e
 
   -- the entry after the one with element p; None if that is the last, or if no entry has p
-  abbrev pub entry_behind : ℕ → List (K × ℕ) → Option (K × ℕ)
-  entry_behind p [] = None
-  entry_behind p (e ∷ es) = if nat_eq p e.1 then first_entry es else entry_behind p es
+  abbrev pub entry_after_element : ℕ → List (K × ℕ) → Option (K × ℕ)
+  entry_after_element p [] = None
+  entry_after_element p (e ∷ es) = if nat_eq p e.1 then first_entry es else entry_after_element p es
 
   -- the entry after the one with a given element, or the first entry if no element is given
   abbrev pub next_entry : Option ℕ → List (K × ℕ) → Option (K × ℕ)
   next_entry None es = first_entry es
-  next_entry (Some p) es = entry_behind p es
+  next_entry (Some p) es = entry_after_element p es

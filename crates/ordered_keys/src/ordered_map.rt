@@ -9,7 +9,7 @@ ghost use Rattle.std.specs.Option.{option_map_or};
 ghost use Rattle.std.specs.Map.{lookup, remove_entry, values_of};
 ghost use Rattle.ordered_keys.specs.Orders.{occurrences, first_key_of, key_following, lent_entry, next_entry};
 ghost use Rattle.indexmap.specs.IndexMap.{index_map_len, spare};
-ghost use Rattle.ordered_keys.specs.inside.Ordered.{IsIndexed, AreApart, HasRoom, entry_of, is_entry_of, key_of, next_of_elements};
+ghost use Rattle.ordered_keys.specs.inside.Ordered.{IsIndexed, AreApart, HasAllRows, entry_of, is_entry_of, key_of, next_of_elements};
 
 use crate::element_order::ElementOrder;
 use indexmap::{Equivalent, IndexMap};
@@ -246,12 +246,12 @@ fn take_out<K: Eq + Hash + Copy, S: BuildHasher>(
 ) -> (K, u32)
     requires within { index < index_map_len table.old }
     requires few { index_map_len table.old ≤ bound }
-    requires room { HasRoom bound table.old }
+    requires room { HasAllRows bound table.old }
     requires empty { vec_len rows.old ≡ 0 }
     requires buffer { bound ≤ 2 * vec_capacity rows.old }
     ensures entry { slice_get table.old.entries index ≡ Some result }
     ensures entries { table.new.entries ≡ swap_remove table.old.entries index result }
-    ensures room { HasRoom bound table.new }
+    ensures room { HasAllRows bound table.new }
     ensures empty { vec_len rows.new ≡ 0 }
     ensures buffer { bound ≤ 2 * vec_capacity rows.new }
 {

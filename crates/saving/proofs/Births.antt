@@ -29,7 +29,7 @@ use Rattle.verifier.specs.declared.refusal.Refusal.{Refusal}
 use Rattle.tenant.specs.Machine.{Answer, cause_errno, Answers, refuses, refuses_for_memory, kind_of, asked_shape, new_map}
 use Rattle.tenant.specs.Machine.{room_for, created_at, created_as, created_under, created, handles_from, named_handle}
 use Rattle.tenant.specs.Machine.{loaded_program, answer_of_judgement, LoadsAs, LoadsUnder, Loads, closed, on_map, of_object}
-use Rattle.tenant.specs.Machine.{of_handle, gives_if_found, element_put, element_taken_out, outcome_answer, run_of, longest_packet, maps_given}
+use Rattle.tenant.specs.Machine.{of_handle, gives_or_no_entry, element_put, element_taken_out, outcome_answer, run_of, longest_packet, maps_given}
 use Rattle.saving.specs.Alike.{HoldsItsMaps}
 use Rattle.saving.specs.Births.{Birth, OfMap, OfProgram, number, birth_of, latest_at, is_of_map, is_of_program, IsBorn}
 use Rattle.saving.specs.Births.{AreInOrder, AreBirths, is_open_program, lives, with_birth, with_opened, births_after}
@@ -610,7 +610,7 @@ module _ (s : TenantState) where
   if_same true a b p q = p
   if_same false a b p q = q
 
-  found_same : (o : Option (List ℕ)) → (gives_if_found s o).after.objects ≡ s.objects
+  found_same : (o : Option (List ℕ)) → (gives_or_no_entry s o).after.objects ≡ s.objects
   found_same None = refl
   found_same (Some value) = refl
 

@@ -30,7 +30,7 @@ use Rattle.insn_set.specs.declared.insn.Insn.{Insn}
 use Rattle.verifier.specs.declared.refusal.Refusal.{Refusal}
 use Rattle.verifier.specs.Judgement.{Judges}
 use Rattle.tenant.specs.Machine.{Answer, refuses, refuses_for_memory, gives, opens, kind_of, asked_shape, new_map, room_for, created_at}
-use Rattle.tenant.specs.Machine.{created_as, created_under, created, of_handle, of_object, on_map, gives_if_found, element_put}
+use Rattle.tenant.specs.Machine.{created_as, created_under, created, of_handle, of_object, on_map, gives_or_no_entry, element_put}
 use Rattle.tenant.specs.Machine.{element_taken_out, targets, targets_from, handles_from, loaded_program, answer_of_judgement, LoadsAs}
 use Rattle.tenant.specs.Machine.{LoadsUnder, Loads, longest_packet, maps_given, maps_left, outcome_answer, ran, run_of, closed, Answers}
 use Rattle.saving.specs.Alike.{moved_maps, moved_object, IsMovedBy, IsAlikeAnswer}
@@ -128,7 +128,7 @@ module _ {move : ℕ → ℕ} {s t : TenantState} (h : ArePair move s t) where
           IsAlikeAnswer (of_handle s handle f (live s handle)) (of_handle t (move handle) g o))
           (sym (same_named h handle named)) (there handle (live s handle) named)
 
-  found_too : (o : Option (List ℕ)) → IsAlikeAnswer (gives_if_found s o) (gives_if_found t o)
+  found_too : (o : Option (List ℕ)) → IsAlikeAnswer (gives_or_no_entry s o) (gives_or_no_entry t o)
   found_too None = refused_too NoEntry
   found_too (Some value) = given_too value
 

@@ -26,7 +26,7 @@ use Rattle.tenant.specs.State.{Map, TenantState, new_tenant, live, names, is_nam
 use Rattle.insn_set.specs.declared.insn.Insn.{Insn}
 use Rattle.verifier.specs.declared.refusal.Refusal.{Refusal}
 use Rattle.tenant.specs.Machine.{Answer, refuses, kind_of, asked_shape, new_map, room_for, created_at, created_as, created_under, created}
-use Rattle.tenant.specs.Machine.{of_handle, of_object, on_map, gives_if_found, element_put, element_taken_out, loaded_program}
+use Rattle.tenant.specs.Machine.{of_handle, of_object, on_map, gives_or_no_entry, element_put, element_taken_out, loaded_program}
 use Rattle.tenant.specs.Machine.{answer_of_judgement, LoadsAs, LoadsUnder, Loads, longest_packet, maps_given, maps_left, outcome_answer, run_of, closed}
 use Rattle.tenant.specs.Machine.{Answers}
 use Rattle.saving.specs.Alike.{HoldsItsMaps}
@@ -206,7 +206,7 @@ module _ {s : TenantState} (h : HoldsItsMaps s) where
       by (Some (object.Program l)) is = h
       by (Some (object.Map handle)) is = there handle (live s handle) (named_handle_is_named s.objects fd handle is)
 
-  found_held : (o : Option (List ℕ)) → HoldsItsMaps (gives_if_found s o).after
+  found_held : (o : Option (List ℕ)) → HoldsItsMaps (gives_or_no_entry s o).after
   found_held None = h
   found_held (Some value) = h
 

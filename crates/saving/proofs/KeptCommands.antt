@@ -32,7 +32,7 @@ use Rattle.insn_set.specs.declared.insn.Insn.{Insn}
 use Rattle.verifier.specs.declared.refusal.Refusal.{Refusal}
 use Rattle.verifier.specs.Judgement.{Judges}
 use Rattle.tenant.specs.Machine.{Answer, Answers, refuses, refuses_for_memory, kind_of, asked_shape, new_map, room_for, created_at, created_as}
-use Rattle.tenant.specs.Machine.{created_under, created, of_handle, of_object, on_map, gives_if_found, element_put, element_taken_out, targets}
+use Rattle.tenant.specs.Machine.{created_under, created, of_handle, of_object, on_map, gives_or_no_entry, element_put, element_taken_out, targets}
 use Rattle.tenant.specs.Machine.{loaded_program, answer_of_judgement, LoadsAs, LoadsUnder, Loads, longest_packet, maps_given, maps_left, outcome_answer, run_of}
 use Rattle.tenant.specs.Machine.{closed}
 use Rattle.saving.specs.Alike.{HoldsItsMaps}
@@ -208,7 +208,7 @@ module _ {s : TenantState} (can : IsRestorable s) where
   taken_kept handle t key (Ok value) there e holds =
       one_kept handle t (after_run (with_deleted t key)) there (gone_left t key value e) holds
 
-  found_kept : (o : Option (List ℕ)) → Keeps (gives_if_found s o)
+  found_kept : (o : Option (List ℕ)) → Keeps (gives_or_no_entry s o)
   found_kept None holds = can
   found_kept (Some value) holds = can
 

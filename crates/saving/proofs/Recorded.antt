@@ -26,7 +26,7 @@ use Rattle.saving.specs.Births.{Birth, AreBirths, with_opened, births_after}
 use Rattle.saving.specs.Laws.{MapsAreHeld, BirthsAreKept}
 use Rattle.saving.specs.Recorded.{IsRecorded}
 use Rattle.saving.specs.inside.Frames.{AnswersCommand}
-use Rattle.saving.specs.inside.Opened.{with_told}
+use Rattle.saving.specs.inside.Opened.{births_after_reply}
 use Rattle.saving.proofs.Births.{same_births}
 
 -- ---- whether a map is live does not depend on the bytes of a part
@@ -149,7 +149,7 @@ no_birth NoSpace s births = refl
 
 -- the births that the code records by a reply are those by the status that it represents
 pub births_opened : (r : Result Reply Errno) (s : TenantState) (births : List Birth)
-    → with_told r s.objects births ≡ with_opened (shown_answer r s).status (shown_answer r s).after births
+    → births_after_reply r s.objects births ≡ with_opened (shown_answer r s).status (shown_answer r s).after births
 births_opened (Ok reply.Done) s births = refl
 births_opened (Ok (reply.Opened fd)) s births = refl
 births_opened (Ok (reply.Value value)) s births = refl

@@ -35,7 +35,8 @@ use Rattle.tagged_model.specs.State.{object_written, object_stored, value_writte
 use Rattle.tagged_model.specs.Helpers.{called, helper_of, put, taken_out}
 use Rattle.tagged_model.specs.HelperLaws.{MapAfterCall, unchanged, written, after_update, after_delete, EntryAfterCall, LeavesAfterCall, call_leaves}
 use Rattle.tagged_model.specs.Step.{Step, goes, ends, faults, or_fault, assigned, operand_value, jumped, branched, ended, changed, accessed, loaded_wide}
-use Rattle.tagged_model.specs.Step.{act_of, step, run, Ending, ending_after, MapsByDescriptor, start_of_run, numbered, first_map, last_map, left_of, run_with}
+use Rattle.tagged_model.specs.Step.{act_of, step, run, Ending, ending_after, run_with}
+use Rattle.tagged_model.specs.Step.{MapsByDescriptor, start_of_run, numbered, map_at_start, map_after_run, left_of}
 
 -- ---- a map of a run
 
@@ -369,7 +370,7 @@ values_sized size [] number h lt = absurd (omega arith)
 values_sized size (e ∷ es) zero h lt = h.0
 values_sized size (e ∷ es) (suc number) h lt = values_sized size es number h.1 (omega arith)
 
-begins_whole : (t : Table (List ℕ)) → IsWholeMap t → IsWholeRunMap (first_map t)
+begins_whole : (t : Table (List ℕ)) → IsWholeMap t → IsWholeRunMap (map_at_start t)
 begins_whole t whole = record {
   table = whole_by_keys whole.table (numbered 0 t.entries) (numbered_keys 0 t.entries);
   owns =
@@ -390,7 +391,7 @@ with_sized : (size count : ℕ) (values : ℕ → List ℕ) (es : List (List ℕ
 with_sized size count values [] owns h = tt
 with_sized size count values (e ∷ es) owns h = (h e.1 owns.0, with_sized size count values es owns.1 h)
 
-ends_whole : (t : RunMap) → IsWholeRunMap t → IsWholeMap (last_map t)
+ends_whole : (t : RunMap) → IsWholeRunMap t → IsWholeMap (map_after_run t)
 ends_whole t whole = record {
   table =
       whole_after_run (whole_by_keys whole.table (map (λ e. (e.0, t.values e.1)) t.table.entries)
@@ -407,7 +408,7 @@ leaves_maps code maps words packet m =
     (run_same code (slot_count code) (start_of_run maps words packet) m)
   where
     by : (o : Option (Table (List ℕ))) (p : Option RunMap)
-        → IsSameMap (option_map first_map o) p → LeavesMap o (option_map last_map p)
+        → IsSameMap (option_map map_at_start o) p → LeavesMap o (option_map map_after_run p)
     by None None h = tt
     by None (Some u) h = h
     by (Some t) None h = h

@@ -10,7 +10,7 @@ use Rattle.command_frames.specs.Command.{Command, close}
 use Rattle.fd_table.specs.Table.{first_descriptor, most, named}
 use Rattle.insn_set.specs.Program.{program_bytes}
 use Rattle.insn_set.specs.Spelling.{spelling}
-use Rattle.ordered_keys.specs.Orders.{occurrences, first_entry, entry_behind, next_entry}
+use Rattle.ordered_keys.specs.Orders.{occurrences, first_entry, entry_after_element, next_entry}
 use Rattle.tenant.specs.declared.object.OpenObject.{OpenObject}
 use Rattle.tenant.specs.State.{Map, TenantState, live}
 use Rattle.saving.specs.declared.save_parts.TheConstants.{KEYS_OF_PART}
@@ -18,7 +18,7 @@ use Rattle.saving.specs.Births.{Birth, OfMap, OfProgram, number}
 use Rattle.saving.specs.Filler.{filler}
 use Rattle.saving.specs.Restored.{load_of, made_map, made_program, made, filled, born, closings}
 use Rattle.saving.specs.SaveParts.{made_empty, puts_of, creation, key_commands, birth_parts, PartsAreWhole}
-use Rattle.saving.specs.inside.Puts.{closing, rest_behind, rest_after}
+use Rattle.saving.specs.inside.Puts.{closing, entries_after, rest_after}
 use Rattle.saving.proofs.Pieces.{joined}
 
 -- ---- all parts
@@ -141,13 +141,13 @@ module _ {K : Type 0} where
   first_of_rest None es = refl
   first_of_rest (Some p) es = behind p es
     where
-      behind : (p : ℕ) (es : List (K × ℕ)) → entry_behind p es ≡ first_entry (rest_behind p es)
+      behind : (p : ℕ) (es : List (K × ℕ)) → entry_after_element p es ≡ first_entry (entries_after p es)
       behind p [] = refl
       behind p (e ∷ es) = by (nat_eq p e.1) (behind p es)
         where
           by : (b : Bool)
-              → entry_behind p es ≡ first_entry (rest_behind p es)
-              → (if b then first_entry es else entry_behind p es) ≡ first_entry (if b then es else rest_behind p es)
+              → entry_after_element p es ≡ first_entry (entries_after p es)
+              → (if b then first_entry es else entry_after_element p es) ≡ first_entry (if b then es else entries_after p es)
           by true r = refl
           by false r = r
 
@@ -181,43 +181,43 @@ module _ {K : Type 0} where
       seen e.1 x.1 (occurrences e.1 (values_of es)) (ap (λ (y : K × ℕ). y.1) (sym (same_Some x e is)))
 
   behind_seen : (p : ℕ) (e : K × ℕ) (es : List (K × ℕ))
-      → entry_behind p es ≡ Some e → 1 ≤ occurrences e.1 (values_of es)
+      → entry_after_element p es ≡ Some e → 1 ≤ occurrences e.1 (values_of es)
   behind_seen p e [] is = absurd (none-some e is)
   behind_seen p e (x ∷ es) is =
       seen_later (nat_eq e.1 x.1) (occurrences e.1 (values_of es))
       (by (nat_eq p x.1) is (first_seen e es) (behind_seen p e es))
     where
       by : (b : Bool)
-          → (if b then first_entry es else entry_behind p es) ≡ Some e
+          → (if b then first_entry es else entry_after_element p es) ≡ Some e
           → (first_entry es ≡ Some e → 1 ≤ occurrences e.1 (values_of es))
-          → (entry_behind p es ≡ Some e → 1 ≤ occurrences e.1 (values_of es))
+          → (entry_after_element p es ≡ Some e → 1 ≤ occurrences e.1 (values_of es))
           → 1 ≤ occurrences e.1 (values_of es)
       by true is f r = f is
       by false is f r = r is
 
-  skip : (p : ℕ) (x : K × ℕ) (es : List (K × ℕ)) → nat_eq p x.1 ≡ false → rest_behind p (x ∷ es) ≡ rest_behind p es
-  skip p x es e = ap (λ (b : Bool). if b then es else rest_behind p es) e
+  skip : (p : ℕ) (x : K × ℕ) (es : List (K × ℕ)) → nat_eq p x.1 ≡ false → entries_after p (x ∷ es) ≡ entries_after p es
+  skip p x es e = ap (λ (b : Bool). if b then es else entries_after p es) e
 
-  rest_of_first : (e : K × ℕ) (es : List (K × ℕ)) → first_entry es ≡ Some e → es ≡ e ∷ rest_behind e.1 es
+  rest_of_first : (e : K × ℕ) (es : List (K × ℕ)) → first_entry es ≡ Some e → es ≡ e ∷ entries_after e.1 es
   rest_of_first e [] is = absurd (none-some e is)
   rest_of_first e (x ∷ es) is =
       let same = same_Some x e is in
       let hit : nat_eq e.1 x.1 ≡ true = self x.1 e.1 (ap (λ (y : K × ℕ). y.1) same) in
-      ap (λ (y : K × ℕ). y ∷ es) same ∙ ap (λ (b : Bool). e ∷ (if b then es else rest_behind e.1 es)) (sym hit)
+      ap (λ (y : K × ℕ). y ∷ es) same ∙ ap (λ (b : Bool). e ∷ (if b then es else entries_after e.1 es)) (sym hit)
 
   rest_of_behind : (p : ℕ) (e : K × ℕ) (es : List (K × ℕ))
-      → AreOnce es → entry_behind p es ≡ Some e
-      → rest_behind p es ≡ e ∷ rest_behind e.1 es
+      → AreOnce es → entry_after_element p es ≡ Some e
+      → entries_after p es ≡ e ∷ entries_after e.1 es
   rest_of_behind p e [] once is = absurd (none-some e is)
   rest_of_behind p e (x ∷ es) once is = by (nat_eq p x.1) is (rest_of_behind p e es (later_once x es once))
     where
-      other : 1 ≤ occurrences e.1 (values_of es) → rest_behind e.1 (x ∷ es) ≡ rest_behind e.1 es
+      other : 1 ≤ occurrences e.1 (values_of es) → entries_after e.1 (x ∷ es) ≡ entries_after e.1 es
       other some = skip e.1 x es (head_other x es e.1 once some)
 
       by : (b : Bool)
-          → (if b then first_entry es else entry_behind p es) ≡ Some e
-          → (entry_behind p es ≡ Some e → rest_behind p es ≡ e ∷ rest_behind e.1 es)
-          → (if b then es else rest_behind p es) ≡ e ∷ rest_behind e.1 (x ∷ es)
+          → (if b then first_entry es else entry_after_element p es) ≡ Some e
+          → (entry_after_element p es ≡ Some e → entries_after p es ≡ e ∷ entries_after e.1 es)
+          → (if b then es else entries_after p es) ≡ e ∷ entries_after e.1 (x ∷ es)
       by true is r = rest_of_first e es is ∙ ap (λ (ys : List (K × ℕ)). e ∷ ys) (sym (other (first_seen e es is)))
       by false is r = r is ∙ ap (λ (ys : List (K × ℕ)). e ∷ ys) (sym (other (behind_seen p e es is)))
 

@@ -28,7 +28,7 @@ use Rattle.transfer.specs.Effects.{effect}
 use Rattle.verifier.specs.Before.{facts_before, facts_from_below}
 use Rattle.verifier.specs.Laws.{MapsAreListed}
 use Rattle.verifier.specs.Maps.{maps_of, is_among, entries_of, shapes_of}
-use Rattle.verifier.specs.Shape.{is_map, is_not_open, is_not_map, is_no_value, calls_unknown, is_slot, leads_outside}
+use Rattle.verifier.specs.Shape.{is_map, is_not_open, is_not_map, is_no_value, calls_unknown, is_number, leads_outside}
 use Rattle.verifier.specs.Shape.{leads_backward, is_reachable, reached_from, first_reason, shape_reason, shape_of, structure_fault}
 use Rattle.verifier.specs.Verdict.{HasNoFault, IsAccepted, reason_of, safety_fault}
 use Rattle.saving.specs.Filler.{filler}
@@ -99,7 +99,7 @@ module _ (a b : List Named) where
           ∷ (falls i && nat_le (slot_count code) (falls_to i at), FallsOff)
           ∷ (not (is_reachable code at), Unreachable)
           ∷ (calls_unknown i, UnknownHelper)
-          ∷ (is_slot (written_register i) 10, FramePointerWritten)
+          ∷ (is_number (written_register i) 10, FramePointerWritten)
           ∷ (x, DescriptorNotOpen)
           ∷ (y, DescriptorNotMap)
           ∷ (z, NoDirectValue)

@@ -3,7 +3,7 @@
 ghost use Rattle.std.specs.Prelude.{◌≡◌, ◌<◌, ◌≤◌, ℕ, List, [], ◌∷◌, length, filter, reverse, IfOk};
 ghost use Rattle.tenant.specs.Kept.{state_in};
 ghost use Rattle.saving.specs.Births.{lives as lives_in};
-ghost use Rattle.saving.specs.inside.Opened.{with_told};
+ghost use Rattle.saving.specs.inside.Opened.{births_after_reply};
 
 use bpf_maps::{MAPS, MapKey};
 use fd_table::MOST;
@@ -79,8 +79,8 @@ impl Births {
     /// Adds the birth of the object that a command opened, if its reply has the new descriptor; after any other reply or an error, none.
     /// There is room for it. `tenant` is the tenant after the command.
     pub(crate) fn note(&mut self, tenant: &Tenant, answer: &Result<Reply<'_>, Errno>)
-        requires { length (with_told answer.now tenant.now.objects self.old) ≤ MOST_BIRTHS }
-        ensures { self.new ≡ with_told answer.now tenant.now.objects self.old }
+        requires { length (births_after_reply answer.now tenant.now.objects self.old) ≤ MOST_BIRTHS }
+        ensures { self.new ≡ births_after_reply answer.now tenant.now.objects self.old }
     {
         if let Ok(Reply::Opened(fd)) = answer {
             match tenant.object(*fd) {

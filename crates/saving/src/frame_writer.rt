@@ -96,7 +96,7 @@ impl FrameWriter {
     }
 
     /// Appends the frame that closes a descriptor.
-    fn close(&mut self, fd: u32) -> Result<(), AllocError>
+    fn append_close(&mut self, fd: u32) -> Result<(), AllocError>
         ensures written { OnOk result (self.new.frames.items
             ≡ self.old.frames.items ++ framed (frame_of self.old.number (close fd))) }
         ensures number { self.new.number ≡ self.old.number }
@@ -106,7 +106,7 @@ impl FrameWriter {
     }
 
     /// Appends the frame that creates a map of this shape.
-    fn create(&mut self, shape: MapShape) -> Result<(), AllocError>
+    fn append_create(&mut self, shape: MapShape) -> Result<(), AllocError>
         ensures written { OnOk result (self.new.frames.items
             ≡ self.old.frames.items ++ framed (frame_of self.old.number (create_of shape))) }
         ensures number { self.new.number ≡ self.old.number }
@@ -123,7 +123,7 @@ impl FrameWriter {
     }
 
     /// Appends the frame that puts a key and its value into the map at a descriptor.
-    fn put(&mut self, fd: u32, key: &[u8], value: &[u8]) -> Result<(), AllocError>
+    fn append_update(&mut self, fd: u32, key: &[u8], value: &[u8]) -> Result<(), AllocError>
         ensures written { OnOk result (self.new.frames.items
             ≡ self.old.frames.items
             ++ framed (frame_of self.old.number (put_of fd (key.now, value.now)))) }
@@ -141,7 +141,7 @@ impl FrameWriter {
     }
 
     /// Appends the frame that loads the program that these slots spell.
-    fn load(&mut self, slots: &[u8]) -> Result<(), AllocError>
+    fn append_load(&mut self, slots: &[u8]) -> Result<(), AllocError>
         ensures written { OnOk result (self.new.frames.items
             ≡ self.old.frames.items ++ framed (frame_of self.old.number (prog_load 1 slots.now))) }
         ensures number { self.new.number ≡ self.old.number }
@@ -155,34 +155,34 @@ impl FrameWriter {
     }
 
     /// Appends the frames that open a program at each descriptor of a new tenant: 64 loads of `FILLER`.
-    fn fill(&mut self) -> Result<(), AllocError>
+    fn append_filling(&mut self) -> Result<(), AllocError>
         ensures written { OnOk result (self.new.frames.items
             ≡ self.old.frames.items ++ frames_of self.old.number (filled most)) }
     {
         // Room for all at once, so that the frames are not moved while they grow.
         self.frames.reserve(BYTES_OF_LOADS)?;
         for _ in 0..MOST {
-            self.load(&FILLER)?;
+            self.append_load(&FILLER)?;
         }
         Ok(())
     }
 
     /// Appends the frame that closes a descriptor, if it is not open in the saved tenant; none if it is. A restored tenant has each
     /// descriptor open until then.
-    fn close_unless_open(&mut self, tenant: &Tenant, fd: u32) -> Result<(), AllocError>
+    fn append_close_unless_open(&mut self, tenant: &Tenant, fd: u32) -> Result<(), AllocError>
         ensures written { OnOk result (self.new.frames.items
             ≡ self.old.frames.items ++ frames_of self.old.number
             (closing fd (named tenant.now.objects fd))) }
         ensures number { self.new.number ≡ self.old.number }
     {
         match tenant.object(fd) {
-            None => self.close(fd),
+            None => self.append_close(fd),
             Some(_) => Ok(()),
         }
     }
 
     /// Appends the frames that close the descriptors that are not open in the saved tenant.
-    fn close_rest(&mut self, tenant: &Tenant) -> Result<(), AllocError>
+    fn append_closing(&mut self, tenant: &Tenant) -> Result<(), AllocError>
         ensures written { OnOk result (self.new.frames.items
             ≡ self.old.frames.items ++ frames_of self.old.number
             (closings tenant.now.objects first_descriptor most)) }
@@ -190,7 +190,7 @@ impl FrameWriter {
         // Room for all at once, even if fewer are closed, so that the frames are not moved while they grow.
         self.frames.reserve(BYTES_OF_CLOSES)?;
         for fd in FIRST..FIRST + MOST as u32 {
-            self.close_unless_open(tenant, fd)?;
+            self.append_close_unless_open(tenant, fd)?;
         }
         Ok(())
     }
@@ -198,7 +198,7 @@ impl FrameWriter {
     /// Appends the frames that put keys of a map, with their values, into the map at descriptor `fd`: in their order, those after the key
     /// of element `before`, or from the first on if it is `None`; at most `KEYS_OF_PART`, fewer if no more follow. The part has `PART`
     /// bytes.
-    fn put_after(
+    fn append_updates_after(
         &mut self,
         tenant: &Tenant,
         map: MapKey,
@@ -217,7 +217,7 @@ impl FrameWriter {
             let Some(entry) = tenant.map_entry(map, after, part) else {
                 return Ok(());
             };
-            self.put(fd, entry.key.bytes(), entry.value)?;
+            self.append_update(fd, entry.key.bytes(), entry.value)?;
             after = Some(entry.element);
         }
         Ok(())
@@ -225,7 +225,7 @@ impl FrameWriter {
 
     /// Appends the frames that put the keys of a map from index `first` on, with their values, into the map at descriptor `fd`, in their
     /// order and at most `KEYS_OF_PART`; none if the map is not live, of which there is no birth. The part has `PART` bytes.
-    fn put_keys(
+    fn append_keys(
         &mut self,
         tenant: &Tenant,
         map: MapKey,
@@ -247,24 +247,24 @@ impl FrameWriter {
         self.frames
             .reserve(bytes_of_puts(shape, left.min(KEYS_OF_PART)))?;
         let before = element_before(tenant, map, first, part);
-        self.put_after(tenant, map, fd, before, part)
+        self.append_updates_after(tenant, map, fd, before, part)
     }
 
     /// Appends the frame that creates a map of the shape of this one; none if it is not live, of which there is no birth.
-    fn make_map(&mut self, tenant: &Tenant, map: MapKey) -> Result<(), AllocError>
+    fn append_map(&mut self, tenant: &Tenant, map: MapKey) -> Result<(), AllocError>
         ensures written { (part : List ℕ) → OnOk result (self.new.frames.items
             ≡ self.old.frames.items ++ frames_of self.old.number
             (made_empty (live (state_in part tenant.now) map))) }
     {
         match tenant.map_shape(map) {
-            Some(shape) => self.create(shape),
+            Some(shape) => self.append_create(shape),
             None => Ok(()),
         }
     }
 
     /// Appends the frame that loads the program that a descriptor names; none if it names none, which does not happen
     /// for the birth of a program.
-    fn make_program(&mut self, tenant: &Tenant, alloc: Global, fd: u32) -> Result<(), AllocError>
+    fn append_program(&mut self, tenant: &Tenant, alloc: Global, fd: u32) -> Result<(), AllocError>
         ensures written { OnOk result (self.new.frames.items
             ≡ self.old.frames.items ++ frames_of self.old.number
             (made_program (named tenant.now.objects fd))) }
@@ -273,24 +273,29 @@ impl FrameWriter {
             return Ok(());
         };
         let slots = write_program(alloc, program.program().program())?;
-        self.load(&slots)
+        self.append_load(&slots)
     }
 
     /// Appends the frames that close the descriptor of a birth and create its object, a map without keys or a program. It gets this
     /// descriptor, since all others are open.
-    fn make(&mut self, tenant: &Tenant, alloc: Global, birth: Birth) -> Result<(), AllocError>
+    fn append_creation(
+        &mut self,
+        tenant: &Tenant,
+        alloc: Global,
+        birth: Birth,
+    ) -> Result<(), AllocError>
         ensures written { (part : List ℕ) → OnOk result (self.new.frames.items
             ≡ self.old.frames.items ++ frames_of self.old.number
             (creation (state_in part tenant.now) birth)) }
     {
         match birth {
             Birth::OfMap(map, fd) => {
-                self.close(fd)?;
-                self.make_map(tenant, map)
+                self.append_close(fd)?;
+                self.append_map(tenant, map)
             }
             Birth::OfProgram(fd) => {
-                self.close(fd)?;
-                self.make_program(tenant, alloc, fd)
+                self.append_close(fd)?;
+                self.append_program(tenant, alloc, fd)
             }
         }
     }
@@ -309,10 +314,10 @@ impl FrameWriter {
             (part_commands (state_in part.now tenant.now) wanted)) }
     {
         match wanted {
-            SavePart::Filling => self.fill(),
-            SavePart::Creation(birth) => self.make(tenant, alloc, birth),
-            SavePart::Keys(map, fd, first) => self.put_keys(tenant, map, fd, first, part),
-            SavePart::Closing => self.close_rest(tenant),
+            SavePart::Filling => self.append_filling(),
+            SavePart::Creation(birth) => self.append_creation(tenant, alloc, birth),
+            SavePart::Keys(map, fd, first) => self.append_keys(tenant, map, fd, first, part),
+            SavePart::Closing => self.append_closing(tenant),
         }
     }
 }

@@ -4,7 +4,7 @@ use Rattle.std.specs.Prelude.{Some}
 use Rattle.tagged_model.specs.declared.shape.MapKind.TheVariants.{Hash}
 use Rattle.tagged_model.specs.State.{RunMap}
 use Rattle.tagged_model.specs.Table.{look_up}
-use Rattle.tagged_model.specs.Helpers.{packet_bytes, packet_answer, updated, removed}
+use Rattle.tagged_model.specs.Helpers.{packet_bytes, packet_result, updated, removed}
 
 -- ---- bytes of the packet
 
@@ -19,9 +19,9 @@ bytes_of_the_packet :
 bytes_of_the_packet = (refl, refl, refl)
 
 answers_of_loads :
-    (packet_answer packet 0 4 ≡ 0)
-    × (packet_answer packet 1 4 ≡ 2 ^ 64 - 14)
-    × (packet_answer packet 0x8000_0000 1 ≡ 2 ^ 64 - 14)
+    (packet_result packet 0 4 ≡ 0)
+    × (packet_result packet 1 4 ≡ 2 ^ 64 - 14)
+    × (packet_result packet 0x8000_0000 1 ≡ 2 ^ 64 - 14)
 answers_of_loads = (refl, refl, refl)
 
 -- ---- a hash map of one entry, whose key has one byte and whose values have two

@@ -6,7 +6,7 @@ use Rattle.tagged_model.specs.declared.shape.MapKind.{MapKind}
 use Rattle.tagged_model.specs.declared.shape.MapKind.TheVariants.{Hash, Array}
 use Rattle.tagged_model.specs.declared.fault.MapFault.TheVariants.{NoEntry, TooBig, Exists, Invalid}
 use Rattle.tagged_model.specs.Table.{Table, Verdict, Refused, Present, New, no_exist, is_key, found, without, with_key}
-use Rattle.tagged_model.specs.Table.{first_key, key_behind, key_after, index_key, indexed, new_entries, look_up, is_full}
+use Rattle.tagged_model.specs.Table.{first_key, key_after_present, key_after, index_key, indexed, new_entries, look_up, is_full}
 use Rattle.tagged_model.specs.Table.{exist, of_present, of_absent, of_found, verdict, verdict_with, removal_of, with_values}
 use Rattle.tagged_model.specs.MapLaws.{CallsRefineValues}
 
@@ -106,14 +106,14 @@ module _ {A B : Type 0} (value : A → B) where
   first_of_valued [] = refl
   first_of_valued (e ∷ es) = refl
 
-  behind_valued : (key : List ℕ) (es : List (List ℕ × A)) → key_behind key (valued es) ≡ key_behind key es
+  behind_valued : (key : List ℕ) (es : List (List ℕ × A)) → key_after_present key (valued es) ≡ key_after_present key es
   behind_valued key [] = refl
   behind_valued key (e ∷ es) = by (behind_valued key es) (is_key key e.0)
     where
-      by : key_behind key (valued es) ≡ key_behind key es
+      by : key_after_present key (valued es) ≡ key_after_present key es
           → (b : Bool)
-          → (if b then first_key (valued es) else key_behind key (valued es))
-          ≡ (if b then first_key es else key_behind key es)
+          → (if b then first_key (valued es) else key_after_present key (valued es))
+          ≡ (if b then first_key es else key_after_present key es)
       by h true = first_of_valued es
       by h false = h
 
@@ -123,10 +123,10 @@ module _ {A B : Type 0} (value : A → B) where
 
   valued_after : (key : List ℕ) (es : List (List ℕ × A)) → key_after key (valued es) ≡ key_after key es
   valued_after key es =
-      ap (λ b. if b then key_behind key (valued es) else first_key (valued es))
+      ap (λ b. if b then key_after_present key (valued es) else first_key (valued es))
       (ap is_some (valued_found key es) ∙ is_some_valued (found key es))
       ∙ ap (λ o. if is_some (found key es) then o else first_key (valued es)) (behind_valued key es)
-      ∙ ap (λ o. if is_some (found key es) then key_behind key es else o) (first_of_valued es)
+      ∙ ap (λ o. if is_some (found key es) then key_after_present key es else o) (first_of_valued es)
 
   removal_valued : (kind : MapKind) (o : Option A)
       → removal_of kind (option_map value o) ≡ result_map_both value (λ fault. fault) (removal_of kind o)

@@ -19,7 +19,7 @@ use Rattle.tagged_model.specs.declared.value.Tagged.TheVariants.{Scalar, Pointer
 use Rattle.tagged_model.specs.Table.{look_up}
 use Rattle.tagged_model.specs.Cells.{and_then, gathered, cell_over}
 use Rattle.tagged_model.specs.State.{RunState, RunMap, set_at, stack_byte, value_bytes, value_written, with_cells, with_value, with_map, input, output}
-use Rattle.tagged_model.specs.Helpers.{id_of, known_helpers, helper_of, MapReply, updated, removed, looked_up, packet_bytes, packet_answer}
+use Rattle.tagged_model.specs.Helpers.{id_of, known_helpers, helper_of, MapReply, updated, removed, looked_up, packet_bytes, packet_result}
 use Rattle.tagged_model.specs.Helpers.{number_given, length_given, map_given, context_given, argument, GivenMap, map_argument, returns, replies, called}
 
 -- ---- the number
@@ -270,5 +270,5 @@ call_leaves LoadBytes s =
     then_leaves s (argument s 2 number_given) _ (λ offset _.
     then_leaves s (argument s 4 length_given) _ (λ n _.
     let bs = packet_bytes s.packet offset n in
-    return_leaves s (argument s 3 (λ p. output s p bs)) (Scalar (packet_answer s.packet offset n))
+    return_leaves s (argument s 3 (λ p. output s p bs)) (Scalar (packet_result s.packet offset n))
     (then_leaves s (s.registers 3) _ (λ p _. output_leaves s p bs)))))

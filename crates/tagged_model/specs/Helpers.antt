@@ -119,8 +119,8 @@ packet_bytes packet offset n =
     if is_in_packet packet offset n then bytes_at packet (offset % 2 ^ 32) n else replicate n 0
 
 -- the result of a load of n bytes of the packet: 0, or EFAULT negated
-abbrev pub packet_answer : List ℕ → ℕ → ℕ → ℕ
-packet_answer packet offset n = if is_in_packet packet offset n then 0 else negative outside
+abbrev pub packet_result : List ℕ → ℕ → ℕ → ℕ
+packet_result packet offset n = if is_in_packet packet offset n then 0 else negative outside
 
 -- ---- arguments: a register's value, if it has the kind that is required
 
@@ -198,4 +198,4 @@ called LoadBytes s =
     and_then (argument s 2 number_given) (λ offset.
     and_then (argument s 4 length_given) (λ n.
     and_then (argument s 3 (λ p. output s p (packet_bytes s.packet offset n))) (λ t.
-    Some (returns t (Scalar (packet_answer s.packet offset n)))))))
+    Some (returns t (Scalar (packet_result s.packet offset n)))))))

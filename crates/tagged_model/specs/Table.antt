@@ -46,13 +46,13 @@ module _ {A : Type 0} where
   first_key (e ∷ es) = Some e.0
 
   -- the key after `key`, which is present; None if it is the last
-  abbrev pub key_behind : List ℕ → List (List ℕ × A) → Option (List ℕ)
-  key_behind key [] = None
-  key_behind key (e ∷ es) = if is_key key e.0 then first_key es else key_behind key es
+  abbrev pub key_after_present : List ℕ → List (List ℕ × A) → Option (List ℕ)
+  key_after_present key [] = None
+  key_after_present key (e ∷ es) = if is_key key e.0 then first_key es else key_after_present key es
 
   -- the key after `key`; the first one if `key` is empty or absent
   abbrev pub key_after : List ℕ → List (List ℕ × A) → Option (List ℕ)
-  key_after key es = if is_some (found key es) then key_behind key es else first_key es
+  key_after key es = if is_some (found key es) then key_after_present key es else first_key es
 
 -- the key of an index: its four bytes, little-endian
 unfoldable pub index_key : ℕ → List ℕ

@@ -6,7 +6,7 @@ use Rattle.verifier.specs.Cost.{IsCostOf, IsPath}
 use Rattle.tenant.specs.declared.errno.Errno.{Errno}
 use Rattle.tenant.specs.declared.object.OpenObject.{OpenObject}
 use Rattle.tenant.specs.declared.object.OpenObject.TheVariants as object
-use Rattle.tenant.specs.Batch.{object_refusal, allowed, run_weight, IsWithinBound, IsAllowed}
+use Rattle.tenant.specs.Batch.{object_refusal, allowed, run_weight, IsAllowedBy, IsAllowed}
 use Rattle.tenant.specs.declared.batch.TheConstants.{CALL_WEIGHT}
 use Rattle.tenant.specs.Costs.{HasCost}
 use Rattle.tenant.specs.Loaded.{LoadedProgram}
@@ -36,7 +36,7 @@ pub allowed_of_program : (o : Option OpenObject) (l : LoadedProgram) (cost : Cos
     → IsAllowed o bound packets n
 allowed_of_program o l cost bound packets n other is most count = (
   λ zero. absurd (other zero),
-  λ _. subst (λ (x : Option OpenObject). IsWithinBound x bound packets n) (sym is) (cost, most, count),
+  λ _. subst (λ (x : Option OpenObject). IsAllowedBy x bound packets n) (sym is) (cost, most, count),
 )
 
 -- a batch of no program is not made shorter

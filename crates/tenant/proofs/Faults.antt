@@ -30,7 +30,7 @@ use Rattle.command_frames.specs.Frame.{owner, command_number, reply_to}
 use Rattle.tenant.specs.Alone.{AnswersFrame, IsFault}
 use Rattle.tenant.specs.Errno.{status_of}
 use Rattle.tenant.specs.Machine.{Answer, ran, refuses, cause_errno, codec_errno, verdict_errno, created_as, created_under, created}
-use Rattle.tenant.specs.Machine.{room_for, kind_of, asked_shape, of_object, of_handle, on_map, gives_if_found, element_put}
+use Rattle.tenant.specs.Machine.{room_for, kind_of, asked_shape, of_object, of_handle, on_map, gives_or_no_entry, element_put}
 use Rattle.tenant.specs.Machine.{element_taken_out, answer_of_judgement, LoadsUnder, outcome_answer, run_of, longest_packet, closed, Answers}
 use Rattle.tenant.specs.State.{Map, TenantState, live}
 use Rattle.tenant.proofs.LookUps.{has_size}
@@ -128,7 +128,7 @@ bare_tested : (s : TenantState) (fd : ℕ) (fits : Map → Bool) (f : ℕ → Ma
     → IsBare (on_map s fd (λ p t. if fits t then f p t else refuses Invalid s))
 bare_tested s fd fits f each = bare_on_map s fd _ (λ handle t. bare_if (fits t) Invalid s (f handle t) (each handle t))
 
-bare_found : (s : TenantState) (o : Option (List ℕ)) → IsBare (gives_if_found s o)
+bare_found : (s : TenantState) (o : Option (List ℕ)) → IsBare (gives_or_no_entry s o)
 bare_found s None e = refl
 bare_found s (Some value) e = no_zero value e
 

@@ -10,7 +10,7 @@ use Rattle.tenant.specs.declared.errno.Errno.TheVariants.{Invalid}
 use Rattle.tenant.specs.declared.object.OpenObject.{OpenObject}
 use Rattle.bpf_maps.specs.Limits.{most_maps}
 use Rattle.tenant.specs.State.{Map, live}
-use Rattle.tenant.specs.Machine.{Answer, refuses, gives_if_found, of_object, of_handle, on_map, element_looked_up}
+use Rattle.tenant.specs.Machine.{Answer, refuses, gives_or_no_entry, of_object, of_handle, on_map, element_looked_up}
 use Rattle.tenant.specs.Kept.{KeptTenant, map_at, state_in}
 use Rattle.tenant.specs.inside.Named.{IsMapOf}
 use Rattle.tenant.proofs.AtHandles.{at-within, map_there}
@@ -56,10 +56,10 @@ pub found_at : CallsRefineValues ℕ (List ℕ)
     → IsMapOf k fd handle
     → length key ≡ (shape_at k.live handle).key_size
     → r ≡ look_up (table_of (keys_at k.live handle)) key
-    → gives_if_found (state_in part k) (option_map (value_in part k.live handle) r)
+    → gives_or_no_entry (state_in part k) (option_map (value_in part k.live handle) r)
     ≡ element_looked_up (state_in part k) fd key
 found_at along part {k} {fd} {handle} key {r} found size is =
     let s = state_in part k in
     let v = value_in part k.live handle in
-    sym (on_map_is part (has_size key) (λ p t. gives_if_found s (look_up t key)) found (same_size (length key) size)
-    ∙ ap (gives_if_found s) (along.found v (table_of (keys_at k.live handle)) key ∙ ap (option_map v) (sym is)))
+    sym (on_map_is part (has_size key) (λ p t. gives_or_no_entry s (look_up t key)) found (same_size (length key) size)
+    ∙ ap (gives_or_no_entry s) (along.found v (table_of (keys_at k.live handle)) key ∙ ap (option_map v) (sym is)))

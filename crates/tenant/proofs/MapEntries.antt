@@ -5,7 +5,7 @@ use Rattle.std.specs.Map.{values_of}
 use Rattle.bpf_maps.specs.Limits.{most_maps}
 use Rattle.bpf_maps.specs.Live.{LiveMap, LiveMaps, AreSound, live_at, live_or, keys_at, value_in, map_in}
 use Rattle.bpf_maps.specs.KeyTable.{IsSound, occurrences}
-use Rattle.ordered_keys.specs.Orders.{first_entry, entry_behind, next_entry}
+use Rattle.ordered_keys.specs.Orders.{first_entry, entry_after_element, next_entry}
 use Rattle.tenant.specs.Entry.{numbered_entries}
 use Rattle.tenant.specs.Kept.{KeptTenant, AreHeld, state_in}
 use Rattle.tenant.specs.State.{Map, live}
@@ -41,15 +41,15 @@ module _ {K : Type 0} {J : Type 0} (f : K × ℕ → J) where
   first_moved [] = refl
   first_moved (e ∷ es) = refl
 
-  behind_moved : (p : ℕ) (es : List (K × ℕ)) → entry_behind p (map moved es) ≡ option_map moved (entry_behind p es)
+  behind_moved : (p : ℕ) (es : List (K × ℕ)) → entry_after_element p (map moved es) ≡ option_map moved (entry_after_element p es)
   behind_moved p [] = refl
   behind_moved p (e ∷ es) = by (nat_eq p e.1) (first_moved es) (behind_moved p es)
     where
       by : (b : Bool)
           → first_entry (map moved es) ≡ option_map moved (first_entry es)
-          → entry_behind p (map moved es) ≡ option_map moved (entry_behind p es)
-          → (if b then first_entry (map moved es) else entry_behind p (map moved es))
-          ≡ option_map moved (if b then first_entry es else entry_behind p es)
+          → entry_after_element p (map moved es) ≡ option_map moved (entry_after_element p es)
+          → (if b then first_entry (map moved es) else entry_after_element p (map moved es))
+          ≡ option_map moved (if b then first_entry es else entry_after_element p es)
       by true g r = g
       by false g r = r
 

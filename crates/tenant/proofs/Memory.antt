@@ -36,7 +36,7 @@ use Rattle.tenant.specs.declared.object.OpenObject.TheVariants as object
 use Rattle.tenant.specs.Errno.{status_of}
 use Rattle.tenant.specs.Laws.{takes_memory, IsNoRefusal, RefusalsAreTold}
 use Rattle.tenant.specs.Machine.{Answer, refuses, refuses_for_memory, codec_errno, verdict_errno, cause_errno, created_as, created_under, created, room_for}
-use Rattle.tenant.specs.Machine.{shape_where, kind_of, asked_shape, of_object, of_handle, on_map, gives_if_found, element_put, element_taken_out, targets}
+use Rattle.tenant.specs.Machine.{shape_where, kind_of, asked_shape, of_object, of_handle, on_map, gives_or_no_entry, element_put, element_taken_out, targets}
 use Rattle.tenant.specs.Machine.{answer_of_judgement, LoadsUnder, outcome_answer, maps_given, maps_left, ran, run_of, longest_packet, closed, Answers}
 use Rattle.tenant.specs.State.{Map, TenantState, live, shape_area}
 use Rattle.tenant.proofs.LookUps.{has_size}
@@ -146,7 +146,7 @@ module _ (s : TenantState) where
       by true a h = h
       by false a h = invalid
 
-  found_other : (o : Option (List ℕ)) → IsOther s (gives_if_found s o)
+  found_other : (o : Option (List ℕ)) → IsOther s (gives_or_no_entry s o)
   found_other None = no_entry
   found_other (Some value) = (unlike 0 refl, refl)
 

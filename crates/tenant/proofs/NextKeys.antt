@@ -8,7 +8,7 @@ use Rattle.tagged_model.specs.MapLaws.{CallsRefineValues}
 use Rattle.tagged_model.specs.Table.{next_of}
 use Rattle.tenant.specs.declared.errno.Errno.TheVariants.{Invalid}
 use Rattle.tenant.specs.State.{Map}
-use Rattle.tenant.specs.Machine.{refuses, gives_if_found, given_next}
+use Rattle.tenant.specs.Machine.{refuses, gives_or_no_entry, given_next}
 use Rattle.tenant.specs.Kept.{KeptTenant, state_in}
 use Rattle.tenant.specs.inside.Named.{IsMapOf}
 use Rattle.tenant.proofs.LookUps.{on_map_is, has_size}
@@ -31,11 +31,11 @@ pub next_is : CallsRefineValues ℕ (List ℕ)
     → empty ≡ (length key == 0)
     → ((empty ≡ false) × (length key ≡ size)) ⊎ (empty ≡ true)
     → r ≡ next_of (table_of (keys_at k.live handle)) key
-    → gives_if_found (state_in part k) r ≡ given_next (state_in part k) fd key
+    → gives_or_no_entry (state_in part k) r ≡ given_next (state_in part k) fd key
 next_is along part {k} {fd} {handle} key {size} {empty} {r} found size_is e either is =
     let s = state_in part k in
-    ap (gives_if_found s) (is ∙ sym (along.next (value_in part k.live handle) (table_of (keys_at k.live handle)) key))
-    ∙ sym (on_map_is part (is_empty_or_fits key) (λ p t. gives_if_found s (next_of t key)) found
+    ap (gives_or_no_entry s) (is ∙ sym (along.next (value_in part k.live handle) (table_of (keys_at k.live handle)) key))
+    ∙ sym (on_map_is part (is_empty_or_fits key) (λ p t. gives_or_no_entry s (next_of t key)) found
     (right_size (length key) (shape_at k.live handle).key_size size empty e size_is either))
 
 -- the machine rejects a request for the key after one of another size as invalid
@@ -45,5 +45,5 @@ pub refused_key : (part : List ℕ) {k : KeptTenant} {fd handle : ℕ} (key : Li
     → refuses Invalid (state_in part k) ≡ given_next (state_in part k) fd key
 refused_key part {k} key found full other =
     sym (on_map_is part (is_empty_or_fits key)
-    (λ p t. gives_if_found (state_in part k) (next_of t key))
+    (λ p t. gives_or_no_entry (state_in part k) (next_of t key))
     found (ap₂ (λ (a b : Bool). a || b) full other))

@@ -10,7 +10,7 @@ use Rattle.std.proofs.lemmas.List.{ext_get_or}
 use Rattle.std.proofs.lemmas.List.Quantifiers.{position-Some}
 use Rattle.bpf_maps.specs.Live.{LiveMaps, live_at, map_in}
 use Rattle.bpf_helpers.specs.Stands.{IsElsewhere}
-use Rattle.flat_machine.specs.Runs.{Standing, given_maps, bound_key, RunKeepsMaps, KeepsValues}
+use Rattle.flat_machine.specs.Runs.{Standing, given_maps, bound_handle, RunKeepsMaps, KeepsValues}
 use Rattle.tagged_model.specs.Cells.{and_then}
 use Rattle.tagged_model.specs.Step.{MapsByDescriptor}
 use Rattle.verifier.specs.Maps.{maps_of}
@@ -112,7 +112,7 @@ module _ (part : List ℕ) {k : KeptTenant} {l : LoadedProgram} (is : IsWellForm
   -- the maps before the run are the machine's
   pub given_is : given_maps l.insns (map_handles l) k.live part ≡ maps_given (state_in part k) l
   given_is = fun_ext (λ fd.
-      ap (λ (fds : List ℕ). option_map (λ key. map_in part k.live key) (bound_key fds (map_handles l) fd))
+      ap (λ (fds : List ℕ). option_map (λ key. map_in part k.live key) (bound_handle fds (map_handles l) fd))
       (sym bound.each)
       ∙ given_at (position (λ m. m == fd) (keys_of l.maps)) (stands_within fd)
       ∙ ap (λ (o : Option ℕ). and_then o (λ handle. live (state_in part k) handle)) (sym (lookup_is l.maps fd)))

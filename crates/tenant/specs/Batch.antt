@@ -102,16 +102,16 @@ allowed bound cost packets = min packets (max 1 (bound / cost))
 
 -- n packets of a batch are within a bound other than 0, by what a descriptor names: a run of a
 -- program counts for its cost; of anything else all are, since such a batch is rejected as a whole
-abbrev pub IsWithinBound : Option OpenObject → ℕ → ℕ → ℕ → Type 0
-IsWithinBound None bound packets n = n ≡ packets
-IsWithinBound (Some (object.Map handle)) bound packets n = n ≡ packets
-IsWithinBound (Some (object.Program l)) bound packets n =
+abbrev pub IsAllowedBy : Option OpenObject → ℕ → ℕ → ℕ → Type 0
+IsAllowedBy None bound packets n = n ≡ packets
+IsAllowedBy (Some (object.Map handle)) bound packets n = n ≡ packets
+IsAllowedBy (Some (object.Program l)) bound packets n =
     (cost : Cost) × IsCostOf cost l.insns × (n ≡ allowed bound (run_weight cost) packets)
 
 -- n packets of a batch, of what a descriptor names, are allowed by a bound; all if the bound is 0
 abbrev pub IsAllowed : Option OpenObject → ℕ → ℕ → ℕ → Type 0
 IsAllowed o bound packets n =
-    (bound ≡ 0 → n ≡ packets) × (bound ≢ 0 → IsWithinBound o bound packets n)
+    (bound ≡ 0 → n ≡ packets) × (bound ≢ 0 → IsAllowedBy o bound packets n)
 
 -- ---- laws
 

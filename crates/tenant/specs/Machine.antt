@@ -155,9 +155,9 @@ abbrev pub on_map : TenantState → ℕ → (ℕ → Map → Answer) → Answer
 on_map s fd f = of_object s f (table.named s.objects fd)
 
 -- the bytes that are found, a value or a key, or the error NoEntry
-abbrev pub gives_if_found : TenantState → Option (List ℕ) → Answer
-gives_if_found s None = refuses NoEntry s
-gives_if_found s (Some value) = gives value s
+abbrev pub gives_or_no_entry : TenantState → Option (List ℕ) → Answer
+gives_or_no_entry s None = refuses NoEntry s
+gives_or_no_entry s (Some value) = gives value s
 
 -- MAP_LOOKUP_ELEM: the value of a key
 abbrev pub element_looked_up : TenantState → ℕ → List ℕ → Answer
@@ -165,7 +165,7 @@ element_looked_up s fd key =
     on_map s fd
     (λ handle t.
     if length key == t.shape.key_size
-    then gives_if_found s (look_up t key)
+    then gives_or_no_entry s (look_up t key)
     else refuses Invalid s)
 
 -- an update, by the verdict on it: a present key keeps its position, and a new one goes to the end
@@ -205,7 +205,7 @@ given_next s fd key =
     on_map s fd
     (λ handle t.
     if length key == 0 || length key == t.shape.key_size
-    then gives_if_found s (next_of t key)
+    then gives_or_no_entry s (next_of t key)
     else refuses Invalid s)
 
 -- ---- PROG_LOAD

@@ -16,11 +16,11 @@ use Rattle.insn_set.specs.Sizes.{is_short}
 use Rattle.insn_set.specs.Atomic.{access_size, atomic_symbol}
 use Rattle.insn_set.specs.Operator.{alu_symbol}
 use Rattle.insn_set.specs.Load.{size_name}
-use Rattle.insn_set.specs.RowLaws.{alu_symbol_is, order_name_is, narrow_name_is, size_name_is, size_listed, condition_symbol_is, atomic_symbol_is}
+use Rattle.insn_set.specs.RowLaws.{alu_symbol_is, order_name_is, extension_name_is, size_name_is, size_listed, condition_symbol_is, atomic_symbol_is}
 use Rattle.insn_set.specs.Table.{named}
 use Rattle.insn_set.specs.TableLaws.{found_named, name_of}
 use Rattle.insn_set.specs.OperatorRows.{alu_by_symbol}
-use Rattle.insn_set.specs.ConversionRows.{order_by_name, narrow_by_name}
+use Rattle.insn_set.specs.ConversionRows.{order_by_name, extension_by_name}
 use Rattle.insn_set.specs.LoadRows.{size_by_name}
 use Rattle.insn_set.specs.ConditionRows.{condition_by_symbol}
 use Rattle.insn_set.specs.AtomicRows.{atomic_by_symbol}
@@ -312,8 +312,8 @@ sign_extension_is : (wide : Bool) (dst : ℕ) (ts : List Token) (o : Operation)
 unfolding parsed_sign_extension
 sign_extension_is wide dst ts o e =
     name_then ts _ o e (λ n a is_n e.
-    option_and_then_some _ (narrow_by_name n) o e (λ from found_from e.
-    let is_from = narrow_name_is n from found_from in
+    option_and_then_some _ (extension_by_name n) o e (λ from found_from e.
+    let is_from = extension_name_is n from found_from in
     after_symbol_then (codes ")") a _ o e (λ b is_a e.
     option_and_then_some _ (leading_register wide b) o e (λ src found e.
     let (listed, e) = if_true (wide || is_short from) _ o e in

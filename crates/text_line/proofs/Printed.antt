@@ -21,7 +21,7 @@ use Rattle.insn_set.specs.declared.insn.Insn.{Insn}
 use Rattle.insn_set.specs.declared.insn.Insn.TheVariants.{Alu, Movsx, Neg, End, Jump, Load, Store, Atomic, Const, MapFd, MapValue}
 use Rattle.insn_set.specs.Spelling.{IsInsn, IsOperand}
 use Rattle.insn_set.specs.Operator.{alu_symbol}
-use Rattle.insn_set.specs.Conversion.{order_name, narrow_name}
+use Rattle.insn_set.specs.Conversion.{order_name, extension_name}
 use Rattle.insn_set.specs.Load.{size_name}
 use Rattle.insn_set.specs.Condition.{condition_symbol}
 use Rattle.insn_set.specs.Atomic.{access_size, atomic_symbol}
@@ -74,7 +74,7 @@ order_word Big bits.Bits16 = refl
 order_word Swap bits.Bits16 = refl
 order_word _ _ = refl
 
-narrow_word : (b : ExtendedBits) → is_long_name (narrow_name b) ≡ true
+narrow_word : (b : ExtendedBits) → is_long_name (extension_name b) ≡ true
 narrow_word narrow.Bits8 = refl
 narrow_word _ = refl
 

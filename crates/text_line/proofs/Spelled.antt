@@ -15,12 +15,12 @@ use Rattle.insn_set.specs.declared.atomic.AtomicSize.{AtomicSize}
 use Rattle.insn_set.specs.declared.atomic.AtomicSize.TheVariants as atomic_size
 use Rattle.insn_set.specs.declared.atomic.AtomicOp.{AtomicOp}
 use Rattle.insn_set.specs.Operator.{alu_symbol}
-use Rattle.insn_set.specs.Conversion.{order_name, narrow_name}
+use Rattle.insn_set.specs.Conversion.{order_name, extension_name}
 use Rattle.insn_set.specs.Load.{size_name}
 use Rattle.insn_set.specs.Condition.{condition_symbol}
 use Rattle.insn_set.specs.Atomic.{access_size, atomic_symbol}
 use Rattle.insn_set.specs.Table.{named}
-use Rattle.insn_set.specs.RowLaws.{alu_symbol_again, order_name_again, narrow_name_again, size_name_again, condition_symbol_again, atomic_symbol_again}
+use Rattle.insn_set.specs.RowLaws.{alu_symbol_again, order_name_again, extension_name_again, size_name_again, condition_symbol_again, atomic_symbol_again}
 use Rattle.words.specs.Stack.{is_double}
 use Rattle.text_line.specs.declared.form.SourceOperand.{SourceOperand}
 use Rattle.text_line.specs.declared.form.SourceOperand.TheVariants as source
@@ -173,8 +173,8 @@ operation_read wide dst (operation.Binary op src) fits h =
     rw (named_register wide dst fits, alu_symbol_again op, operand_read wide src [] h) refl
 operation_read wide dst (operation.SignExtend from src) fits h =
     unary_read wide dst _ fits
-    (no_binary_parenthesis wide (name (narrow_name from) ∷ symbol (codes ")") ∷ name (register_name wide src) ∷ []))
-    (rw (narrow_name_again from, register_read wide src [] h.0, h.1) refl)
+    (no_binary_parenthesis wide (name (extension_name from) ∷ symbol (codes ")") ∷ name (register_name wide src) ∷ []))
+    (rw (extension_name_again from, register_read wide src [] h.0, h.1) refl)
 operation_read wide dst operation.Neg fits h =
     unary_read wide dst _ fits (no_binary_minus wide (register_name wide dst) [])
     (in_place_read wide dst operation.Neg fits)

@@ -3,7 +3,7 @@
 use Rattle.std.specs.Prelude.{ℕ, ◌≤◌, Bool, true, false, ◌&&◌, ◌||◌, not, IsTrue, List, [], ◌∷◌, codes, Option, Some, None}
 use Rattle.insn_set.specs.Sizes.{is_short}
 use Rattle.insn_set.specs.Operator.{alu_symbol}
-use Rattle.insn_set.specs.Conversion.{order_name, narrow_name}
+use Rattle.insn_set.specs.Conversion.{order_name, extension_name}
 use Rattle.insn_set.specs.Load.{size_name}
 use Rattle.insn_set.specs.Condition.{condition_symbol}
 use Rattle.insn_set.specs.Atomic.{access_size, atomic_symbol}
@@ -80,7 +80,7 @@ abbrev pub operation_layout : Bool → ℕ → Operation → TokenLayout
 operation_layout wide dst (operation.Binary op src) =
     sign (alu_symbol op) ∷ space ∷ operand_layout wide src []
 operation_layout wide dst (operation.SignExtend from src) =
-    sign (codes "=") ∷ space ∷ sign (codes "(") ∷ word (narrow_name from) ∷ sign (codes ")")
+    sign (codes "=") ∷ space ∷ sign (codes "(") ∷ word (extension_name from) ∷ sign (codes ")")
     ∷ reg wide src ∷ []
 operation_layout wide dst operation.Neg =
     sign (codes "=") ∷ space ∷ sign (codes "-") ∷ reg wide dst ∷ []

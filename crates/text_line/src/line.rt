@@ -17,7 +17,7 @@ use crate::parts::{
 };
 use crate::token::Token;
 use insn_set::{
-    AluOp, AtomicOp, ExtendedBits, Reg, alu_by_symbol, condition_by_symbol, narrow_by_name,
+    AluOp, AtomicOp, ExtendedBits, Reg, alu_by_symbol, condition_by_symbol, extension_by_name,
     order_by_name,
 };
 
@@ -40,7 +40,7 @@ fn sign_extension(wide: bool, tokens: &[Token<'_>]) -> Option<Operation>
     ensures { result ≡ parsed_sign_extension wide (shown_tokens tokens.now) }
 {
     let (name, rest) = name(tokens)?;
-    let from = narrow_by_name(name)?;
+    let from = extension_by_name(name)?;
     let rest = after_symbol(rest, ")")?;
     let Some((src, rest)) = register(wide, rest) else {
         return None;

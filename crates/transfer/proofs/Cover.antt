@@ -42,7 +42,7 @@ use Rattle.tagged_model.specs.Step.{Step, goes, or_fault, operand_value, advance
 use Rattle.insn_set.specs.Flow.{natural, offset_by, jumps_to}
 use Rattle.transfer.specs.Arithmetic.{check_readable, arithmetic_kind, of_scalar}
 use Rattle.transfer.specs.Branches.{Edges, falls, branch_edges}
-use Rattle.transfer.specs.Effects.{source_kind, assigns, load_kind, store_facts, changed_facts}
+use Rattle.transfer.specs.Effects.{source_kind, assigns, load_kind, store_facts, atomic_facts}
 use Rattle.transfer.specs.Effects.{map_of, value_of, known, exits_with, access_edges, effect_of, effect}
 use Rattle.transfer.specs.Calls.{call_facts}
 use Rattle.transfer.specs.Sound.{IsKindAt, IsSlotAt, jumps_in, TakenEdgeAdmits, CoversStep, CallIsAdmitted, CallsAreSound, TransferIsSound}
@@ -154,7 +154,7 @@ module _ (laws : Laws) (here : Here) (f : Facts) (s : RunState) (is_known : IsKn
       register_covered Next src _ _
       (λ l v g.
       then_covered Next (IsStored here s)
-      (changed_facts here.shapes f (access_size size) off k l)
+      (atomic_facts here.shapes f (access_size size) off k l)
       (changed s size op p off v) falls (λ t. goes (advanced 1 t))
       (changed_agrees is_known laws.accesses laws.results size op off k l p v is g.kind)
       stored_covered)

@@ -32,7 +32,7 @@ use Rattle.tagged_model.specs.Cells.{and_then, cell_over}
 use Rattle.tagged_model.specs.State.{RunState, RunMap, with_map, with_cells, stack_bytes, stack_written, object_bytes, object_written, input, output}
 use Rattle.tagged_model.specs.Helpers.{GivenMap, map_given, number_given, length_given, context_given, argument}
 use Rattle.tagged_model.specs.Helpers.{map_argument, looked_up, MapReply, put, updated, taken_out, removed, errno}
-use Rattle.tagged_model.specs.Helpers.{packet_bytes, packet_answer, is_in_packet, negative, outside, returns, replies, called}
+use Rattle.tagged_model.specs.Helpers.{packet_bytes, packet_result, is_in_packet, negative, outside, returns, replies, called}
 use Rattle.tagged_model.specs.StateInvariant.{AreBytes, IsMapOf, HasMaps}
 use Rattle.abstraction.specs.Admits.{Witness, IsOfKind, IsLookup, HasKind, AdmitsBy, objects_of, AreBelow, witness_at}
 use Rattle.abstraction.specs.Laws.{StackInputAdmits, StackOutputAdmits, ObjectReadAdmits, ObjectWriteAdmits}
@@ -119,7 +119,7 @@ taken_small : (t : RunMap) (key : List ℕ) (r : Result ℕ MapFault) → (taken
 taken_small t key (Err fault) = fault_small fault
 taken_small t key (Ok number) = omega arith
 
-answer_small : (packet : List ℕ) (offset n : ℕ) → packet_answer packet offset n < 2 ^ 64
+answer_small : (packet : List ℕ) (offset n : ℕ) → packet_result packet offset n < 2 ^ 64
 answer_small packet offset n =
     cond_both (is_in_packet packet offset n) 0 (negative outside) (λ a. a < 2 ^ 64)
     (λ _. omega arith) (λ _. omega arith)
@@ -455,9 +455,9 @@ module _ (laws : Laws) {witness : Witness} {shapes : Shapes} {f : Facts} {s : Ru
         record {
           witness = witness;
           still =
-              laws.call witness g shapes u any_number (Scalar (packet_answer s.packet offset n))
+              laws.call witness g shapes u any_number (Scalar (packet_result s.packet offset n))
               filled.known
-              (any_is witness (packet_answer s.packet offset n) (answer_small s.packet offset n));
+              (any_is witness (packet_result s.packet offset n) (answer_small s.packet offset n));
           at = filled.same_at;
         })))))
 

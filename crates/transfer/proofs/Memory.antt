@@ -36,7 +36,7 @@ use Rattle.tagged_model.specs.Values.{of_numbers}
 use Rattle.tagged_model.specs.Step.{changed}
 use Rattle.abstraction.specs.Laws.{StackReadAdmits, StackWriteAdmits, ValueLoadAdmits, ValueStoreAdmits}
 use Rattle.transfer.specs.Effects.{is_word, context_read, load_kind, stored_outside, store_facts}
-use Rattle.transfer.specs.Effects.{number_or, stack_changed, is_known_multiple, value_changed, changed_facts}
+use Rattle.transfer.specs.Effects.{number_or, stack_changed, is_known_multiple, value_changed, atomic_facts}
 use Rattle.transfer.specs.Calls.{room_of, any_number}
 use Rattle.transfer.specs.Sound.{IsKindAt, AreWellFormedAt}
 use Rattle.transfer.proofs.Parts.{Here, SomeIs, Agree, Gives, by_law, ok_is, refused, IsKindOf, IsReadable, IsKnown, still_of}
@@ -430,7 +430,7 @@ module _ {here : Here} {f : Facts} {s : RunState} (known : IsKnown here f s) whe
       → Results
       → (size : AtomicSize) (op : AtomicOp) (off : ℤ) (k l : Kind) (p v : Tagged)
       → IsKindOf here k p → IsKindOf here l v
-      → Agree (IsStored here s) (changed_facts here.shapes f (access_size size) off k l) (changed s size op p off v)
+      → Agree (IsStored here s) (atomic_facts here.shapes f (access_size size) off k l) (changed s size op p off v)
   changed_agrees laws results size op off (kind.Stack x) (kind.Scalar b) p v h is =
       subst (λ p. Agree (IsStored here s) (stack_changed f (x +ℤ off) (access_size size)) (changed s size op p off v))
       (sym h.is)

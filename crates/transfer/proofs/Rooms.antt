@@ -27,7 +27,7 @@ owned {witness = witness} still m number shape e lt =
     record { map = h.0; there = h.1; is = h.2; owned = omega arith }
 
 -- n bytes from an offset on lie in a value
-pub record HasRoom (n : ℕ) (y : ℤ) (shape : MapShape) : Type 0 where
+pub record HasAllRows (n : ℕ) (y : ℤ) (shape : MapShape) : Type 0 where
   -- the n bytes begin at or above the start of the value
   pub low : pos 0 ≤ℤ y
   -- the n bytes end at or below the end of the value
@@ -37,7 +37,7 @@ pub record HasRoom (n : ℕ) (y : ℤ) (shape : MapShape) : Type 0 where
 pub room_at : (p : ValuePointer) (off : ℤ) (n : ℕ) (x : ℤ) (shape : MapShape)
     → p.lo ≤ℤ x → x ≤ℤ p.hi
     → room_of p off n (Some shape) ≡ Ok tt
-    → HasRoom n (x +ℤ off) shape
+    → HasAllRows n (x +ℤ off) shape
 room_at p off n x shape from to e =
     let c = passed (int_le (pos 0) (p.lo +ℤ off) && int_le ((p.hi +ℤ off) +ℤ pos n) (pos shape.value_size)) e in
     let h = and_parts (int_le (pos 0) (p.lo +ℤ off)) (int_le ((p.hi +ℤ off) +ℤ pos n) (pos shape.value_size)) c in
@@ -55,7 +55,7 @@ room_at p off n x shape from to e =
 pub room_here : (p : ValuePointer) (n : ℕ) (x : ℤ) (shape : MapShape)
     → p.lo ≤ℤ x → x ≤ℤ p.hi
     → room_of p (pos 0) n (Some shape) ≡ Ok tt
-    → HasRoom n x shape
+    → HasAllRows n x shape
 room_here p n x shape from to e =
     let back : x +ℤ pos 0 ≡ x = omega (arith, ints) in
-    subst (λ y. HasRoom n y shape) back (room_at p (pos 0) n x shape from to e)
+    subst (λ y. HasAllRows n y shape) back (room_at p (pos 0) n x shape from to e)

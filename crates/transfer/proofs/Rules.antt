@@ -37,7 +37,7 @@ use Rattle.transfer.specs.Arithmetic.{check_readable, near, stack_moved, value_b
 use Rattle.transfer.specs.Arithmetic.{is_maybe, of_scalars, of_scalar, sum_kind, difference_kind, unless_maybe, arithmetic_kind}
 use Rattle.transfer.specs.Branches.{Edges, falls, pointer_edges, branch_edges}
 use Rattle.transfer.specs.Effects.{source_kind, first_kind, assigns, is_word, context_read, load_kind, store_facts, number_or}
-use Rattle.transfer.specs.Effects.{is_known_multiple, changed_facts, map_of, value_of, known, exits_with, access_edges, wide_kind, effect_of, effect}
+use Rattle.transfer.specs.Effects.{is_known_multiple, atomic_facts, map_of, value_of, known, exits_with, access_edges, wide_kind, effect_of, effect}
 use Rattle.transfer.specs.Reasons.{IsSafetyReason, IsReasonFor, IsReasonOf, TransferReasons}
 use Rattle.transfer.specs.Calls.{shaped, map_kind, room_of, input_kind, output_facts, number_kind, lengths_end}
 use Rattle.transfer.specs.Calls.{length_kind, context_kind, readable_two, readable_four, any_number, call_facts}
@@ -180,7 +180,7 @@ number_or_rule reason (kind.Scalar r) h = tt
 number_or_rule reason v h = h
 
 changed_rule : (shapes : Shapes) (f : Facts) (size : AccessSize) (off : ℤ) (k v : Kind)
-    → ByRule (changed_facts shapes f size off k v)
+    → ByRule (atomic_facts shapes f size off k v)
 changed_rule shapes f size off (kind.Stack x) v =
     then_rule _ _ (number_or_rule PointerArithmetic v tt)
     (λ _. then_rule _ _ (read_rule f (x +ℤ off) size false)

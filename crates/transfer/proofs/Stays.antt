@@ -48,7 +48,7 @@ use Rattle.transfer.specs.Arithmetic.{check_readable, near, stack_moved, value_b
 use Rattle.transfer.specs.Arithmetic.{is_maybe, of_scalars, of_scalar, sum_kind, difference_kind, unless_maybe, arithmetic_kind}
 use Rattle.transfer.specs.Branches.{Edges, falls, with_source, with_pair, is_same, number_edges, null_edges, pointer_edges, branch_edges}
 use Rattle.transfer.specs.Effects.{source_kind, first_kind, assigns, is_word, context_read, load_kind, store_facts, number_or}
-use Rattle.transfer.specs.Effects.{is_known_multiple, changed_facts, map_of, value_of, known, exits_with, access_edges, wide_kind, effect_of, effect}
+use Rattle.transfer.specs.Effects.{is_known_multiple, atomic_facts, map_of, value_of, known, exits_with, access_edges, wide_kind, effect_of, effect}
 use Rattle.transfer.specs.Calls.{map_kind, room_of, input_kind, output_facts, number_kind, length_kind}
 use Rattle.transfer.specs.Calls.{context_kind, readable_two, readable_four, any_number, call_facts}
 use Rattle.transfer.specs.Sound.{IsKindAt, AreWellFormedAt, AreWellFormedOn, TransferKeepsWellFormed}
@@ -166,7 +166,7 @@ module _ (bound : ℕ) (shapes : Shapes) (at : ℕ) (lt : at < bound) where
   store_words f size off k v h g = tt
 
   changed_words : (f : Facts) (size : AccessSize) (off : ℤ) (k v : Kind)
-      → AreWellFormedAt bound f → OkIs (AreWellFormedAt bound) (changed_facts shapes f size off k v)
+      → AreWellFormedAt bound f → OkIs (AreWellFormedAt bound) (atomic_facts shapes f size off k v)
   changed_words f size off (kind.Stack x) v h =
       past _ (number_or PointerArithmetic v) _
       (λ _. past _ (stack_read f (x +ℤ off) size false) _

@@ -122,14 +122,14 @@ value_changed f p off size o =
 
 -- the facts after an atomic operation with an operand of kind v, `off` bytes from an address of
 -- this kind; or the first reason against it
-abbrev pub changed_facts : Shapes → Facts → AccessSize → ℤ → Kind → Kind → Result Facts Reason
-changed_facts shapes f size off (kind.Stack x) v =
+abbrev pub atomic_facts : Shapes → Facts → AccessSize → ℤ → Kind → Kind → Result Facts Reason
+atomic_facts shapes f size off (kind.Stack x) v =
     and_then_ok (number_or PointerArithmetic v) (λ _. stack_changed f (x +ℤ off) size)
-changed_facts shapes f size off kind.Ctx v = Err ContextAccess
-changed_facts shapes f size off (kind.Value p) v =
+atomic_facts shapes f size off kind.Ctx v = Err ContextAccess
+atomic_facts shapes f size off (kind.Value p) v =
     and_then_ok (number_or PointerArithmetic v) (λ _. value_changed f p off size (shapes p.map))
-changed_facts shapes f size off (kind.MaybeValue m site) v = Err MaybeNull
-changed_facts shapes f size off k v = Err NotPointer
+atomic_facts shapes f size off (kind.MaybeValue m site) v = Err MaybeNull
+atomic_facts shapes f size off k v = Err NotPointer
 
 -- ---- maps and calls: it is a fault of the program's shape if a descriptor names no map, or one
 -- without this direct value, or if a helper is unknown
@@ -189,7 +189,7 @@ access_edges shapes f (stores size src) off k =
     (λ v. and_then_ok (store_facts shapes f size off k v) falls)
 access_edges shapes f (changes size op src) off k =
     and_then_ok (check_readable (kind_at f src))
-    (λ v. and_then_ok (changed_facts shapes f (access_size size) off k v) falls)
+    (λ v. and_then_ok (atomic_facts shapes f (access_size size) off k v) falls)
 
 -- the kind of what a wide load, an instruction of two slots, puts into its register
 abbrev pub wide_kind : Shapes → WideValue → Result Kind Reason

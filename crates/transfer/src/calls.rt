@@ -36,7 +36,7 @@ fn map_kind(named: &[Named], kind: Kind) -> Result<ShapedMap, Reason>
 }
 
 /// The sum of an offset and a distance `by` in bytes, which may be negative. It can't overflow in 64 bits.
-pub(crate) fn behind(offset: i32, by: i16) -> i64
+pub(crate) fn moved_by(offset: i32, by: i16) -> i64
     ensures { result ≡ offset +ℤ by }
 {
     i64::from(offset) + i64::from(by)
@@ -69,8 +69,8 @@ pub(crate) fn room_of(
     let Some(shape) = shape_of(named, pointer.map) else {
         return Err(Reason::OutsideValue);
     };
-    let low = behind(pointer.lo, offset);
-    let last = behind(pointer.hi, offset);
+    let low = moved_by(pointer.lo, offset);
+    let last = moved_by(pointer.hi, offset);
     room_in(low, last, count, shape.value_size)
 }
 

@@ -10,7 +10,7 @@ ghost use Rattle.tagged_model.specs.Shape.{longest_value};
 ghost use Rattle.transfer.specs.Arithmetic.{of_scalar};
 ghost use Rattle.transfer.specs.Branches.{ends, falls};
 ghost use Rattle.transfer.specs.Effects.{source_kind, first_kind, context_read, load_kind, store_facts};
-ghost use Rattle.transfer.specs.Effects.{number_or, stack_changed, is_known_multiple, changed_facts};
+ghost use Rattle.transfer.specs.Effects.{number_or, stack_changed, is_known_multiple, atomic_facts};
 ghost use Rattle.transfer.specs.Effects.{map_of, value_of, exit_edges, operator_edges, unary_edges, effect};
 ghost use Rattle.reg_kinds.specs.declared.reason.Reason.TheVariants.{OutsideStack, PointerStored};
 ghost use Rattle.tagged_model.specs.Named.{shapes_named};
@@ -23,7 +23,7 @@ ghost use Rattle.transfer.specs.declared.branches.Flow.TheVariants.{Falls};
 
 use crate::arithmetic::{arithmetic, check_readable, of_scalar, result_range};
 use crate::branches::{Flow, branch};
-use crate::calls::{behind, call, room_of};
+use crate::calls::{call, moved_by, room_of};
 use insn_set::{AtomicSize, Insn, Load, Movsx, Operand, Reg};
 use interval::Range;
 use reg_kinds::{Facts, Kind, Reason, ValuePointer, loaded, read_stack, write_stack};
@@ -209,7 +209,7 @@ fn is_multiple(offset: i64, size: AccessSize) -> bool
 fn is_known_multiple(pointer: ValuePointer, offset: i16, size: AccessSize) -> bool
     ensures { result ≡ is_known_multiple pointer offset size }
 {
-    pointer.lo == pointer.hi && is_multiple(behind(pointer.lo, offset), size)
+    pointer.lo == pointer.hi && is_multiple(moved_by(pointer.lo, offset), size)
 }
 
 /// Updates the facts for an atomic operation with an operand of the kind `value`, `offset` bytes from an address of the kind `base`, or
@@ -222,10 +222,10 @@ fn change(
     base: Kind,
     value: Kind,
 ) -> Result<Option<usize>, Reason>
-    ensures ok { OnOk result (changed_facts (shapes_named named.now) facts.old (access_size size)
+    ensures ok { OnOk result (atomic_facts (shapes_named named.now) facts.old (access_size size)
         offset base value ≡ Ok facts.new) }
     ensures stack { IfOk result (λ slot. ChangesAtMost slot facts.old facts.new) }
-    ensures refused { IfErr result (λ reason. changed_facts (shapes_named named.now) facts.old
+    ensures refused { IfErr result (λ reason. atomic_facts (shapes_named named.now) facts.old
         (access_size size) offset base value ≡ Err reason) }
     ensures stays { OnErr result (facts.new ≡ facts.old) }
 {

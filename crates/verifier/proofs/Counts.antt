@@ -17,7 +17,7 @@ use Rattle.verifier.specs.declared.cost.Cost.{Cost}
 use Rattle.verifier.specs.declared.cost.Counts.{Counts}
 use Rattle.verifier.specs.declared.cost.Paths.{Paths}
 use Rattle.verifier.specs.Cost.{is_helper, is_call, is_exit, calls_in, IsMostOf, IsCostOf}
-use Rattle.verifier.specs.Shape.{is_slot, leads_into, reached_from, is_reachable, shape_of, shape_reason, structure_fault}
+use Rattle.verifier.specs.Shape.{is_number, leads_into, reached_from, is_reachable, shape_of, shape_reason, structure_fault}
 use Rattle.verifier.specs.ShapeLaws.{unrefused_is_fine}
 use Rattle.verifier.specs.inside.Longest.{one, one_if_call, total, passed_on, most_from, at_exit, most_ended, IsAdded, IsSimple, LeadTo}
 use Rattle.verifier.proofs.Longest.{passes, passes_none, leads_from}
@@ -25,7 +25,7 @@ use Rattle.verifier.proofs.Reached.{or_neither}
 
 -- ---- the counts that an instruction sends along its edges
 
-slot_if : (b : Bool) (o : Option ℕ) (i : ℕ) → is_slot (if b then o else None) i ≡ (b && is_slot o i)
+slot_if : (b : Bool) (o : Option ℕ) (i : ℕ) → is_number (if b then o else None) i ≡ (b && is_number o i)
 slot_if true o i = refl
 slot_if false o i = refl
 
@@ -49,13 +49,13 @@ pub along : (weight : Insn → ℕ) (insn : Insn) (row : Profile) (slot i before
     → row ≡ profile insn → slot < i
     → k ≡ before + weight insn
     → fall ≡ (if falls_by row.successors then k else 0)
-    → new ≡ max old (if is_slot (target_by row.successors slot) i then k else 0)
+    → new ≡ max old (if is_number (target_by row.successors slot) i then k else 0)
     → max (if falls_to insn slot == i then fall else 0) new ≡ max old (passed_on weight (Some insn) slot i before)
 along weight insn row slot i before k fall old new is_row after is_k is_fall is_new =
-    let jump = jumps insn && is_slot (jumps_to insn slot) i in
+    let jump = jumps insn && is_number (jumps_to insn slot) i in
     let falling = is_fall ∙ ap (λ (r : Profile). if falls_by r.successors then k else 0) is_row in
     let jumping = is_new
-    ∙ ap (λ (r : Profile). max old (if is_slot (target_by r.successors slot) i then k else 0)) is_row
+    ∙ ap (λ (r : Profile). max old (if is_number (target_by r.successors slot) i then k else 0)) is_row
     ∙ ap (λ (b : Bool). max old (if b then k else 0)) (slot_if (jumps insn) (jumps_to insn slot) i) in
     ap (λ (n : ℕ). max (if falls_to insn slot == i then n else 0) new) falling
     ∙ ap (λ (n : ℕ). max (if falls_to insn slot == i then (if falls insn then k else 0) else 0) n) jumping
@@ -85,7 +85,7 @@ simple_along : (weight : Insn → ℕ) (insn : Insn) (row : Profile) (slot to be
 simple_along weight insn row slot to before k fall old is_row next is_k is_fall after =
     along weight insn row slot to before k fall old old is_row after is_k
     (is_fall ∙ sym (ap (λ (s : Successors). if falls_by s then k else 0) next))
-    (sym (ap (λ (s : Successors). max old (if is_slot (target_by s slot) to then k else 0)) next ∙ max_none old))
+    (sym (ap (λ (s : Successors). max old (if is_number (target_by s slot) to then k else 0)) next ∙ max_none old))
 
 simple_end : (weight : Insn → ℕ) (insn : Insn) (row : Profile) (before old new : ℕ)
     → row ≡ profile insn → row.successors ≡ Next

@@ -14,7 +14,7 @@ use Rattle.transfer.specs.Branches.{Edges}
 use Rattle.transfer.specs.Branches.{falls as falls_on}
 use Rattle.transfer.specs.Arithmetic.{check_readable, arithmetic_kind, of_scalar}
 use Rattle.transfer.specs.Effects.{source_kind, first_kind, assigns, load_kind, store_facts}
-use Rattle.transfer.specs.Effects.{changed_facts, access_edges, wide_kind, known, exits_with, effect_of, effect}
+use Rattle.transfer.specs.Effects.{atomic_facts, access_edges, wide_kind, known, exits_with, effect_of, effect}
 use Rattle.transfer.specs.Calls.{call_facts}
 use Rattle.tagged_model.specs.Named.{Shapes}
 use Rattle.tagged_model.specs.Helpers.{helper_of}
@@ -76,7 +76,7 @@ module _ (shapes : Shapes) (at : ℕ) (f : Facts) where
       (λ l. after_given (LeadOnly v) (store_facts shapes f size off k l) _ (λ g. falls_alone v g h))
   access_leads v (changes size op src) off k h =
       after_given (LeadOnly v) (check_readable (kind_at f src)) _
-      (λ l. after_given (LeadOnly v) (changed_facts shapes f (access_size size) off k l) _ (λ g. falls_alone v g h))
+      (λ l. after_given (LeadOnly v) (atomic_facts shapes f (access_size size) off k l) _ (λ g. falls_alone v g h))
 
   view_leads : (v : View) → IfOk (LeadOnly v) (effect_of shapes at v f)
   view_leads (binary wide op dst src) =

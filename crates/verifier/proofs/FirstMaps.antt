@@ -10,7 +10,7 @@ use Rattle.tagged_model.specs.declared.shape.MapShape.{MapShape}
 use Rattle.tagged_model.specs.Named.{Shapes}
 use Rattle.tagged_model.specs.Table.{Table}
 use Rattle.tagged_model.specs.State.{RunMap}
-use Rattle.tagged_model.specs.Step.{MapsByDescriptor, numbered, first_map}
+use Rattle.tagged_model.specs.Step.{MapsByDescriptor, numbered, map_at_start}
 use Rattle.tagged_model.specs.StateInvariant.{AreBytes, KeysHaveObjects, IsMapOf}
 use Rattle.verifier.specs.Sound.{IsTableOf}
 
@@ -42,7 +42,7 @@ all_bytes vs all number =
       | inr past ↦ subst AreBytes (sym (get_or_past vs number [] past)) none_there
     ]
 
-map_is : (shape : MapShape) (t : Table (List ℕ)) → IsTableOf shape t → IsMapOf shape (first_map t)
+map_is : (shape : MapShape) (t : Table (List ℕ)) → IsTableOf shape t → IsMapOf shape (map_at_start t)
 map_is shape t is =
     record {
       shaped = is.shaped;
@@ -54,26 +54,26 @@ map_is shape t is =
 -- ---- the maps of a run
 
 first_of : (P : Table (List ℕ) → Type 0) (o : Option (Table (List ℕ))) (u : RunMap)
-    → ((t : Table (List ℕ)) → o ≡ Some t → P t) → option_map first_map o ≡ Some u
-    → (t : Table (List ℕ)) × (first_map t ≡ u) × P t
+    → ((t : Table (List ℕ)) → o ≡ Some t → P t) → option_map map_at_start o ≡ Some u
+    → (t : Table (List ℕ)) × (map_at_start t ≡ u) × P t
 first_of P None u h e = absurd (none-some u e)
 first_of P (Some t) u h e = (t, cc, h t refl)
 
 -- if the values of all maps are bytes, so are those of the maps at the start of a run
 pub first_values : (maps : MapsByDescriptor)
     → ((m : ℕ) (t : Table (List ℕ)) → maps m ≡ Some t → All AreBytes (values_of t.entries))
-    → (m : ℕ) (u : RunMap) → option_map first_map (maps m) ≡ Some u
+    → (m : ℕ) (u : RunMap) → option_map map_at_start (maps m) ≡ Some u
     → (number : ℕ) → AreBytes (u.values number)
 first_values maps values m u e number =
     let f = first_of (λ t. All AreBytes (values_of t.entries)) (maps m) u (values m) e in
     subst (λ (u : RunMap). AreBytes (u.values number)) f.1 (all_bytes (values_of f.0.entries) f.2 number)
 
 -- if a run is given a map of each shape, it begins with a map of each shape
-pub first_maps : (shapes : Shapes) (maps : MapsByDescriptor)
+pub maps_at_start : (shapes : Shapes) (maps : MapsByDescriptor)
     → ((m : ℕ) (shape : MapShape) → shapes m ≡ Some shape
     → (t : Table (List ℕ)) × (maps m ≡ Some t) × IsTableOf shape t)
     → (m : ℕ) (shape : MapShape) → shapes m ≡ Some shape
-    → (u : RunMap) × (option_map first_map (maps m) ≡ Some u) × IsMapOf shape u
-first_maps shapes maps has m shape e =
+    → (u : RunMap) × (option_map map_at_start (maps m) ≡ Some u) × IsMapOf shape u
+maps_at_start shapes maps has m shape e =
     let h = has m shape e in
-    (first_map h.0, ap (option_map first_map) h.1, map_is shape h.0 h.2)
+    (map_at_start h.0, ap (option_map map_at_start) h.1, map_is shape h.0 h.2)

@@ -30,7 +30,7 @@ use Rattle.verifier.specs.declared.pass.Pass.{Pass}
 use Rattle.verifier.specs.declared.numbered_facts.NumberedFacts.{NumberedFacts}
 use Rattle.verifier.specs.inside.Numbers.{facts_on, entry_of, at_entry, IsNumbered, IsNumberedIf, AreNumbered}
 use Rattle.verifier.proofs.Numbers.{joined_none, on_none, raised, entry_numbered}
-use Rattle.verifier.specs.Shape.{is_slot, falls_into, jumps_into}
+use Rattle.verifier.specs.Shape.{is_number, falls_into, jumps_into}
 use Rattle.verifier.specs.Before.{joined, only_if, edges_into, facts_sent, facts_from_below, facts_before}
 use Rattle.verifier.specs.inside.Arriving.{brought_to, Brings, arriving_at}
 use Rattle.verifier.specs.inside.Edges.{falling_of, jumping_of, falling_from, jumping_from, reason_from}
@@ -71,8 +71,8 @@ module _ (shapes : Shapes) where
 
   -- an instruction that does not jump has no target
   target_is : (b : Bool) (o : Option ℕ) (n i : ℕ)
-      → n < i → is_slot (if b then o else None) i ≡ (b && is_slot o i && nat_lt n i)
-  target_is true o n i lt = sym (ap (λ (x : Bool). is_slot o i && x) (lt-ltb n i lt) ∙ and-true (is_slot o i))
+      → n < i → is_number (if b then o else None) i ≡ (b && is_number o i && nat_lt n i)
+  target_is true o n i lt = sym (ap (λ (x : Bool). is_number o i && x) (lt-ltb n i lt) ∙ and-true (is_number o i))
   target_is false o n i lt = refl
 
   neither : (b c : Bool) → joined (only_if b None) (only_if c None) ≡ None
@@ -88,12 +88,12 @@ module _ (shapes : Shapes) where
   edges_are : (insn : Insn) (n i : ℕ)
       → n < i → (here : Option Facts)
       → joined (only_if (falls_to insn n == i) (falling_from shapes n insn here))
-      (only_if (is_slot (jump_target insn n) i) (jumping_from shapes n insn here))
+      (only_if (is_number (jump_target insn n) i) (jumping_from shapes n insn here))
       ≡ and_then here (λ f. edges_into insn n i (effect shapes n insn f))
-  edges_are insn n i lt None = neither (falls_to insn n == i) (is_slot (jump_target insn n) i)
+  edges_are insn n i lt None = neither (falls_to insn n == i) (is_number (jump_target insn n) i)
   edges_are insn n i lt (Some f) =
       ap (λ (x : Option Facts).
-      joined x (only_if (is_slot (jump_target insn n) i) (jumping_of (effect shapes n insn f))))
+      joined x (only_if (is_number (jump_target insn n) i) (jumping_of (effect shapes n insn f))))
       (fall_is n insn f (falls_to insn n == i))
       ∙ ap (λ (b : Bool).
       joined (only_if (falls_into insn n i) (falling_of (effect shapes n insn f)))
@@ -234,7 +234,7 @@ module _ (shapes : Shapes) where
             entry_is b i (omega arith) within (λ e. omega arith) in
             let known = here_is b begins lt in
             let fall_edge : Option Facts = only_if (falls_to insn slot == i) falling_edge in
-            let jump_edge : Option Facts = only_if (is_slot (jump_target insn slot) i) jumping_edge in
+            let jump_edge : Option Facts = only_if (is_number (jump_target insn slot) i) jumping_edge in
             ap (λ (f : Option Facts). joined (only_if (falls_to insn slot == i) f) (brought_to i new.entries)) fall
             ∙ ap (joined fall_edge) (jump i (omega arith))
             ∙ joined_swap comm assoc fall_edge (brought_to i old.entries) jump_edge

@@ -9,7 +9,7 @@ use Rattle.insn_set.specs.Program.{slot_count, begins_at}
 use Rattle.insn_set.specs.BeginLaws.{next_begins}
 use Rattle.tagged_model.specs.declared.shape.Named.{Named}
 use Rattle.insn_set.specs.Flow.{falls_to, jumps_to, falls, jumps}
-use Rattle.verifier.specs.Shape.{is_slot, falls_into, jumps_into, leads_outside, leads_backward, structure_fault}
+use Rattle.verifier.specs.Shape.{is_number, falls_into, jumps_into, leads_outside, leads_backward, structure_fault}
 use Rattle.verifier.specs.Verdict.{HasNoFault}
 use Rattle.verifier.specs.ShapeLaws.{each_is_fine}
 use Rattle.verifier.specs.Verified.{GoesAhead}
@@ -40,7 +40,7 @@ shaped code named none n i begins =
 pub second_false : (a b : Bool) → (a && b) ≡ false → a ≡ true → b ≡ false
 second_false a b h e = ⊎_elim (λ z. absurd (both_ways a z e)) (λ z. z) (and_cases a b h)
 
-slot_of : (o : Option ℕ) (m : ℕ) → is_slot o m ≡ true → o ≡ Some m
+slot_of : (o : Option ℕ) (m : ℕ) → is_number o m ≡ true → o ≡ Some m
 slot_of None m e = absurd (false≢true e)
 slot_of (Some n) m e = ap Some (eqb-true n m e)
 
@@ -85,8 +85,8 @@ module _ (code : List Insn) (n : ℕ) (i : Insn) (shape : IsShaped code i n) whe
   -- at the slot to which the jumping edge of an instruction leads, an instruction begins
   pub jumps_begins : (m : ℕ) → jumps_into i n m ≡ true → IsSome (begins_at code m)
   jumps_begins m t =
-      let h = and_parts (jumps i && is_slot (jumps_to i n) m) (nat_lt n m) t in
-      let at = and_parts (jumps i) (is_slot (jumps_to i n) m) h.0 in
+      let h = and_parts (jumps i && is_number (jumps_to i n) m) (nat_lt n m) t in
+      let at = and_parts (jumps i) (is_number (jumps_to i n) m) h.0 in
       (jump_at m at.0 (slot_of (jumps_to i n) m at.1)).1
 
   -- an edge that an instruction takes goes to that slot
@@ -96,9 +96,9 @@ module _ (code : List Insn) (n : ℕ) (i : Insn) (shape : IsShaped code i n) whe
   -- the jumping edge of an instruction that jumps leads to its target
   pub jumps_lead : (m : ℕ) → jumps i ≡ true → jumps_to i n ≡ Some m → jumps_into i n m ≡ true
   jumps_lead m h e =
-      let at = subst (λ o. is_slot o m ≡ true) (sym e) (eq-eqb m m refl) in
-      and_from (jumps i && is_slot (jumps_to i n) m) (nat_lt n m)
-      (and_from (jumps i) (is_slot (jumps_to i n) m) h at)
+      let at = subst (λ o. is_number o m ≡ true) (sym e) (eq-eqb m m refl) in
+      and_from (jumps i && is_number (jumps_to i n) m) (nat_lt n m)
+      (and_from (jumps i) (is_number (jumps_to i n) m) h at)
       (lt-ltb n m (jump_at m h e).0)
 
 -- ---- a program without a fault of its shape

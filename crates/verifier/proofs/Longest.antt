@@ -10,7 +10,7 @@ use Rattle.insn_set.specs.BeginLaws.{begins_within, first_begins, some_slots}
 use Rattle.insn_set.specs.Flow.{falls_to, jumps_to, falls, jumps}
 use Rattle.tagged_model.specs.declared.shape.Named.{Named}
 use Rattle.verifier.specs.Cost.{is_exit, IsPath, IsMostOf}
-use Rattle.verifier.specs.Shape.{is_slot, falls_into, jumps_into, leads_into, reached_from, is_reachable, structure_fault}
+use Rattle.verifier.specs.Shape.{is_number, falls_into, jumps_into, leads_into, reached_from, is_reachable, structure_fault}
 use Rattle.verifier.specs.ShapeLaws.{each_is_fine}
 use Rattle.verifier.specs.Verdict.{HasNoFault}
 use Rattle.verifier.specs.inside.Longest.{total, passed_on, most_from, at_exit, most_ended}
@@ -26,7 +26,7 @@ leads_farther i n to leads =
       | inl fallen ↦
           let at : n + length (slots i) ≡ to = eqb-true (falls_to i n) to (and_parts (falls i) _ fallen).1 in
           omega (arith, some_slots i)
-      | inr jumped ↦ ltb-true n to (and_parts (jumps i && is_slot (jumps_to i n) to) _ jumped).1
+      | inr jumped ↦ ltb-true n to (and_parts (jumps i && is_number (jumps_to i n) to) _ jumped).1
     ]
 
 -- along an edge an instruction passes on what it has

@@ -24,7 +24,7 @@ use Rattle.transfer.specs.declared.branches.Flow.TheVariants.{Ends, Falls, Write
 use Rattle.transfer.specs.Branches.{with_pair}
 use Rattle.transfer.specs.Flows.{edges_of, KeepsStack}
 use Rattle.verifier.specs.Before.{joined, only_if}
-use Rattle.verifier.specs.Shape.{is_slot}
+use Rattle.verifier.specs.Shape.{is_number}
 use Rattle.verifier.specs.declared.numbered_facts.NumberedFacts.{NumberedFacts}
 use Rattle.verifier.specs.inside.Arriving.{Brings, brought_to}
 use Rattle.verifier.specs.inside.Edges.{falling_of, jumping_of, falling_from, jumping_from}
@@ -246,7 +246,7 @@ module _ (absorb : SlotsAbsorb) (stacks : Stacks) (n m slot : ℕ) (lt : n < m) 
     pub numbered : IsNumberedIf (with_stack stacks n (stack_on (entry_at target new))) m (entry_of i new)
 
   same_entry : (target : Option ℕ) (facts : Option Facts) (i : ℕ)
-      → slot ≤ i → only_if (is_slot target i) facts ≡ None
+      → slot ≤ i → only_if (is_number target i) facts ≡ None
       → entry_of i new ≡ entry_of i old
       → IsRightEntry target facts i
   same_entry target facts i above none same =
@@ -285,7 +285,7 @@ module _ (absorb : SlotsAbsorb) (stacks : Stacks) (n m slot : ℕ) (lt : n < m) 
       → (i : ℕ) → slot ≤ i
       → IsRightEntry target (facts_on sent) i
   sent_right target None numbered is i above =
-      same_entry target None i above (on_none (is_slot target i)) (ap (entry_of i) is)
+      same_entry target None i above (on_none (is_number target i)) (ap (entry_of i) is)
   sent_right None (Some y) numbered is i above = same_entry None (Some y.facts) i above refl (ap (entry_of i) is)
   sent_right (Some to) (Some y) numbered is i above =
       elim (cases_eq i to) [
@@ -389,7 +389,7 @@ module _ (absorb : SlotsAbsorb) (shapes : Shapes) (slot : ℕ) (insn : Insn) whe
         sent = λ i above.
             let next : slot + 1 ≤ i = omega (arith, above) in
             (entry i next).brings
-            ∙ ap (λ (o : Option Facts). joined (brought_to i old) (only_if (is_slot target i) o)) jumps;
+            ∙ ap (λ (o : Option Facts). joined (brought_to i old) (only_if (is_number target i) o)) jumps;
         numbered = record {
           stacks = s4;
           in_hand =
@@ -428,7 +428,7 @@ module _ (absorb : SlotsAbsorb) (shapes : Shapes) (slot : ℕ) (insn : Insn) whe
   nothing_sent old new same i =
       ap (brought_to i) same
       ∙ sym (joined_none (brought_to i old))
-      ∙ sym (ap (joined (brought_to i old)) (on_none (is_slot (jump_target insn slot) i)))
+      ∙ sym (ap (joined (brought_to i old)) (on_none (is_number (jump_target insn slot) i)))
 
   -- after an instruction, if there are facts
   past_if : (stacks : Stacks) (here : Option NumberedFacts) (old : List (Option NumberedFacts))
@@ -472,7 +472,7 @@ module _ (absorb : SlotsAbsorb) (shapes : Shapes) (slot : ℕ) (insn : Insn) whe
         sent = λ i above.
             step.sent i above
             ∙ ap (λ (o : Option Facts).
-            joined o (only_if (is_slot (jump_target insn slot) i) (jumping_from shapes slot insn (facts_on here))))
+            joined o (only_if (is_number (jump_target insn slot) i) (jumping_from shapes slot insn (facts_on here))))
             (from i above);
         numbered = step.numbered;
       })

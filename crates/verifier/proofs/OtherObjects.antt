@@ -23,7 +23,7 @@ use Rattle.tagged_model.specs.Named.{Shapes, target_of, shape_in, shapes_named}
 use Rattle.verifier.specs.Fits.{Fits, SameShapesAreAccepted}
 use Rattle.verifier.specs.Judgement.{Judges}
 use Rattle.verifier.specs.Maps.{maps_of, is_among, entries_of, shapes_of}
-use Rattle.verifier.specs.Shape.{leads_outside, leads_backward, is_reachable, is_slot, calls_unknown, is_map, is_not_open}
+use Rattle.verifier.specs.Shape.{leads_outside, leads_backward, is_reachable, is_number, calls_unknown, is_map, is_not_open}
 use Rattle.verifier.specs.Shape.{is_not_map, is_no_value, lacks_value, first_reason, shape_reason, shape_of, structure_fault}
 use Rattle.verifier.specs.Verdict.{safety_fault, HasNoFault, IsAccepted}
 use Rattle.verifier.specs.Verified.{Accepted, IsVerified, shapes_in}
@@ -85,7 +85,7 @@ reason_if code i at closed unmapped lacking = first_reason (
     ∷ (falls i && nat_le (slot_count code) (falls_to i at), FallsOff)
     ∷ (not (is_reachable code at), Unreachable)
     ∷ (calls_unknown i, UnknownHelper)
-    ∷ (is_slot (written_register i) 10, FramePointerWritten)
+    ∷ (is_number (written_register i) 10, FramePointerWritten)
     ∷ (closed, DescriptorNotOpen)
     ∷ (unmapped, DescriptorNotMap)
     ∷ (lacking, NoDirectValue)

@@ -24,7 +24,7 @@ use Rattle.verifier.specs.Maps.{shapes_of}
 use Rattle.verifier.specs.Before.{facts_from_below, facts_before}
 use Rattle.verifier.specs.Verdict.{IsAccepted}
 use Rattle.verifier.specs.Sound.{IsAdmitted, NextIsAdmitted, StepsGoOn, AreRunInputs, NeverFaults}
-use Rattle.verifier.proofs.FirstMaps.{first_values, first_maps}
+use Rattle.verifier.proofs.FirstMaps.{first_values, maps_at_start}
 use Rattle.verifier.proofs.Arrivals.{begins_before}
 
 -- ---- at the beginning
@@ -80,7 +80,7 @@ beginning shapes code maps words packet given =
           values = first_values maps given.values;
           packet = given.bytes;
         };
-        maps = first_maps shapes maps given.has;
+        maps = maps_at_start shapes maps given.has;
       };
     }
 

@@ -25,9 +25,9 @@ abbrev pub is_first_slot : List Insn → ℕ → Bool
 is_first_slot code n = is_some (begins_at code n)
 
 -- there is a number, of a slot or a register, and it is i
-abbrev pub is_slot : Option ℕ → ℕ → Bool
-is_slot None i = false
-is_slot (Some n) i = n == i
+abbrev pub is_number : Option ℕ → ℕ → Bool
+is_number None i = false
+is_number (Some n) i = n == i
 
 -- the falling edge of an instruction at slot n leads to slot i
 abbrev pub falls_into : Insn → ℕ → ℕ → Bool
@@ -36,7 +36,7 @@ falls_into insn n i = falls insn && falls_to insn n == i
 -- the jumping edge of an instruction at slot n leads to slot i; a jump to the same or an earlier
 -- slot is no edge
 abbrev pub jumps_into : Insn → ℕ → ℕ → Bool
-jumps_into insn n i = jumps insn && is_slot (jumps_to insn n) i && nat_lt n i
+jumps_into insn n i = jumps insn && is_number (jumps_to insn n) i && nat_lt n i
 
 -- an edge of the instruction at slot n, if one begins there, leads to slot i
 abbrev pub leads_into : Option Insn → ℕ → ℕ → Bool
@@ -120,7 +120,7 @@ shape_reason code named i at = first_reason (
     ∷ (falls i && nat_le (slot_count code) (falls_to i at), FallsOff)
     ∷ (not (is_reachable code at), Unreachable)
     ∷ (calls_unknown i, UnknownHelper)
-    ∷ (is_slot (written_register i) 10, FramePointerWritten)
+    ∷ (is_number (written_register i) 10, FramePointerWritten)
     ∷ (is_not_open named (descriptor i), DescriptorNotOpen)
     ∷ (is_not_map named (descriptor i), DescriptorNotMap)
     ∷ (lacks_value named i, NoDirectValue)

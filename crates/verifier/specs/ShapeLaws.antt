@@ -11,7 +11,7 @@ use Rattle.reg_kinds.specs.declared.reason.Reason.{Reason}
 use Rattle.reg_kinds.specs.declared.reason.Reason.TheVariants.{JumpOutside, JumpBackward, FallsOff, Unreachable, UnknownHelper}
 use Rattle.reg_kinds.specs.declared.reason.Reason.TheVariants.{FramePointerWritten, DescriptorNotOpen, DescriptorNotMap, NoDirectValue}
 use Rattle.tagged_model.specs.declared.shape.Named.{Named}
-use Rattle.verifier.specs.Shape.{leads_outside, leads_backward, is_reachable, is_slot, calls_unknown, is_not_open}
+use Rattle.verifier.specs.Shape.{leads_outside, leads_backward, is_reachable, is_number, calls_unknown, is_not_open}
 use Rattle.verifier.specs.Shape.{is_not_map, lacks_value, first_reason, shape_reason, shape_of, structure_fault}
 use Rattle.verifier.specs.Verdict.{HasNoFault}
 
@@ -50,7 +50,7 @@ unrefused_is_fine code named i at none =
     let ninth : Bool × Reason = (lacks_value named i, NoDirectValue) in
     let eighth : Bool × Reason = (is_not_map named (descriptor i), DescriptorNotMap) in
     let seventh : Bool × Reason = (is_not_open named (descriptor i), DescriptorNotOpen) in
-    let sixth : Bool × Reason = (is_slot (written_register i) 10, FramePointerWritten) in
+    let sixth : Bool × Reason = (is_number (written_register i) 10, FramePointerWritten) in
     let fifth : Bool × Reason = (calls_unknown i, UnknownHelper) in
     let fourth : Bool × Reason = (not (is_reachable code at), Unreachable) in
     let third : Bool × Reason = (falls i && nat_le (slot_count code) (falls_to i at), FallsOff) in

@@ -4,7 +4,7 @@ ghost use Rattle.std.specs.Prelude.{◌≡◌, ◌+◌, ◌<◌, ◌≤◌, ◌|
 ghost use Rattle.insn_set.specs.Flow.{jump_target};
 ghost use Rattle.insn_set.specs.Profile.{profile};
 ghost use Rattle.verifier.specs.Cost.{is_helper};
-ghost use Rattle.verifier.specs.Shape.{is_slot};
+ghost use Rattle.verifier.specs.Shape.{is_number};
 ghost use Rattle.verifier.specs.inside.Longest.{no_counts, AreFew, IsAdded};
 
 use insn_codec::{Insn, MAX_SLOTS, Profile, Reference, Successors};
@@ -81,10 +81,10 @@ fn send(jumping: &mut [Counts], target: Option<usize>, counts: Counts)
     requires { IfSome target (λ to. to < length jumping.old) }
     ensures instructions { (i : ℕ) → (slice_index_or jumping.new i no_counts).instructions
         ≡ max (slice_index_or jumping.old i no_counts).instructions
-        (if is_slot target i then counts.instructions else 0) }
+        (if is_number target i then counts.instructions else 0) }
     ensures calls { (i : ℕ) → (slice_index_or jumping.new i no_counts).calls
         ≡ max (slice_index_or jumping.old i no_counts).calls
-        (if is_slot target i then counts.calls else 0) }
+        (if is_number target i then counts.calls else 0) }
 {
     if let Some(to) = target {
         jumping[to] = jumping[to].greater(counts);

@@ -8,7 +8,7 @@ ghost use Rattle.insn_set.specs.Profile.{profile};
 ghost use Rattle.insn_set.specs.Program.{slot_count};
 ghost use Rattle.insn_set.specs.Flow.{falls_to, jumps_to, falls, jumps, descriptor, descriptor_by};
 ghost use Rattle.verifier.specs.Cost.{IsCostOf};
-ghost use Rattle.verifier.specs.Shape.{is_reachable, is_slot, is_unknown_helper, is_not_open, is_not_map, is_no_value};
+ghost use Rattle.verifier.specs.Shape.{is_reachable, is_number, is_unknown_helper, is_not_open, is_not_map, is_no_value};
 ghost use Rattle.verifier.specs.Shape.{leads_outside, leads_backward, first_reason, shape_reason, structure_fault};
 ghost use Rattle.verifier.specs.inside.Jumps.{JumpsLand};
 ghost use Rattle.verifier.specs.inside.Longest.{AreFew, IsAdded, IsSimple, LeadTo};
@@ -25,7 +25,7 @@ const FRAME_POINTER: u8 = 10;
 
 /// Whether the register that an instruction writes is the frame pointer: `false` if it writes none.
 fn writes_frame_pointer(written: Option<Reg>) -> bool
-    ensures { result ≡ is_slot written 10 }
+    ensures { result ≡ is_number written 10 }
 {
     match written {
         Some(register) => register.number() == FRAME_POINTER,

@@ -5,7 +5,7 @@ use Rattle.words.specs.Bytes.{bytes_at}
 use Rattle.tagged_model.specs.Table.{look_up, verdict, removal}
 use Rattle.tagged_model.specs.declared.fault.MapFault.{MapFault}
 use Rattle.tagged_model.specs.declared.helper.Helper.TheVariants.{Update, Delete, LoadBytes}
-use Rattle.tagged_model.specs.Helpers.{negative, errno, packet_bytes, packet_answer}
+use Rattle.tagged_model.specs.Helpers.{negative, errno, packet_bytes, packet_result}
 use Rattle.arena.specs.Memory.{Memory, base, part_start, with_bytes}
 use Rattle.bpf_maps.specs.KeyTable.{table_of, Claims, Removes}
 use Rattle.bpf_maps.specs.Live.{LiveMaps, keys_at, shape_at, offset_at, OnlyKeysChange}
@@ -112,6 +112,6 @@ abbrev pub LoadsAt : CallSite → ℕ → ℕ → Option ℕ → ℕ → Memory 
 LoadsAt site offset n None word after =
     (word ≡ unnamed_answer LoadBytes) × (after ≡ site.memory)
 LoadsAt site offset n (Some q) word after =
-    (word ≡ packet_answer site.packet offset n)
+    (word ≡ packet_result site.packet offset n)
     × (after ≡ with_bytes site.memory (part_start site.memory site.tenant + q)
     (packet_bytes site.packet offset n))

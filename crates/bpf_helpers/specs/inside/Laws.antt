@@ -7,9 +7,9 @@ use Rattle.tagged_model.specs.declared.helper.Helper.TheVariants.{LookUp}
 use Rattle.tagged_model.specs.declared.value.Tagged.{Tagged}
 use Rattle.tagged_model.specs.declared.value.Tagged.TheVariants.{Scalar}
 use Rattle.tagged_model.specs.State.{RunState, RunMap, with_map, stack_bytes, stack_written, output}
-use Rattle.tagged_model.specs.Helpers.{called, returns, updated, removed, packet_bytes, packet_answer, GivenMap, MapReply}
+use Rattle.tagged_model.specs.Helpers.{called, returns, updated, removed, packet_bytes, packet_result, GivenMap, MapReply}
 use Rattle.tagged_model.specs.Table.{with_values}
-use Rattle.tagged_model.specs.Step.{first_map, last_map}
+use Rattle.tagged_model.specs.Step.{map_at_start, map_after_run}
 use Rattle.arena.specs.Memory.{base, part_start, with_bytes}
 use Rattle.bpf_maps.specs.KeyTable.{table_of, after_run, IsSound}
 use Rattle.bpf_maps.specs.Live.{LiveMaps, live_at, keys_at, shape_at, offset_at}
@@ -139,7 +139,7 @@ pub record LoadKeepsSimulation (env : Environment) (l : Layout) (flat : FlatStat
       (slice_index flat.registers 4)))) written
   pub is : u ≡ returns written
       (Scalar
-      (packet_answer s.packet (slice_index flat.registers 2) (slice_index flat.registers 4)))
+      (packet_result s.packet (slice_index flat.registers 2) (slice_index flat.registers 4)))
 
 -- with a word of the result in register 0, the words represent the state after a call that returns
 -- it; registers 1 to 5 have no value then
@@ -167,7 +167,7 @@ MapsBegin =
     → ((number : ℕ) → number < length (keys_at tenant k).entries
     → l.object_at m number ≡ base + (start + offset_at tenant k (nth_element tenant k number)))
     → HasMap l (stored_maps start memory tenant) k m
-    (first_map (with_values value (table_of (keys_at tenant k))))
+    (map_at_start (with_values value (table_of (keys_at tenant k))))
 
 -- at the end of a run, the map of handle k has the same pairs as the machine's map
 abbrev pub MapsEnd : Type 0
@@ -178,4 +178,4 @@ MapsEnd =
     → ((p : ℕ)
     → p < (shape_at old k).max_entries
     → value p ≡ element_bytes (stored_maps start memory old) k p)
-    → with_values value (table_of (keys_at new k)) ≡ last_map t
+    → with_values value (table_of (keys_at new k)) ≡ map_after_run t

@@ -98,13 +98,13 @@ kept_forms labels slot (line ∷ lines) =
 
 -- a line that was parsed is well formed; nothing is required of one that was not (None), which is a
 -- fault of the text
-abbrev pub IsFormed : Option Line → Type 0
-IsFormed None = Unit {0}
-IsFormed (Some line) = IsWellFormed line
+abbrev pub IsNoneOrWellFormed : Option Line → Type 0
+IsNoneOrWellFormed None = Unit {0}
+IsNoneOrWellFormed (Some line) = IsWellFormed line
 
 -- the name of the label that a line defines; `None` if it defines none
-abbrev pub label_defined : Option Line → Option (List ℕ)
-label_defined None = None
-label_defined (Some blank) = None
-label_defined (Some (label n)) = Some n
-label_defined (Some (code form n)) = None
+abbrev pub defined_label : Option Line → Option (List ℕ)
+defined_label None = None
+defined_label (Some blank) = None
+defined_label (Some (label n)) = Some n
+defined_label (Some (code form n)) = None

@@ -59,14 +59,14 @@ AreApart {K} eq es =
     → i ≡ j
 
 -- without an allocation the table can have `bound` entries in all, with those that it has
-abbrev pub HasRoom : {K S : Type 0} → ℕ → IndexMap K ℕ S → Type 0
-HasRoom bound table = bound ≤ index_map_len table + spare table
+abbrev pub HasAllRows : {K S : Type 0} → ℕ → IndexMap K ℕ S → Type 0
+HasAllRows bound table = bound ≤ index_map_len table + spare table
 
 -- the table has room for the entries of all elements, and the rows, of which there are none, for
 -- half of them; `rows` is the number of the rows, and `capacity` that for which they have room
 pub record IsWhole {K S : Type 0} (table : IndexMap K ℕ S) (indices : List ℕ) (order : Order)
     (rows capacity : ℕ) : Type 0 where
   pub indexed : IsIndexed table.entries indices order
-  pub room : HasRoom order.bound table
+  pub room : HasAllRows order.bound table
   pub empty : rows ≡ 0
   pub buffer : order.bound ≤ 2 * capacity

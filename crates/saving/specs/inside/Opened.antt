@@ -9,6 +9,7 @@ use Rattle.saving.specs.Births.{Birth, with_birth}
 
 -- the births after a command with this reply, or error: if the reply is the descriptor of a new
 -- object, its birth is the latest; else they are unchanged. `objects` are those after the command
-abbrev pub with_told : Result Reply Errno → List (Option OpenObject) → List Birth → List Birth
-with_told (Ok (reply.Opened fd)) objects births = with_birth fd (named objects fd) births
-with_told r objects births = births
+abbrev pub births_after_reply : Result Reply Errno → List (Option OpenObject)
+    → List Birth → List Birth
+births_after_reply (Ok (reply.Opened fd)) objects births = with_birth fd (named objects fd) births
+births_after_reply r objects births = births

@@ -15,11 +15,11 @@ abbrev pub puts : ℕ → List NumberedEntry → List Command
 puts fd es = map (λ (e : NumberedEntry). put_of fd e.0) es
 
 -- the entries after the entry of element p; none if no entry has this element, its second part
-abbrev pub rest_behind : {K : Type 0} → ℕ → List (K × ℕ) → List (K × ℕ)
-rest_behind p [] = []
-rest_behind p (e ∷ es) = if nat_eq p e.1 then es else rest_behind p es
+abbrev pub entries_after : {K : Type 0} → ℕ → List (K × ℕ) → List (K × ℕ)
+entries_after p [] = []
+entries_after p (e ∷ es) = if nat_eq p e.1 then es else entries_after p es
 
 -- all entries if no element is given, else those after the entry of this element
 abbrev pub rest_after : {K : Type 0} → Option ℕ → List (K × ℕ) → List (K × ℕ)
 rest_after None es = es
-rest_after (Some p) es = rest_behind p es
+rest_after (Some p) es = entries_after p es

@@ -10,7 +10,7 @@ use Rattle.insn_set.specs.declared.atomic.AtomicSize.{AtomicSize}
 use Rattle.insn_set.specs.declared.atomic.AtomicSize.TheVariants as atomic_size
 use Rattle.insn_set.specs.Table.{named}
 use Rattle.insn_set.specs.OperatorRows.{alu_by_symbol}
-use Rattle.insn_set.specs.ConversionRows.{order_by_name, narrow_by_name}
+use Rattle.insn_set.specs.ConversionRows.{order_by_name, extension_by_name}
 use Rattle.insn_set.specs.LoadRows.{size_by_name}
 use Rattle.insn_set.specs.ConditionRows.{condition_by_symbol}
 use Rattle.insn_set.specs.AtomicRows.{atomic_by_symbol}
@@ -211,7 +211,7 @@ parsed_binary wide op ts =
 unfoldable pub parsed_sign_extension : Bool → List Token → Option Operation
 parsed_sign_extension wide ts = do
   n ← leading_name ts
-  from ← narrow_by_name n.0
+  from ← extension_by_name n.0
   ts ← after_symbol (codes ")") n.1
   src ← leading_register wide ts
   if wide || is_short from then at_end (operation.SignExtend from src.0) src.1 else None

@@ -4,7 +4,7 @@ use Rattle.std.specs.Prelude.{◌≡◌, ℕ, List, Option}
 use Rattle.reg_kinds.specs.declared.facts.Facts.{Facts}
 use Rattle.verifier.specs.declared.pass.Pass.{Pass}
 use Rattle.verifier.specs.Before.{joined, only_if}
-use Rattle.verifier.specs.Shape.{is_slot}
+use Rattle.verifier.specs.Shape.{is_number}
 use Rattle.verifier.specs.declared.numbered_facts.NumberedFacts.{NumberedFacts}
 use Rattle.verifier.specs.inside.Numbers.{facts_on, entry_of}
 
@@ -17,7 +17,7 @@ brought_to slot entries = facts_on (entry_of slot entries)
 abbrev pub Brings : Option ℕ → Option Facts → List (Option NumberedFacts)
     → List (Option NumberedFacts) → ℕ → Type 0
 Brings target facts old new i =
-    brought_to i new ≡ joined (brought_to i old) (only_if (is_slot target i) facts)
+    brought_to i new ≡ joined (brought_to i old) (only_if (is_number target i) facts)
 
 -- the facts that arrive at a slot at which an instruction begins: the join of those on the falling
 -- edge into it and on the jumps to it; None if there are none

@@ -11,7 +11,7 @@ use Rattle.insn_set.specs.Flow.{falls_to}
 use Rattle.verifier.specs.declared.cost.Counts.{Counts}
 use Rattle.verifier.specs.declared.cost.Paths.{Paths}
 use Rattle.verifier.specs.Cost.{is_exit, is_call}
-use Rattle.verifier.specs.Shape.{is_slot, leads_into, is_reachable}
+use Rattle.verifier.specs.Shape.{is_number, leads_into, is_reachable}
 
 -- ---- what an instruction adds to the measure of a path
 
@@ -112,4 +112,4 @@ pub record IsSimple (row : Profile) (next slots : ℕ) (paths : Paths) : Type 0 
   pub names : row.reference ≡ Nothing
   pub within : next < slots
   pub reached : nat_lt 0 paths.here.instructions ≡ true
-  pub writes : is_slot row.written 10 ≡ false
+  pub writes : is_number row.written 10 ≡ false

@@ -6,13 +6,13 @@ use Rattle.text_line.specs.declared.form.Line.{Line as CodeLine}
 use Rattle.text_line.specs.Shown.{seen_lines}
 use Rattle.bpf_text.specs.Assembly.{AreRead}
 use Rattle.bpf_text.specs.Lines.{text_lines}
-use Rattle.bpf_text.specs.inside.Labels.{IsFormed}
+use Rattle.bpf_text.specs.inside.Labels.{IsNoneOrWellFormed}
 use Rattle.bpf_text.proofs.Assembling.{all_formed, no_slot_fault}
 use Rattle.bpf_text.proofs.assembler.program_of.Goals as goal
 
 pub instructions-requires-clause-formed : goal.instructions-requires-clause-formed
 instructions-requires-clause-formed c =
-    subst (λ (ls : List (Option CodeLine)). AllByRecursion IsFormed (seen_lines ls))
+    subst (λ (ls : List (Option CodeLine)). AllByRecursion IsNoneOrWellFormed (seen_lines ls))
     (sym c.deref-3.ensures.value)
     (all_formed (map (λ line. line.now) c.deref.result.now) (seen_lines c.in_ok-lines.lines.items) c.in_ok-lines.ensures)
 

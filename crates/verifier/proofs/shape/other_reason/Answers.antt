@@ -5,7 +5,7 @@ use Rattle.reg_kinds.specs.declared.reason.Reason.{Reason}
 use Rattle.reg_kinds.specs.declared.reason.Reason.TheVariants.{JumpOutside, JumpBackward, FallsOff, Unreachable, UnknownHelper}
 use Rattle.reg_kinds.specs.declared.reason.Reason.TheVariants.{FramePointerWritten, DescriptorNotOpen, DescriptorNotMap, NoDirectValue}
 use Rattle.insn_set.specs.Flow.{falls_to, jumps_to, falls, jumps, written_register, descriptor}
-use Rattle.verifier.specs.Shape.{is_reachable, is_slot, calls_unknown, is_not_open, is_not_map, lacks_value, leads_outside, leads_backward}
+use Rattle.verifier.specs.Shape.{is_reachable, is_number, calls_unknown, is_not_open, is_not_map, lacks_value, leads_outside, leads_backward}
 use Rattle.verifier.proofs.Reached.{told_early}
 use Rattle.verifier.proofs.shape.other_reason.Goals as goal
 
@@ -19,7 +19,7 @@ returns-in-Some c =
     (falls i && nat_le (slot_count code) (falls_to i at), FallsOff)
     ∷ (not (is_reachable code at), Unreachable)
     ∷ (calls_unknown i, UnknownHelper)
-    ∷ (is_slot (written_register i) 10, FramePointerWritten)
+    ∷ (is_number (written_register i) 10, FramePointerWritten)
     ∷ (is_not_open named (descriptor i), DescriptorNotOpen)
     ∷ (is_not_map named (descriptor i), DescriptorNotMap)
     ∷ (lacks_value named i, NoDirectValue)

@@ -18,19 +18,19 @@ pub returns-then-index-from : goal.returns-then-index-from
 returns-then-index-from c =
     let t = c.args.self.now in
     let n = t.shape.max_entries in
-    let i = c.index_behind-index.result in
+    let i = c.index_after_element-index.result in
     let are = array_entries t c.keys_are_its_indices.ensures.whole c.keys_are_its_indices.ensures.kind in
     let same : c.self.inside.shape.max_entries ≡ n = ap (λ (t : KeyTable). t.shape.max_entries) c.self.view_is in
     let past : n ≤ i = omega (arith, same, c.from.ensures, c.if-index-from.true) in
-    sym (next_is t n i c.args.element are c.index_behind-index.ensures ∙ no_index i n past)
+    sym (next_is t n i c.args.element are c.index_after_element-index.ensures ∙ no_index i n past)
 
 pub returns : goal.returns
 returns c =
     let t = c.args.self.now in
     let n = t.shape.max_entries in
-    let i = c.index_behind-index.result in
+    let i = c.index_after_element-index.result in
     let are = array_entries t c.keys_are_its_indices.ensures.whole c.keys_are_its_indices.ensures.kind in
     let same : c.self.inside.shape.max_entries ≡ n = ap (λ (t : KeyTable). t.shape.max_entries) c.self.view_is in
     let below : i < n = omega (arith, same, c.from.ensures, c.if-index-from.false) in
     let key : c.of_word-key.result ≡ index_key i = c.of_word-key.ensures ∙ spells i in
-    sym (next_is t n i c.args.element are c.index_behind-index.ensures ∙ some_index i n c.of_word-key.result below key)
+    sym (next_is t n i c.args.element are c.index_after_element-index.ensures ∙ some_index i n c.of_word-key.result below key)

@@ -3,7 +3,7 @@ use Rattle.bpf_maps.specs.Live.{shape_at, value_in}
 use Rattle.tagged_model.specs.Table.{look_up}
 use Rattle.tagged_model.specs.declared.shape.MapShape.{MapShape}
 use Rattle.tenant.specs.Kept.{KeptTenant, state_in}
-use Rattle.tenant.specs.Machine.{gives, gives_if_found, element_looked_up}
+use Rattle.tenant.specs.Machine.{gives, gives_or_no_entry, element_looked_up}
 use Rattle.tenant.proofs.LookUps.{on_map_is, has_size, other_size, found_at}
 use Rattle.tenant.proofs.Named.{map_in_state}
 use Rattle.tenant.proofs.StillKept.{kept_in}
@@ -13,7 +13,7 @@ pub returns-in_default-clause-answer : goal.returns-in_default-clause-answer
 returns-in_default-clause-answer c =
     let key = c.args.key.now in
     let part = c.args.part.now in
-    subst (λ (k : KeptTenant). gives_if_found (state_in part k) None ≡ element_looked_up (state_in part k) c.args.fd key)
+    subst (λ (k : KeptTenant). gives_or_no_entry (state_in part k) None ≡ element_looked_up (state_in part k) c.args.fd key)
     c.self.view_is
     (found_at c.calls_refine_values.ensures.bytes part key (map_in_state c.self.view_is c.in_ok-map.ensures.found)
     (c.if-key-shape.false ∙ ap (λ (s : MapShape). s.key_size) c.shape-shape.ensures)
@@ -48,6 +48,6 @@ returns-then-key-shape-clause-answer c =
     let shape : c.shape-shape.result ≡ shape_at k.live c.in_ok-map.map =
     c.shape-shape.ensures ∙ ap (λ (x : KeptTenant). shape_at x.live c.in_ok-map.map) c.self.view_is in
     sym (on_map_is c.args.part.now (has_size key)
-    (λ p t. gives_if_found (state_in c.args.part.now k) (look_up t key))
+    (λ p t. gives_or_no_entry (state_in c.args.part.now k) (look_up t key))
     c.in_ok-map.ensures.found
     (other_size (length key) c.if-key-shape.true (ap (λ (s : MapShape). s.key_size) shape)))

@@ -3,7 +3,7 @@ use Rattle.bpf_maps.specs.KeyRef.{key_bytes}
 use Rattle.bpf_maps.specs.Live.{shape_at}
 use Rattle.tagged_model.specs.declared.shape.MapShape.{MapShape}
 use Rattle.tenant.specs.Kept.{KeptTenant, state_in}
-use Rattle.tenant.specs.Machine.{gives_if_found, given_next}
+use Rattle.tenant.specs.Machine.{gives_or_no_entry, given_next}
 use Rattle.tenant.proofs.LookUps.{other_size}
 use Rattle.tenant.proofs.Named.{map_in_state}
 use Rattle.tenant.proofs.NextKeys.{next_is, refused_key}
@@ -13,7 +13,7 @@ pub returns-in-Some-clause-answer : goal.returns-in-Some-clause-answer
 returns-in-Some-clause-answer c = λ part.
     let key = c.args.key.now in
     subst (λ (k : KeptTenant).
-    gives_if_found (state_in part k) (Some (key_bytes c.in-Some.following))
+    gives_or_no_entry (state_in part k) (Some (key_bytes c.in-Some.following))
     ≡ given_next (state_in part k) c.args.fd key)
     c.self.view_is
     (next_is c.calls_refine_values.ensures.bytes part key
@@ -24,7 +24,7 @@ returns-in-Some-clause-answer c = λ part.
 pub returns-in-None-clause-answer : goal.returns-in-None-clause-answer
 returns-in-None-clause-answer c = λ part.
     let key = c.args.key.now in
-    subst (λ (k : KeptTenant). gives_if_found (state_in part k) None ≡ given_next (state_in part k) c.args.fd key)
+    subst (λ (k : KeptTenant). gives_or_no_entry (state_in part k) None ≡ given_next (state_in part k) c.args.fd key)
     c.self.view_is
     (next_is c.calls_refine_values.ensures.bytes part key
     (map_in_state c.self.view_is c.in_ok-map.ensures.found)

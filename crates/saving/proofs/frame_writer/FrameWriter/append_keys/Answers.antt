@@ -8,7 +8,7 @@ use Rattle.saving.specs.declared.save_parts.TheConstants.{KEYS_OF_PART}
 use Rattle.saving.specs.SaveParts.{puts_of, frames_of}
 use Rattle.saving.specs.inside.Puts.{puts, rest_after}
 use Rattle.saving.proofs.SaveSteps.{some_puts}
-use Rattle.saving.proofs.frame_writer.FrameWriter.put_keys.Goals as goal
+use Rattle.saving.proofs.frame_writer.FrameWriter.append_keys.Goals as goal
 
 pub returns : goal.returns
 returns c =
@@ -27,12 +27,12 @@ returns c =
       written =
           subst
           (λ (frames : List ℕ).
-          OnOk c.put_after.result
-          (c.put_after.new.self.frames.items ≡ frames ++ frames_of c.args.self.now.number wanted))
+          OnOk c.append_updates_after.result
+          (c.append_updates_after.new.self.frames.items ≡ frames ++ frames_of c.args.self.now.number wanted))
           c.reserve.ensures.items
           (subst
           (λ (commands : List Command).
-          OnOk c.put_after.result
-          (c.put_after.new.self.frames.items ≡ c.reserve.new.self.items ++ frames_of c.args.self.now.number commands))
-          (sym is) c.put_after.ensures.written);
+          OnOk c.append_updates_after.result
+          (c.append_updates_after.new.self.frames.items ≡ c.reserve.new.self.items ++ frames_of c.args.self.now.number commands))
+          (sym is) c.append_updates_after.ensures.written);
     }

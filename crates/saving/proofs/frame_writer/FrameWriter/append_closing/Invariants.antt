@@ -3,7 +3,7 @@ use Rattle.std.proofs.Common.{◌≡◌, ◌++◌, ◌+◌, ◌-◌}
 use Rattle.fd_table.specs.Table.{first_descriptor, most}
 use Rattle.saving.specs.Restored.{closings}
 use Rattle.saving.specs.SaveParts.{frames_of}
-use Rattle.saving.proofs.frame_writer.FrameWriter.close_rest.Given as goal
+use Rattle.saving.proofs.frame_writer.FrameWriter.append_closing.Given as goal
 
 abbrev pub invariant-loop-fd : goal.invariant-loop-fd
 invariant-loop-fd l = record {

@@ -6,7 +6,7 @@ use Rattle.command_frames.specs.Encoded.{frame_of}
 use Rattle.saving.specs.Restored.{put_of}
 use Rattle.saving.specs.inside.Puts.{puts, rest_after}
 use Rattle.saving.proofs.SaveSteps.{one_command, no_commands, next_put, no_key, no_put}
-use Rattle.saving.proofs.frame_writer.FrameWriter.put_after.Goals as goal
+use Rattle.saving.proofs.frame_writer.FrameWriter.append_updates_after.Goals as goal
 
 pub loop-preserved : goal.loop-preserved
 loop-preserved c =
@@ -17,18 +17,18 @@ loop-preserved c =
     let fewer = KEYS_OF_PART - (c.loop.counter + 1) in
     record {
       left =
-          one_command c.loop.self.frames.items c.loop.self.number c.put.new.self.number
+          one_command c.loop.self.frames.items c.loop.self.number c.append_update.new.self.number
           (put_of fd e.0) (puts fd (take left (rest_after c.loop.after es)))
           (puts fd (take fewer (rest_after (Some e.1) es)))
           (next_put fd es c.loop.after e left fewer c.map_entry.ensures.once (omega arith)
           (ap (option_map lent_entry) (sym c.in-Some.is) ∙ c.map_entry.ensures.entry c.requires.whole))
-          c.put.ensures.number c.loop.invariant.left
-          (c.in_ok-put.ensures.written
+          c.append_update.ensures.number c.loop.invariant.left
+          (c.in_ok-append_update.ensures.written
           ∙ ap (λ (key : List ℕ).
           c.loop.self.frames.items
           ++ framed (frame_of c.loop.self.number (put_of fd (key, c.in-Some.entry.value.now))))
           c.bytes.ensures);
-      number = c.put.ensures.number ∙ c.loop.invariant.number;
+      number = c.append_update.ensures.number ∙ c.loop.invariant.number;
     }
 
 pub returns-in_default : goal.returns-in_default

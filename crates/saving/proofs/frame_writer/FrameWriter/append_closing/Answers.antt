@@ -5,7 +5,7 @@ use Rattle.saving.specs.SaveParts.{frames_of}
 use Rattle.saving.specs.inside.Puts.{closing}
 use Rattle.saving.proofs.Saves.{closings_next, closings_none}
 use Rattle.saving.proofs.SaveSteps.{some_commands, no_commands}
-use Rattle.saving.proofs.frame_writer.FrameWriter.close_rest.Goals as goal
+use Rattle.saving.proofs.frame_writer.FrameWriter.append_closing.Goals as goal
 
 pub loop-fd-preserved : goal.loop-fd-preserved
 loop-fd-preserved c =
@@ -17,12 +17,12 @@ loop-fd-preserved c =
     record {
       left =
           some_commands c.loop-fd.self.frames.items c.loop-fd.self.number
-          c.close_unless_open.new.self.number step (closings objects fd (last - fd))
+          c.append_close_unless_open.new.self.number step (closings objects fd (last - fd))
           (closings objects (fd + 1) (last - (fd + 1)))
           (closings_next objects fd (last - fd) (omega arith)
           ∙ ap (λ (n : ℕ). step ++ closings objects (fd + 1) n) fewer)
-          c.close_unless_open.ensures.number c.loop-fd.invariant.left c.in_ok-close_unless_open.ensures.written;
-      number = c.close_unless_open.ensures.number ∙ c.loop-fd.invariant.number;
+          c.append_close_unless_open.ensures.number c.loop-fd.invariant.left c.in_ok-append_close_unless_open.ensures.written;
+      number = c.append_close_unless_open.ensures.number ∙ c.loop-fd.invariant.number;
     }
 
 pub returns : goal.returns

@@ -5,14 +5,14 @@ use Rattle.tenant.specs.State.{live}
 use Rattle.saving.specs.Restored.{create_of}
 use Rattle.saving.specs.SaveParts.{made_empty}
 use Rattle.saving.proofs.SaveSteps.{ok_one}
-use Rattle.saving.proofs.frame_writer.FrameWriter.make_map.Goals as goal
+use Rattle.saving.proofs.frame_writer.FrameWriter.append_map.Goals as goal
 
 pub returns-in-Some : goal.returns-in-Some
 returns-in-Some c = record {
   written = λ part.
-      ok_one c.create.result c.args.self.now.frames.items c.create.new.self.frames.items c.args.self.now.number
+      ok_one c.append_create.result c.args.self.now.frames.items c.append_create.new.self.frames.items c.args.self.now.number
       (create_of c.in-Some.shape) (made_empty (live (state_in part c.args.tenant.now) c.args.map))
       (ap made_empty (c.in-Some.ensures.state part)
       ∙ ap (λ (s : MapShape). create_of s ∷ []) (sym c.in-Some.ensures.shape.1))
-      c.create.ensures.written;
+      c.append_create.ensures.written;
 }

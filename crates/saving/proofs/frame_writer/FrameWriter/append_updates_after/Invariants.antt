@@ -4,7 +4,7 @@ use Rattle.tenant.specs.Entry.{numbered_entries}
 use Rattle.saving.specs.declared.save_parts.TheConstants.{KEYS_OF_PART}
 use Rattle.saving.specs.SaveParts.{frames_of}
 use Rattle.saving.specs.inside.Puts.{puts, rest_after}
-use Rattle.saving.proofs.frame_writer.FrameWriter.put_after.Given as goal
+use Rattle.saving.proofs.frame_writer.FrameWriter.append_updates_after.Given as goal
 
 abbrev pub invariant-loop : goal.invariant-loop
 invariant-loop l = record {

@@ -1,7 +1,7 @@
 use Rattle.std.proofs.Common.{◌≡◌, true, refl}
 use Rattle.insn_set.specs.declared.insn.Insn.TheVariants.{Exit}
 use Rattle.insn_set.specs.Spelling.{spelling}
-use Rattle.insn_codec.proofs.known_answers.read_instruction.Goals as goal
+use Rattle.insn_codec.proofs.known_answers.exit_is_decoded.Goals as goal
 
 pub prove-unreachable-requires : goal.prove-unreachable-requires
 unfolding spelling

@@ -3,7 +3,7 @@ use Rattle.std.proofs.Common.{◌≡◌, ◌++◌, ◌-◌}
 use Rattle.fd_table.specs.Table.{most}
 use Rattle.saving.specs.Restored.{filled}
 use Rattle.saving.specs.SaveParts.{frames_of}
-use Rattle.saving.proofs.frame_writer.FrameWriter.fill.Given as goal
+use Rattle.saving.proofs.frame_writer.FrameWriter.append_filling.Given as goal
 
 abbrev pub invariant-loop : goal.invariant-loop
 invariant-loop l = record {

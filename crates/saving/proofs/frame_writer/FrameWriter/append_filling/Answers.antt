@@ -8,21 +8,21 @@ use Rattle.saving.specs.Restored.{load_of, filled}
 use Rattle.saving.specs.SaveParts.{frames_of}
 use Rattle.saving.proofs.Saves.{filled_next, filled_none, filler_bytes}
 use Rattle.saving.proofs.SaveSteps.{one_command, no_commands}
-use Rattle.saving.proofs.frame_writer.FrameWriter.fill.Goals as goal
+use Rattle.saving.proofs.frame_writer.FrameWriter.append_filling.Goals as goal
 
 pub loop-preserved : goal.loop-preserved
 loop-preserved c =
     let i = c.loop.counter in
     record {
       left =
-          one_command c.loop.self.frames.items c.loop.self.number c.load.new.self.number
+          one_command c.loop.self.frames.items c.loop.self.number c.append_load.new.self.number
           (load_of filler) (filled (most - i)) (filled (most - (i + 1)))
-          (filled_next most i (omega arith)) c.load.ensures.number c.loop.invariant.left
-          (c.in_ok-load.ensures.written
+          (filled_next most i (omega arith)) c.append_load.ensures.number c.loop.invariant.left
+          (c.in_ok-append_load.ensures.written
           ∙ ap (λ (bytes : List ℕ).
           c.loop.self.frames.items ++ framed (frame_of c.loop.self.number (prog_load 1 bytes)))
           (sym filler_bytes));
-      number = c.load.ensures.number ∙ c.loop.invariant.number;
+      number = c.append_load.ensures.number ∙ c.loop.invariant.number;
     }
 
 pub returns : goal.returns

@@ -2,7 +2,7 @@ use Rattle.std.proofs.Common.{◌≡◌, ◌++◌, ◌∙◌, ℕ, List, OnOk, a
 use Rattle.command_frames.specs.Command.{map_create}
 use Rattle.command_frames.specs.Encoded.{frame_of}
 use Rattle.command_frames.specs.Frame.{framed}
-use Rattle.saving.proofs.frame_writer.FrameWriter.create.Goals as goal
+use Rattle.saving.proofs.frame_writer.FrameWriter.append_create.Goals as goal
 
 pub returns-clause-written : goal.returns-clause-written
 returns-clause-written c =

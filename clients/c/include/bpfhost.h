@@ -2029,11 +2029,11 @@ static inline int bpfhost_give_as(bpfhost *host, uint16_t tenant, const uint8_t 
     return code;
 }
 
-/* The same as bpfhost_restore for saved frames of any one tenant: each is given to this one in a copy with its number. The tenant then
- * replies as the saved one does, but for the number. All frames of a call are looked at before the first is handled: with ERR_BAD_FRAMES,
- * as they end inside a frame or are of several tenants, none is handled, and nothing is written; nor is it with ERR_NO_MEMORY, for a copy of
- * more than BPFHOST_ROOM bytes. ERR_REFUSED, ERR_NULL, ERR_LENGTH, ERR_OVERLAP and ERR_LENT as there: what the same host has lent has to be
- * copied. */
+/* The same as bpfhost_restore for saved frames of any one tenant: each is given to this one in a copy with its number. Unless it is refused
+ * memory, the tenant then replies as the saved one does, but for the number. All frames of a call are looked at before the first is
+ * handled: with ERR_BAD_FRAMES, as they end inside a frame or are of several tenants, none is handled, and nothing is written; nor is it
+ * with ERR_NO_MEMORY, for a copy of more than BPFHOST_ROOM bytes. ERR_REFUSED, ERR_NULL, ERR_LENGTH, ERR_OVERLAP and ERR_LENT as there:
+ * what the same host has lent has to be copied. */
 static inline int bpfhost_restore_as(bpfhost *host, uint16_t tenant, const void *frames, size_t length, int32_t *status)
 {
     const uint8_t *at = bpfhost_bytes_at(frames, length);

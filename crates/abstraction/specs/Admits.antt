@@ -59,7 +59,8 @@ IsOfKind witness (kind.MaybeValue m site) v = (v ≡ witness.gave site) × IsLoo
 
 -- ---- registers: nothing is known of one that may not be read
 
--- the register has a value of this kind, if it may be read
+-- the register has a value of this kind; one that may not be read may have any value, or none
+-- (None)
 abbrev pub HasKind : Witness → Kind → Option Tagged → Type 0
 HasKind witness kind.Unreadable o = Unit {0}
 HasKind witness k o = (v : Tagged) × (o ≡ Some v) × IsOfKind witness k v

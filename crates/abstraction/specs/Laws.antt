@@ -183,7 +183,7 @@ MapChangeAdmits =
     → Describes witness f shapes (with_map s m u)
 
 -- if facts f describe a state, and a call there returns a value v of kind k, the facts after the
--- call describe the state after it
+-- call, in which register 0 has this kind, describe the state after it
 abbrev pub CallAdmits : Type 0
 CallAdmits =
     (witness : Witness) (f : Facts) (shapes : ℕ → Option MapShape) (s : RunState) (k : Kind)

@@ -63,7 +63,7 @@ pub fn map_change_admits()
     ensures { MapChangeAdmits }
 {}
 
-/// A law: the facts after a call, with the kind of its result, admit the state after it.
+/// A law: if facts admit the state before a call, the facts after it, with the kind of its result, admit the state after it.
 pub fn call_admits()
     ensures { CallAdmits }
 {}

@@ -23,7 +23,7 @@ memory_code =
 abbrev pub size_of : Memory → ℕ
 size_of m = length m.bytes
 
--- the first address
+-- the first address of the memory, 2 ^ 32
 abbrev pub base : ℕ
 base = 4294967296
 

@@ -11,7 +11,8 @@ use crate::laws;
 use crate::memory::Arena;
 use crate::trace::Trace;
 
-/// Stores a number at offset `at` of a tenant's part: it is written in that part's bytes, and no other part changes.
+/// Stores a number at offset `at` of a tenant's part: it is written in that part's bytes, and no other part changes. The store is never
+/// `None`, since its range is in the part (`room`).
 fn store_within(arena: &mut Arena, tenant: usize, at: usize, value: u64, trace: &mut Trace)
     requires tenant { tenant < arena.old.parts }
     requires room { at + 8 ≤ arena.old.part }

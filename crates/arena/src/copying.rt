@@ -5,12 +5,13 @@
 //! A piece is read into an array before it is written. From slice to slice, the machine code of a run tested for each piece whether the two
 //! overlap, and had a copy byte by byte for that case: a load of four bytes took 49 machine instructions, and then 39.
 //!
-//! The lengths are tested by halves: each takes at most three comparisons but a single byte, and the headers of a packet, of 16 to 32 bytes, two.
+//! The lengths are tested by halves: each takes at most three comparisons but a single byte, and the headers of a packet, of 16 to 32
+//! bytes, two.
 
 ghost use Rattle.std.specs.Prelude.{◌≡◌, ◌+◌, ◌≤◌, length, take};
 ghost use Rattle.words.specs.Bytes.{written_at};
 
-/// The first `N` bytes, in an array of their own.
+/// The first `N` bytes, in an array of their own: so LLVM knows that they do not overlap the bytes over which they are then written.
 #[inline(always)]
 fn first_bytes<const N: usize>(bytes: &[u8]) -> [u8; N]
     requires { N ≤ length bytes.now }
@@ -45,7 +46,8 @@ fn copy_by_ends<const N: usize>(to: &mut [u8], offset: usize, bytes: &[u8])
     copy_piece::<N>(to, offset + last, &bytes[last..]);
 }
 
-/// Copies any number of bytes to an offset of `to`, by a call.
+/// Copies any number of bytes to an offset of `to`. It is a function of its own, so that `copy_bytes`, which is inlined, has only a call
+/// for a long copy.
 #[inline(never)]
 fn copy_many(to: &mut [u8], offset: usize, bytes: &[u8])
     requires { offset + length bytes.now ≤ length to.old }

@@ -12,7 +12,7 @@ use std::alloc::{AllocError, Global};
 use std::marker::Model;
 use std::mem::replace;
 
-/// The first address, 2^32.
+/// The first address of the memory, 2^32. So no address is null, and the low 32 bits of an address are its offset in the memory.
 pub const BASE: u64 = 0x1_0000_0000;
 
 /// The bytes of all tenants, in parts of one size.
@@ -66,7 +66,8 @@ fn offset(memory_size: usize, size: usize, address: u64) -> Option<usize>
 impl Arena {
     ghost use Rattle.arena.specs.Lending.{LendsPart};
 
-    /// Creates `parts` parts of `part_size` zero bytes each: at least one part of at least one byte, at most 2^28 bytes in all.
+    /// Creates `parts` parts of `part_size` zero bytes each: at least one part of at least one byte, at most 2^28 bytes in all, so an
+    /// offset is the low 32 bits of its address.
     ///
     /// # Errors
     ///
@@ -138,6 +139,7 @@ impl Arena {
     }
 
     /// Loads a little-endian number of `size` bytes (1, 2, 4 or 8) at `address`; `None` exactly if these bytes don't lie in the memory.
+    /// The trace gets the range in both cases.
     #[inline(always)]
     pub fn load(&self, address: u64, size: usize, trace: &mut Trace) -> Option<u64>
         requires { IsSize size }
@@ -151,7 +153,7 @@ impl Arena {
     }
 
     /// Stores the low `size` bytes (1, 2, 4 or 8) of `value` at `address`, little-endian. `None`, and nothing changes, exactly if
-    /// the `size` bytes at `address` don't lie in the memory.
+    /// the `size` bytes at `address` don't lie in the memory. The trace gets the range in both cases.
     #[inline(always)]
     pub fn store(&mut self, address: u64, size: usize, value: u64, trace: &mut Trace) -> Option<()>
         requires { IsSize size }
@@ -167,7 +169,8 @@ impl Arena {
         Some(())
     }
 
-    /// Loads a little-endian number of `size` bytes (1, 2, 4 or 8) at `address`. They are known to be in the memory, so there is no test.
+    /// Loads a little-endian number of `size` bytes (1, 2, 4 or 8) at `address`. The caller knows that they are in the memory (`inside`),
+    /// so there is no test.
     #[inline(always)]
     pub fn load_inside(&self, address: u64, size: usize, trace: &mut Trace) -> u64
         requires size { IsSize size }
@@ -182,8 +185,8 @@ impl Arena {
         read(&self.bytes, start, size)
     }
 
-    /// Stores the low `size` bytes (1, 2, 4 or 8) of `value` at `address`, little-endian. The range is known to be in the memory, so there
-    /// is no test.
+    /// Stores the low `size` bytes (1, 2, 4 or 8) of `value` at `address`, little-endian. The caller knows that the range is in the memory
+    /// (`inside`), so there is no test.
     #[inline(always)]
     pub fn store_inside(&mut self, address: u64, size: usize, value: u64, trace: &mut Trace)
         requires size { IsSize size }
@@ -198,7 +201,7 @@ impl Arena {
         write(&mut self.bytes, start, size, value);
     }
 
-    /// Writes bytes at `address`. The range is known to be in the memory, so there is no test.
+    /// Writes bytes at `address`. The caller knows that their range is in the memory, so there is no test.
     #[inline(always)]
     pub fn write_inside(&mut self, address: u64, bytes: &[u8], trace: &mut Trace)
         requires { IsSome (offset_of (size_of self.old) (length bytes.now) address) }
@@ -213,7 +216,7 @@ impl Arena {
     }
 
     /// Copies `length` bytes, at least one, from address `from` to `to` like memmove: the ranges may overlap. `None`, and nothing
-    /// changes, exactly if either range doesn't lie in the memory.
+    /// changes, exactly if either range doesn't lie in the memory. The trace gets both ranges in each case.
     pub fn copy(&mut self, to: u64, from: u64, length: usize, trace: &mut Trace) -> Option<()>
         requires { 1 ≤ length }
         ensures found { is_some result ≡ (is_some (offset_of (size_of self.old) length from)
@@ -233,8 +236,8 @@ impl Arena {
         Some(())
     }
 
-    /// Copies `length` bytes, at least one, from address `from` to `to` like memmove: the ranges may overlap. Both are known to be in the
-    /// memory, so there is no test.
+    /// Copies `length` bytes, at least one, from address `from` to `to` like memmove: the ranges may overlap. The caller knows that both
+    /// are in the memory (`source`, `target`), so there is no test.
     #[inline(always)]
     pub fn copy_inside(&mut self, to: u64, from: u64, length: usize, trace: &mut Trace)
         requires some { 1 ≤ length }

@@ -4,7 +4,7 @@ ghost use Rattle.std.specs.Prelude.{◌≡◌, ◌+◌, ◌≤◌, length};
 ghost use Rattle.words.specs.Bytes.{number_of, low_bytes};
 ghost use Rattle.arena.specs.Bytes.{bytes_at, written_at, IsSize};
 
-/// The little-endian number of `size` bytes at offset `at`.
+/// The little-endian number of `size` bytes (1, 2, 4 or 8) at offset `at`.
 #[inline(always)]
 pub(crate) fn read(bytes: &[u8], at: usize, size: usize) -> u64
     requires size { IsSize size }
@@ -82,8 +82,9 @@ fn low_byte(value: u64) -> [u8; 1]
     ((value % 0x100) as u8).to_le_bytes()
 }
 
-/// Writes the low `size` bytes of `value` at offset `at`, little-endian. Each size has its own conversion: with a slice of the eight bytes
-/// of `value`, the machine code of a run also stored all eight on its stack, and stores of different operands shared one dispatch.
+/// Writes the low `size` bytes (1, 2, 4 or 8) of `value` at offset `at`, little-endian. Each size has its own conversion: with a slice of
+/// the eight bytes of `value`, the machine code of a run also stored all eight on its stack, and a program's stores of a constant and of a
+/// register shared one jump to the next opcode.
 #[inline(always)]
 pub(crate) fn write(bytes: &mut [u8], at: usize, size: usize, value: u64)
     requires size { IsSize size }
@@ -113,10 +114,11 @@ pub(crate) fn copy_double(bytes: &mut [u8], from: usize, to: usize)
 }
 
 /// From this number of bytes on, ranges that do not overlap are copied by a call of memcpy: `copy_within` becomes a loop of sixteen bytes a
-/// turn, which takes longer for so many.
+/// turn, which takes longer for so many. Only speed depends on the number; it is sixteen turns.
 const LONG: usize = 256;
 
-/// Copies `count` bytes from offset `from` to offset `to`, which is at their end or after it, by memcpy.
+/// Copies `count` bytes from offset `from` to offset `to`, which is at their end or after it, by memcpy. It is a function of its own, so
+/// that `copy_bytes`, which is inlined, has only a call for it.
 #[inline(never)]
 fn copy_up(bytes: &mut [u8], from: usize, to: usize, count: usize)
     requires source { from + count ≤ to }
@@ -127,7 +129,8 @@ fn copy_up(bytes: &mut [u8], from: usize, to: usize, count: usize)
     high[..count].copy_from_slice(&low[from..from + count]);
 }
 
-/// Copies `count` bytes from offset `from` to a lower offset `to`, by memcpy. The copy ends at `from` or before it.
+/// Copies `count` bytes from offset `from` to a lower offset `to`, by memcpy. The copy ends at `from` or before it. It is a function of its
+/// own, so that `copy_bytes`, which is inlined, has only a call for it.
 #[inline(never)]
 fn copy_down(bytes: &mut [u8], from: usize, to: usize, count: usize)
     requires source { from + count ≤ length bytes.old }

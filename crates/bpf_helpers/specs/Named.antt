@@ -64,18 +64,21 @@ abbrev pub key_at : CallSite → ℕ → ℕ → Option NamedKey
 key_at site key k =
     option_map (λ bs. let n : NamedKey = record { map = k; key = bs } in n) (key_input site k key)
 
--- this map and key with the value at an address, if the bytes of the value lie in the part
+-- the map and the key of `named`, with the value at an address, if the value's bytes lie in the
+-- part
 abbrev pub pair_at : CallSite → ℕ → NamedKey → Option NamedPair
 pair_at site value named =
     option_map
     (λ vs. let n : NamedPair = record { map = named.map; key = named.key; value = vs } in n)
     (value_input site named.map value)
 
--- the map and key that the words of a look-up or a deletion name
+-- the map and key that the words of a look-up or a deletion name; None if the first names no map,
+-- or the bytes of the key don't lie in the part
 abbrev pub key_named : CallSite → ℕ → ℕ → Option NamedKey
 key_named site map key = and_then (bound_map site.bind map) (key_at site key)
 
--- the map, key and value that the words of an update name
+-- the map, key and value that the words of an update name; None if the first names no map, or the
+-- bytes of the key or of the value don't lie in the part
 abbrev pub pair_named : CallSite → ℕ → ℕ → ℕ → Option NamedPair
 pair_named site map key value = and_then (key_named site map key) (pair_at site value)
 

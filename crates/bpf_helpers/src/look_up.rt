@@ -103,8 +103,9 @@ pub(crate) fn traced_offset_inside(
     (address - arena.address(tenant)) as usize
 }
 
-/// bpf_map_lookup_elem (1): returns the address of the value of a key, or 0. `map` names the map, and `key` is the address of the
-/// key. It also returns 0 if one of them names nothing.
+/// bpf_map_lookup_elem (1): returns the address of the value of a key, or 0 if the map doesn't have the key. `map` is the position of the
+/// map among those of the run, counted from 1, and `key` the address of the key. It also returns 0 if there is no such map, or the key's
+/// bytes don't lie in the part.
 #[inline(always)]
 pub(crate) fn look_up(
     map: u64,
@@ -133,9 +134,9 @@ pub(crate) fn look_up(
     maps.address_of(map, &part[at..at + size], arena.address(caller.tenant))
 }
 
-/// bpf_map_lookup_elem (1) for a run that knows which of its maps are arrays: returns the address of the value of a key, or 0. `map` names
-/// the map, and `key` is the address of the key. The key of an array is found by `arrays`, without the map; a map without elements there is
-/// a hash map, and is read by `look_up`.
+/// bpf_map_lookup_elem (1) for a run that knows which of its maps are arrays, with the result of `look_up`. `map` is the position of the
+/// map, counted from 1, and `key` the address of the key. The key of an array is found by `arrays`, without the map; a map without elements
+/// there is a hash map, and is read by `look_up`. `arrays` has `MAPS` entries, so one for each map of the run (`few`).
 #[inline(always)]
 pub(crate) fn look_up_among(
     arrays: Arrays<'_>,

@@ -36,7 +36,7 @@ pub(crate) fn write_zeros(arena: &mut Arena, tenant: usize, at: usize, count: us
     part[at..at + count].fill(0);
 }
 
-/// Writes bytes at an address, in a range that is known to lie in the part of `tenant`.
+/// Writes bytes at an address. The caller knows that their range lies in the part of `tenant` (`named`).
 #[inline(always)]
 fn write_named(arena: &mut Arena, tenant: usize, address: u64, bytes: &[u8], trace: &mut Trace)
     requires part { IsPartOf tenant arena.old }
@@ -47,12 +47,14 @@ fn write_named(arena: &mut Arena, tenant: usize, address: u64, bytes: &[u8], tra
 {
     arena.memory_is_its_parts();
     named_bytes_lie_inside(arena, tenant, bytes.len(), address);
+    // For the contract of `address`: the part lies in the memory, and so does the range.
     let _ = arena.address(tenant);
     arena.write_inside(address, bytes, trace);
 }
 
-/// bpf_skb_load_bytes (26) to an address that is known to be that of `count` bytes in the tenant's part: copies `count` bytes of the packet
-/// at `offset` there, and returns 0. If they don't lie in the packet, it writes zeros and returns EFAULT, negated.
+/// bpf_skb_load_bytes (26), if the caller knows that the `count` bytes at the address `to` lie in the tenant's part (`named`): copies
+/// `count` bytes of the packet at `offset` there, and returns 0. Of `offset` the low 32 bits are read, as a signed number. If the bytes
+/// don't lie in the packet, it writes `count` zeros and returns EFAULT, negated.
 #[inline(always)]
 pub(crate) fn load_bytes_inside(
     offset: u64,
@@ -82,8 +84,8 @@ pub(crate) fn load_bytes_inside(
     }
 }
 
-/// bpf_skb_load_bytes (26): copies `count` bytes of the packet at `offset` to an address, and returns 0. If they don't
-/// lie in the packet, it writes zeros and returns EFAULT, negated. If the `count` bytes at the address `to` don't lie in the
+/// bpf_skb_load_bytes (26): copies `count` bytes of the packet at `offset` to the address `to`, and returns 0. If they don't
+/// lie in the packet, it writes `count` zeros and returns EFAULT, negated. If the `count` bytes at `to` don't lie in the
 /// tenant's part, it returns EFAULT, negated, and writes nothing.
 #[inline(always)]
 pub(crate) fn load_bytes(

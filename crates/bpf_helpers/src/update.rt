@@ -30,7 +30,7 @@ struct Offsets {
     value: usize,
 }
 
-/// The number of an error of bpf(2), as errno(3) has it. None is 0, so the sum in `refusal` does not overflow.
+/// The number of an error of bpf(2), as errno(3) has it. No error has the number 0, so the sum in `refusal` does not overflow.
 fn errno_of(fault: MapFault) -> u64
     ensures value { result ≡ errno fault }
     ensures some { 1 ≤ result }
@@ -52,8 +52,9 @@ pub(crate) fn refusal(fault: MapFault) -> u64
     u64::MAX - errno_of(fault) + 1
 }
 
-/// Stores a value under a key of a live map, and returns 0, or the number of the error, negated. The key and the value are at these offsets
-/// of the tenant's part.
+/// Stores a value under a key of a live map, and returns 0. With an error nothing changes, and it returns the error's number, negated. The
+/// key and the value are at the offsets `at` of the tenant's part, and `flags` are those of bpf(2). Both lie in the part, as `update` has
+/// tested (`key`, `value`), so the value is copied without a test.
 fn put(
     map: MapKey,
     at: Offsets,
@@ -88,8 +89,9 @@ fn put(
     }
 }
 
-/// bpf_map_update_elem (2): stores a value under a key, and returns 0, or the number of the error, negated. `map` names the map, and the
-/// key and the value are at these addresses. If one of the three names nothing, it returns EINVAL, negated, and nothing changes.
+/// bpf_map_update_elem (2): stores a value under a key, and returns 0. `map` is the position of the map among those of the run, counted
+/// from 1, the key and the value are at the addresses `at`, and `flags` are those of bpf(2). With an error nothing changes, and it returns
+/// the error's number, negated; this is EINVAL if there is no such map, or the bytes of the key or of the value don't lie in the part.
 pub(crate) fn update(
     map: u64,
     at: Addresses,

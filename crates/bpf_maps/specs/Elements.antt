@@ -6,21 +6,22 @@ use Rattle.tagged_model.specs.declared.shape.MapShape.{MapShape}
 use Rattle.bpf_maps.specs.declared.elements.Elements.{Elements}
 use Rattle.bpf_maps.specs.Live.{LiveMaps, live_at, shape_at}
 
--- how many elements a run finds without the map, in a map of this kind with n entries: those of an
--- array, and none of a hash map, in which only the map finds a key
+-- how many elements a run finds without reading the map, of a map of this kind with at most n
+-- entries: the n of an array, and none of a hash map, since only the map finds the element of a key
 abbrev pub element_count : MapKind → ℕ → ℕ
 element_count Array n = n
 element_count Hash n = 0
 
--- the elements of a map of this shape: how many a run finds without the map, which are 0 of a hash
--- map, and the distance from the start of one value to that of the next, in bytes
+-- the elements of a map of this shape: how many a run finds without reading the map, 0 of a hash
+-- map, and the distance from the start of one value to that of the next, in bytes: the value's
+-- size, rounded up to a multiple of eight
 abbrev pub elements_of : MapShape → Elements
 elements_of s = record {
   count = element_count s.kind s.max_entries;
   stride = (s.value_size + 7) / 8 * 8;
 }
 
--- the elements of the map of handle k
+-- the elements of the map of handle k; `count` is 0 if the handle has no map
 abbrev pub elements_at : LiveMaps → ℕ → Elements
 elements_at t k = elements_of (shape_at t k)
 
@@ -28,6 +29,6 @@ elements_at t k = elements_of (shape_at t k)
 abbrev pub AreOfArray : Elements → LiveMaps → ℕ → Type 0
 AreOfArray e t k = IsSome (live_at t k) × (e ≡ elements_at t k) × (e.count ≢ 0)
 
--- the elements as one number of 64 bits: how many there are, in the low 32, and their distance
+-- the elements as one number of 64 bits: `count` is its low 32 bits, `stride` its high 32 bits
 abbrev pub word_of : Elements → ℕ
 word_of e = e.count + 2 ^ 32 * e.stride

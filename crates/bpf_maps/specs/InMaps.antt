@@ -71,7 +71,8 @@ pub record IsInItsArea (bytes : ℕ) (e : StoredMap) : Type 0 where
   pub sound : IsSound (keys_in e.map)
 
 -- the keys are those of the slab, which has room for `most_maps` maps; the areas don't overlap, and
--- lie after the stack and the context in as many bytes as they take together, `bytes`
+-- lie after the stack and the context in as many bytes as they take together, `bytes`: at most
+-- `most_bytes`, a multiple of eight
 pub record IsWellFormedMaps (a : Inside) : Type 0 where
   pub keys : AreKeys a.keys a.maps
   pub room : most_maps ≤ a.maps.capacity

@@ -24,7 +24,8 @@ abbrev pub with_value : List ℕ → LiveMaps → ℕ → ℕ → List ℕ → L
 with_value part t k p bytes = written_at part (offset_at t k p) bytes
 
 -- once these bytes are written at element p of the map of handle k, they are the value of this
--- element and of its key; no other value of a live map changes, nor do the stack and the context
+-- element, and of its key if it has one; no other value of a live map changes, nor do the stack and
+-- the context
 pub record ValueIsWritten (part : List ℕ) (t : LiveMaps) (k p : ℕ) (bytes : List ℕ) : Type 0 where
   pub here : value_in (with_value part t k p bytes) t k p ≡ bytes
   pub elsewhere : (j q : ℕ)
@@ -42,8 +43,8 @@ pub record ValueIsWritten (part : List ℕ) (t : LiveMaps) (k p : ℕ) (bytes : 
   pub front : take STACK_AND_CONTEXT (with_value part t k p bytes) ≡ take STACK_AND_CONTEXT part
   pub size : length (with_value part t k p bytes) ≡ PART
 
--- a value that is written at an element of a live map is that of the element's key, and nothing
--- else changes
+-- a value that is written at an element of a live map is the value of the element and of its key,
+-- and nothing else changes (`ValueIsWritten`)
 abbrev pub ValuesAreWritten : Type 0
 ValuesAreWritten =
     (part : List ℕ) (t : LiveMaps) (k p : ℕ) (bytes : List ℕ)

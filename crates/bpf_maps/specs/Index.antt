@@ -13,14 +13,14 @@ entries_of (Words keys) = keys.entries
 entries_of (Middle keys) = keys.entries
 entries_of (Long keys) = keys.entries
 
--- the elements of an index are less than this number
+-- the bound of an index, less than which its elements are
 abbrev pub bound_of : KeyIndex → ℕ
 bound_of (Words keys) = keys.bound
 bound_of (Middle keys) = keys.bound
 bound_of (Long keys) = keys.bound
 
--- keys of this many bytes can be in the index: Words has keys of one size, the others of any up to
--- a longest one
+-- keys of `size` bytes can be in the index: Words has keys of one size, Middle of at most 64 bytes,
+-- Long of at most 512
 abbrev pub TakesKeys : KeyIndex → ℕ → Type 0
 TakesKeys (Words keys) size = size ≡ keys.size
 TakesKeys (Middle keys) size = size ≤ 64
@@ -31,8 +31,9 @@ TakesKeys (Long keys) size = size ≤ 512
 abbrev pub shown : Inside → KeyTable
 shown a = record { shape = a.shape; entries = entries_of a.index; kept = take a.kept a.spare.items }
 
--- each element less than `max_entries` is that of one key or is spare, and not both; the list of
--- spare elements has room for all of them, and the keys have the size of the map's shape
+-- each element less than `max_entries` is that of one key or is spare, and not both, so they are
+-- `max_entries` together; at most all spare ones are kept apart. The list of spare elements has
+-- room for all elements, and the keys have the size of the map's shape
 pub record IsWellFormedHash (a : Inside) : Type 0 where
   pub kind : a.shape.kind ≡ Hash
   pub takes : TakesKeys a.index a.shape.key_size

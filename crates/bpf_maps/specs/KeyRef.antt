@@ -3,11 +3,11 @@ use Rattle.std.specs.Prelude.{ℕ, List}
 use Rattle.bpf_maps.specs.declared.key_ref.KeyRef.{KeyRef}
 use Rattle.bpf_maps.specs.declared.key_ref.KeyRef.TheVariants.{Short, Lent}
 
--- the bytes of a key
+-- the bytes of a returned key, which is short or borrowed from the map
 abbrev pub key_bytes : KeyRef → List ℕ
 key_bytes (Short bytes) = bytes
 key_bytes (Lent bytes) = bytes.now
 
--- a key and its element
+-- the bytes of a returned key, and its element
 abbrev pub shown_entry : KeyRef × ℕ → List ℕ × ℕ
 shown_entry e = (key_bytes e.0, e.1)

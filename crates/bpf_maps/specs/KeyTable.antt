@@ -36,8 +36,8 @@ IsSized n [] = Unit {0}
 IsSized n (e ∷ es) = (length e.0 ≡ n) × IsSized n es
 
 -- each element less than `max_entries` is in use at most once, and no other element is; being kept
--- apart is a use. Each key has the map's key size, and an array is as when it was new: it has all
--- its indices, each with itself for its element
+-- apart is a use. So at most `max_entries` are in use. Each key has the map's key size, and an
+-- array is as when it was new: it has all its indices, each with itself for its element
 pub record IsSound (t : KeyTable) : Type 0 where
   pub once : (p : ℕ)
       → occurrences p (values_of t.entries) + occurrences p t.kept
@@ -54,20 +54,20 @@ pub record IsFree (t : KeyTable) (p : ℕ) : Type 0 where
   pub entries : occurrences p (values_of t.entries) ≡ 0
   pub kept : occurrences p t.kept ≡ 0
 
--- the table with a new key at the end, whose element is p
+-- the table with a new key, which was absent, at the end; its element is p, which was free
 abbrev pub with_entry : KeyTable → List ℕ → ℕ → KeyTable
 with_entry t key p = record { shape = t.shape; entries = with_key key p t.entries; kept = t.kept }
 
--- the possible results of a claim by the verdict on its update, each with the table after it; a new
--- key gets any element that is not in use. That has no fault: of a full map the verdict is
--- `Refused`
+-- which result a claim of an element for a key may have, by the verdict on the update, with the
+-- table before and after it. A refusal and a present key change nothing. A new key gets any element
+-- that is not in use, and its claim has no fault: of a full map the verdict is `Refused`
 abbrev pub Claims : Verdict ℕ → List ℕ → KeyTable → Result ℕ MapFault → KeyTable → Type 0
 Claims (Refused fault) key old answer new = (answer ≡ Err fault) × (new ≡ old)
 Claims (Present p) key old answer new = (answer ≡ Ok p) × (new ≡ old)
 Claims New key old (Ok p) new = IsFree old p × (new ≡ with_entry old key p)
 Claims New key old (Err fault) new = ⊥
 
--- the table without a key; p, the element of the key, is kept apart
+-- the table without a key, which was present; p, the element of the key, is kept apart
 abbrev pub with_kept : KeyTable → List ℕ → ℕ → KeyTable
 with_kept t key p = record {
   shape = t.shape;
@@ -75,8 +75,8 @@ with_kept t key p = record {
   kept = t.kept ++ p ∷ [];
 }
 
--- the result of a deletion, and the table after it, given the verdict on the deletion: its fault,
--- or the element of the key, which is kept apart
+-- which result the deletion of a key has, with the table before and after it, given its verdict
+-- (`removal`): its fault, and nothing changes, or the element of the key, which is kept apart
 abbrev pub Removes : Result ℕ MapFault
     → List ℕ
     → KeyTable
@@ -86,8 +86,9 @@ abbrev pub Removes : Result ℕ MapFault
 Removes (Err fault) key old answer new = (answer ≡ Err fault) × (new ≡ old)
 Removes (Ok p) key old answer new = (answer ≡ Ok tt) × (new ≡ with_kept old key p)
 
--- the result of a request for the next key, and the bytes of the caller's buffer before and after
--- it: the key is written at the front; if no key follows, nothing is written
+-- given the next key, the result of the request for it, with the bytes of the caller's buffer
+-- before and after it: the key is written at the front. If no key follows (None), nothing is
+-- written
 abbrev pub GivesKey : Option (List ℕ) → List ℕ → Result (Unit {0}) MapFault → List ℕ → Type 0
 GivesKey None old answer new = (answer ≡ Err NoEntry) × (new ≡ old)
 GivesKey (Some key) old answer new = (answer ≡ Ok tt) × (new ≡ key ++ drop (length key) old)

@@ -20,8 +20,8 @@ pub record CallsAreThoseOfAMap : Type 0 where
       → table_of (with_kept t key element) ≡ map.with_deleted (table_of t) key
   pub end : (t : KeyTable) → table_of (after_run t) ≡ map.after_run (table_of t)
 
--- if `bytes` become the value of an element, the map of values has them as the object of the
--- element's key, and is otherwise unchanged
+-- if `bytes` become the value of the element of a key, the map of values has them as the object of
+-- this key, and is otherwise unchanged. `value` gives the value of each element before
 abbrev pub WritesRefineValues : Type 0 → Type 0
 WritesRefineValues B =
     (value : ℕ → B) (t : KeyTable) (key : List ℕ) (element : ℕ) (bytes : B)
@@ -30,13 +30,13 @@ WritesRefineValues B =
     → map.with_values (λ p. if p == element then bytes else value p) (table_of t)
     ≡ map.with_object (map.with_values value (table_of t)) key bytes
 
--- values that are equal at all elements in use give equal maps
+-- values f and g that are equal at each element of a key give equal maps of values
 abbrev pub ValuesAgree : Type 0 → Type 0
 ValuesAgree B =
     (f g : ℕ → B) (t : KeyTable) → ((p : ℕ) → 1 ≤ occurrences p (values_of t.entries) → f p ≡ g p)
     → map.with_values f (table_of t) ≡ map.with_values g (table_of t)
 
--- an element in use, or kept apart, is less than `max_entries`
+-- an element of a key, or one that is kept apart, is less than `max_entries`
 abbrev pub ElementsAreWithin : Type 0
 ElementsAreWithin =
     (t : KeyTable) (p : ℕ)
@@ -46,7 +46,7 @@ ElementsAreWithin =
 
 -- ---- a tenant's live maps
 
--- if the areas are unchanged, each value keeps its offset in the part
+-- if the areas are unchanged, the value of each element of a live map keeps its offset in the part
 abbrev pub AreasKeepElements : Type 0
 AreasKeepElements =
     (old new : LiveMaps) (k p : ℕ)
@@ -54,8 +54,8 @@ AreasKeepElements =
     → IsSome (live_at new k)
     → offset_at new k p ≡ offset_at old k p
 
--- a deletion frees no element: that of the key is kept apart, so each element p is in use as often
--- as it was
+-- a deletion frees no element: that of the key is kept apart, so each element p is that of a key or
+-- kept apart as often as before
 abbrev pub DeletesKeepElements : Type 0
 DeletesKeepElements =
     (t : KeyTable) (key : List ℕ) (element p : ℕ) → map.look_up (table_of t) key ≡ Some element

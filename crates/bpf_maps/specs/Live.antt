@@ -13,8 +13,8 @@ use Rattle.tagged_model.specs.Table.{Table, with_values}
 use Rattle.bpf_maps.specs.Sum.{total}
 use Rattle.bpf_maps.specs.KeyTable.{KeyTable, table_of, new_keys, IsSound}
 
--- a live map, the offset of its area in the part, the distance from the start of one value to that
--- of the next, both in bytes, and the number of references to it
+-- a live map: its table of keys, the offset of its area in the part, the distance from the start of
+-- one value to that of the next, both in bytes, and the number of references to it
 pub record LiveMap : Type 0 where
   pub keys : KeyTable
   pub start : ℕ
@@ -34,7 +34,7 @@ live_at t k = slice_index_or t.maps k None
 abbrev pub free_handle : LiveMaps → Option ℕ
 free_handle t = position is_none t.maps
 
--- the shape of `no_live`
+-- the shape of `no_live`, which is arbitrary, but of a hash map, so that `no_live` has no key
 abbrev pub no_shape : MapShape
 no_shape = record { kind = Hash; key_size = 1; value_size = 1; max_entries = 1; listed = refl }
 
@@ -74,7 +74,7 @@ AreSound t = (k : ℕ) → IsSome (live_at t k) → IsSound (keys_at t k)
 unfoldable pub offset : LiveMap → ℕ → ℕ
 offset l p = l.start + p * l.stride
 
--- the offset in the part of the value of element p of the map of handle k
+-- the offset in the part of the value of element p of the map of handle k; 0 if it has no map
 abbrev pub offset_at : LiveMaps → ℕ → ℕ → ℕ
 offset_at t k p = offset (live_or (live_at t k)) p
 
@@ -84,11 +84,11 @@ abbrev pub value_address : ℕ → LiveMaps → ℕ → Option ℕ → ℕ
 value_address part t k None = 0
 value_address part t k (Some p) = (part + offset_at t k p) % 2 ^ 64
 
--- the bytes of the value of element p of the map of handle k
+-- the bytes in the part of the value of element p of the map of handle k, if the handle has a map
 abbrev pub value_in : List ℕ → LiveMaps → ℕ → ℕ → List ℕ
 value_in part t k p = take (shape_at t k).value_size (drop (offset_at t k p) part)
 
--- the map of a handle, as a list of keys with the bytes of their values
+-- the map of handle k, with the bytes of the values in the part; without keys if it has no map
 abbrev pub map_in : List ℕ → LiveMaps → ℕ → Table (List ℕ)
 map_in part t k = with_values (value_in part t k) (table_of (keys_at t k))
 
@@ -166,7 +166,7 @@ areas t = total area_of t.maps
 
 -- ---- the addresses of the areas
 
--- the offset in the part of the area of the map of a handle
+-- the offset in the part of the area of the map of handle k; 0 if the handle has no map
 abbrev pub start_at : LiveMaps → ℕ → ℕ
 start_at t k = (live_or (live_at t k)).start
 
@@ -230,7 +230,8 @@ pub record OnlyKeysChange (k : ℕ) (old new : LiveMaps) : Type 0 where
 
 -- ---- a new map
 
--- the fault if no handle is free, or the values would take too many bytes; else None
+-- the fault of the creation of a map of this shape if no handle is free, or if its values and those
+-- of the live maps would take too many bytes; else None
 abbrev pub create_fault : LiveMaps → MapShape → Option MapFault
 create_fault t shape =
     if is_none (free_handle t) || nat_lt most_bytes (areas t + area_by shape)
@@ -250,7 +251,7 @@ pub record IsCreated (old : LiveMaps) (shape : MapShape) (k : ℕ) (new : LiveMa
 
 -- the possible results of a creation, each with the live maps after it. If it has a fault (of
 -- `create_fault`), this is the result, and nothing changes. If it has none, its only other result
--- than a new map is `Memory`, after which only the flag has changed
+-- than a new map is `Memory`, after which only the flag `refused` has changed
 abbrev pub Creates : Option MapFault → LiveMaps → MapShape → Result ℕ MapFault → LiveMaps → Type 0
 Creates (Some fault) old shape answer new = (answer ≡ Err fault) × (new ≡ old)
 Creates None old shape (Ok k) new = IsCreated old shape k new
@@ -263,7 +264,7 @@ Creates None old shape (Err NoSpace) new = ⊥
 
 -- ---- the references to a map
 
--- a live map without its area
+-- what a live map has besides its area: its table of keys, and the number of references to it
 pub record MapWithoutArea : Type 0 where
   pub keys : KeyTable
   pub holds : ℕ

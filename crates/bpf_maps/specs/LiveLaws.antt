@@ -13,7 +13,8 @@ use Rattle.bpf_maps.specs.Elements.{elements_of, elements_at}
 use Rattle.bpf_maps.specs.Sum.{weight, total}
 use Rattle.bpf_maps.specs.Live.{LiveMap, LiveMaps, live_at, live_or, shape_at, free_handle, offset, offset_at, LiesInPart, IsLaid, SameAreas, OnlyKeysChange}
 
--- two lists with equal numbers f at each index have equal sums
+-- if f gives equal numbers at each index of two lists, 0 if no element is present there, the sums
+-- of the lists are equal
 pub total_same : {A : Type 0} (f : A → ℕ) (xs ys : List (Option A))
     → ((j : ℕ) → weight f (get_or ys j None) ≡ weight f (get_or xs j None))
     → total f ys ≡ total f xs
@@ -249,7 +250,8 @@ areas_along old mid new first then k l e =
     let o = first k m.0 m.1 in
     (o.0, o.1, m.2 ∙ o.2, m.3 ∙ o.3, m.4 ∙ o.4)
 
--- two changes of one map's keys, one after the other, change only its keys
+-- two changes of one map's keys, one after the other, change only its keys; `key` is the map's
+-- handle
 pub keys_along : (key : ℕ) (old mid new : LiveMaps)
     → OnlyKeysChange key old mid
     → OnlyKeysChange key mid new

@@ -5,7 +5,7 @@ use Rattle.words.specs.Bytes.{low_bytes}
 use Rattle.bpf_maps.specs.KeyLists.{SizedKeys, shown_by}
 use Rattle.bpf_maps.specs.declared.word_index.WordIndex.TheInside.{Inside}
 
--- the index as contracts see it: a number represents its low bytes, as many as a key has
+-- the index as contracts see it: a number represents its low bytes, `size` of them, lowest first
 abbrev pub words_shown : Inside → SizedKeys
 words_shown w = record {
   size = w.size;

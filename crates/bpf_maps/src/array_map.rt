@@ -13,14 +13,15 @@ use crate::value_map::{EXIST, NOEXIST, ValueMap};
 use std::marker::Model;
 use tagged_model::{MapFault, MapShape};
 
-/// The size of an index in bytes.
+/// The size of a key of an array, which is an index, in bytes (bpf(2), BPF_MAP_TYPE_ARRAY).
 pub const INDEX_SIZE: usize = 4;
 
 /// An array, which has all its indices from the start. The element of an index is the index.
 #[derive(Drop)]
 pub struct ArrayMap {
     shape: MapShape,
-    // Aligns the shape as in a hash map, so that it is read from a map of either kind without a test of the kind.
+    // Takes no bytes. It gives the shape the offset that it has in a hash map, so that it is read from a map of either kind without a test
+    // of the kind.
     align: [u64; 0],
 }
 
@@ -37,7 +38,7 @@ impl Model for ArrayMap {
 }
 
 impl ArrayMap {
-    /// Makes an array of this shape.
+    /// Makes an array of this shape. The kind is `Array`: `BpfMap` has tested it.
     #[inline(always)]
     pub(crate) fn new(shape: MapShape) -> ArrayMap
         requires { shape.kind ≡ Array }
@@ -83,7 +84,7 @@ impl ArrayMap {
         index_of(key)
     }
 
-    /// The index of a key; `None` if the array doesn't have it.
+    /// The element of a key of four bytes, which is its index; `None` if the index is out of range.
     #[inline(always)]
     fn element_of(&self, key: &[u8]) -> Option<u32>
         requires { length key.now ≡ self.now.shape.key_size }
@@ -100,11 +101,11 @@ impl ArrayMap {
         }
     }
 
-    /// The element of a key, for an update with these flags.
+    /// The element of a key of four bytes, which is its index, for an update with these flags.
     ///
     /// # Errors
     ///
-    /// Those of an update: `Invalid` if `flags` is none of `ANY`, `NOEXIST` and `EXIST`, else `TooBig` if the index is out of
+    /// Those of an update: `Invalid` if `flags` is none of `ANY` (0), `NOEXIST` (1) and `EXIST` (2), else `TooBig` if the index is out of
     /// range, else `Exists` if `flags` is `NOEXIST`.
     #[inline(always)]
     fn element_for(&self, key: &[u8], flags: u64) -> Result<u32, MapFault>
@@ -128,7 +129,8 @@ impl ArrayMap {
         }
     }
 
-    /// The index that follows a key, which may be one past the last. After an absent key, also one of another size, it is the first.
+    /// The index after that of a key: one past the last, `max_entries`, if the key is the last one. After an absent key, also one of
+    /// another size, it is the first, 0.
     fn index_after(&self, key: &[u8]) -> u32
         ensures next { next_of (table_of self.now) key.now
             ≡ (if nat_lt result self.now.shape.max_entries then Some (index_key result) else None) }
@@ -158,7 +160,7 @@ impl ArrayMap {
     }
 }
 
-/// The index that follows an element; 0 if no element is given.
+/// The index that follows an element; 0 if no element is given. The result has 64 bits, since the element may be any number of 32.
 fn index_after_element(element: Option<u32>) -> u64
     ensures { result ≡ option_map_or (λ p. p + 1) element 0 }
 {

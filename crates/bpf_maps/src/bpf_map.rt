@@ -34,8 +34,9 @@ impl BpfMap {
         }
     }
 
-    /// Makes a map of this shape; a hash map has the memory of a spare one, if one fits. By `live`, the number and the entries of the live
-    /// hash maps, spare ones are freed for a new one (`SpareMaps`); an array does not read it. `AllocError`: out of memory.
+    /// Makes a map of this shape. A hash map gets the memory of one that is no longer live, of `spares`, if one has the same size of keys
+    /// and as many entries. Else it takes new memory, for which spare maps are freed if they and the live hash maps (`live`) would be too
+    /// many (`SpareMaps`). An array needs none of this. `AllocError`: out of memory for a hash map.
     pub(crate) fn with_spares(
         alloc: Global,
         shape: MapShape,

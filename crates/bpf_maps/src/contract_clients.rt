@@ -14,8 +14,8 @@ use seeded_hash::HashSeed;
 use std::alloc::Global;
 use tagged_model::{MapFault, MapShape};
 
-/// Updates a key: claims an element for it and writes the value there. The map changes as the verdict on the update says, and no other
-/// map changes; if the update is rejected, none does.
+/// Updates a key: claims an element for it and writes the value there, in `part`, the tenant's part. The map changes as the verdict on the
+/// update (`verdict` of `tagged_model`) says, and no other map changes; if the update is rejected, none does.
 fn update(
     maps: &mut Maps,
     map: MapKey,
@@ -58,8 +58,8 @@ fn delete(maps: &mut Maps, map: MapKey, key: &[u8], part: &[u8]) -> Result<(), M
     Ok(())
 }
 
-/// A law: if no value of an element of a map differs in the parts `before` and `after`, the map is the same in both. It does nothing when
-/// it runs.
+/// A law: if each value of each live map has the same bytes in the parts `before` and `after`, the map of handle `map` is the same in both.
+/// It does nothing when it runs.
 fn is_unchanged(maps: &Maps, map: MapKey, before: &[u8], after: &[u8])
     requires live { IsSome (live_at maps.now map) }
     requires values { SameValues maps.now before.now maps.now after.now }

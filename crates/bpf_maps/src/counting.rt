@@ -12,7 +12,7 @@ use crate::spare_maps::{LiveHashMaps, NO_HASH_MAPS};
 use tagged_model::MapKind;
 
 impl Maps {
-    /// How many keys a map has: at most `MOST_ENTRIES`, and none if it is not live.
+    /// How many keys a map has: at most 4,096 (`MOST_ENTRIES` of `tagged_model`), and 0 if no map has this handle.
     pub fn key_count(&self, map: MapKey) -> u32
         ensures count { result ≡ length (keys_at self.now map).entries }
         ensures few { result ≤ most_entries }
@@ -39,7 +39,7 @@ impl Maps {
         count
     }
 
-    /// How many keys all live maps have together: at most `MAPS * MOST_ENTRIES`.
+    /// How many keys all live maps have together: at most 16 * 4,096, `MAPS` times `MOST_ENTRIES` of `tagged_model`.
     pub fn key_sum(&self) -> u32
         ensures sum { result ≡ total (λ l. length l.keys.entries) self.now.maps }
         ensures few { result ≤ most_maps * most_entries }

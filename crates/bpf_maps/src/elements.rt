@@ -11,8 +11,9 @@ use crate::array_map::{INDEX_SIZE, index_of};
 use crate::maps::{MapKey, Maps};
 use tagged_model::{MapKind, MapShape};
 
-/// The elements of a map: how many a run finds without the map, and the distance from the start of one value to the start of the next, in
-/// bytes. The count of a hash map is 0: only the map finds its keys. They stay the same as long as the map is live.
+/// The elements of a map: how many there are that a run finds without reading the map, and the distance from the start of one value to the
+/// start of the next, in bytes. The count of a hash map is 0, since only the map finds the element of a key. Both numbers stay the same as
+/// long as the map is live.
 #[derive(Clone, Copy, Debug, PartialEq, Eq)]
 pub struct Elements {
     pub count: u32,
@@ -20,7 +21,8 @@ pub struct Elements {
 }
 
 impl Elements {
-    /// The elements of a map of this shape. The count is 0 for a hash map: only the map finds its keys.
+    /// The elements of a map of this shape. The count is 0 for a hash map, since only the map finds the element of a key. Values begin at
+    /// multiples of eight bytes.
     #[inline(always)]
     pub fn of(shape: MapShape) -> Elements
         ensures { result ≡ elements_of shape }
@@ -35,7 +37,7 @@ impl Elements {
         }
     }
 
-    /// The elements as one number: how many there are in its low 32 bits, and the distance of their values, in bytes, in the others.
+    /// The elements as one number: `count` is its low 32 bits, and `stride` its high 32 bits.
     #[inline(always)]
     pub fn word(self) -> u64
         ensures { result ≡ word_of self }
@@ -43,8 +45,8 @@ impl Elements {
         u64::from(self.count) + 0x1_0000_0000 * u64::from(self.stride)
     }
 
-    /// The elements that `word` makes this number. If they are those of a shape, and there are some, the shape is an array's and its keys
-    /// have `INDEX_SIZE` bytes.
+    /// The elements of which `Elements::word` makes this number. If they are those of a map's shape, and the count is not 0, the map is an
+    /// array, so its keys have `INDEX_SIZE` bytes.
     #[inline(always)]
     pub fn of_word(word: u64) -> Elements
         ensures word { word_of result ≡ word }
@@ -60,7 +62,8 @@ impl Elements {
     }
 
     /// The address of the value of a key, modulo 2^64, if these are the elements of a live array whose first value has address `first`; 0
-    /// if the array doesn't have the key. It reads neither `maps` nor the map: they are for the contract.
+    /// if the index is out of range, or the key does not have four bytes. It reads neither `maps` nor `map`, the array's handle: both are
+    /// for the contract.
     #[inline(always)]
     pub fn address_of(self, maps: &Maps, map: MapKey, key: &[u8], first: u64) -> u64
         ensures address { AreOfArray self maps.now map → (part : ℕ)

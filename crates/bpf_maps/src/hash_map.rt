@@ -41,8 +41,8 @@ impl Model for HashMap {
 }
 
 impl HashMap {
-    /// Makes a map of this shape without keys, whose keys are hashed with this seed. Allocates all the memory that the map can ever
-    /// take. `AllocError`: out of memory.
+    /// Makes a map of this shape, whose kind is `Hash`, without keys. Keys are hashed with this seed. Allocates all the memory that the map
+    /// can ever take. `AllocError`: out of memory.
     pub(crate) fn new(alloc: Global, shape: MapShape, seed: HashSeed) -> Result<HashMap, AllocError>
         requires { shape.kind ≡ Hash }
         ensures { IfOk result (λ map. map ≡ new_keys shape) }
@@ -57,14 +57,15 @@ impl HashMap {
         })
     }
 
-    /// Whether the map's keys have the size of this shape's, and the map as many entries: then a map of the shape can have its memory.
+    /// Whether this shape has the size of the map's keys and its `max_entries`: then a new map of the shape can have this map's memory.
     pub(crate) fn is_like(&self, shape: MapShape) -> bool
         ensures { IsTrue result → IsLike shape (Some self.now) }
     {
         self.shape.key_size == shape.key_size && self.shape.max_entries == shape.max_entries
     }
 
-    /// Makes this a new map of another shape, of the same size of keys and as many entries. It takes no memory.
+    /// Makes this a new map, without keys, of another shape, which has the same size of keys and as many entries (`is_like`). Takes no
+    /// memory.
     pub(crate) fn renew(&mut self, shape: MapShape)
         requires kind { shape.kind ≡ Hash }
         requires key_size { shape.key_size ≡ self.old.shape.key_size }
@@ -100,7 +101,7 @@ impl HashMap {
         let _ = &self.shape;
     }
 
-    /// The element of a key; `None` if the key is absent.
+    /// The element of a key, which has the size of the map's keys; `None` if the key is absent.
     #[inline(always)]
     fn element_of(&self, key: &[u8]) -> Option<u32>
         requires { length key.now ≡ self.now.shape.key_size }
@@ -118,8 +119,9 @@ impl HashMap {
         self.index.entry_after(element)
     }
 
-    /// Claims a free element for a new key, which goes to the end. `TooBig` if no element is free; then nothing has changed. The flags of
-    /// the update are 0 (`ANY`) in the contract. Not inlined, though the rest of an update is: a present key doesn't need it.
+    /// Claims a free element, the last of the spare ones, for an absent key, which goes to the end. `TooBig` if no element is free: each
+    /// spare one is kept apart. Then nothing has changed. The flags of the update are `ANY` or `NOEXIST`, for which the contract has 0: of
+    /// an absent key the verdict is the same. Not inlined, though the rest of an update is: a present key doesn't need it.
     #[cold]
     #[inline(never)]
     #[tactic(auto, using(crate::proofs::Kept::sound))]
@@ -150,7 +152,7 @@ impl ValueMap for HashMap {
         self.element_of(key)
     }
 
-    // A present key has its element; only an absent one needs a free element, which `add` claims.
+    // A present key has its element; only an absent one needs a free element, which `add` claims. `EXIST`, 2, is the largest flag.
     #[inline(always)]
     fn claim(&mut self, key: &[u8], flags: u64) -> Result<u32, MapFault> {
         self.elements_are_distinct();
@@ -179,7 +181,7 @@ impl ValueMap for HashMap {
         let Some(element) = self.index.remove(key) else {
             return Err(MapFault::NoEntry);
         };
-        // The element joins those that are kept apart; the first free one, if any, goes to the end.
+        // The element joins those that are kept apart; the first free one, if any, goes to the end. The list has room for all elements.
         let last = self.spare.len();
         self.spare.push_reserved(element);
         self.spare.swap(self.kept, last);
@@ -209,7 +211,7 @@ fn all_elements(alloc: Global, count: u32) -> Result<Vec<u32>, AllocError>
     Ok(all)
 }
 
-/// Puts all elements less than `count`, each once, in place of those that are in the list, which has room for them.
+/// Fills the list anew with all elements less than `count`, each once. The list has room for them.
 fn put_elements(all: &mut Vec<u32>, count: u32)
     requires { count ≤ vec_capacity all.old }
     ensures once { (p : ℕ) → occurrences p all.new.items ≡ (if nat_lt p count then 1 else 0) }

@@ -16,8 +16,8 @@ use crate::word_index::{LONGEST_WORD, WordIndex};
 use seeded_hash::HashSeed;
 use std::alloc::{AllocError, Global};
 
-/// The keys of a hash map, each with its element, in the order in which they were added. Keys of at most 8 bytes are kept as numbers,
-/// longer ones as bytes, in arrays of 64 or of 512.
+/// The keys of a hash map, each with its element, in the order in which they were added. Keys of at most 8 bytes are kept as numbers
+/// (`Words`), those of at most 64 bytes in arrays of 64 (`Middle`), and longer ones in arrays of 512 (`Long`).
 #[derive(Drop)]
 pub enum KeyIndex {
     Words(WordIndex),
@@ -26,7 +26,8 @@ pub enum KeyIndex {
 }
 
 impl KeyIndex {
-    /// Makes an index without keys, for keys of `key_size` bytes and elements less than `bound`. `AllocError`: out of memory.
+    /// Makes an index without keys, for keys of `key_size` bytes, which a shape bounds by 512, and elements less than `bound`, the map's
+    /// `max_entries`. Allocates memory for `bound` keys, which are hashed with the seed. `AllocError`: out of memory.
     pub(crate) fn new(
         alloc: Global,
         key_size: usize,
@@ -47,7 +48,7 @@ impl KeyIndex {
         }
     }
 
-    /// The number of bytes in which a key of this size is kept.
+    /// The number of bytes in which a key of this size, in bytes, is kept: those of a number or of an array.
     pub(crate) fn room_of(key_size: usize) -> usize
         ensures { result ≤ LONGEST_LONG }
     {
@@ -60,7 +61,7 @@ impl KeyIndex {
         }
     }
 
-    /// Returns the element of a key; `None` if the key is absent.
+    /// Returns the element of a key, which has the size of the map's keys; `None` if the key is absent.
     #[inline(always)]
     pub(crate) fn get(&self, key: &[u8]) -> Option<u32>
         requires { TakesKeys self.now (length key.now) }
@@ -73,7 +74,7 @@ impl KeyIndex {
         }
     }
 
-    /// Returns the key that follows a key, if there is one. After an absent key it is the first.
+    /// Returns the key that follows a key, if there is one. After an absent key, also one of another size, it is the first.
     pub(crate) fn key_after(&self, key: &[u8]) -> Option<KeyRef<'_>>
         ensures { option_map key_bytes result ≡ key_after key.now (entries_of self.now) }
     {
@@ -105,7 +106,8 @@ impl KeyIndex {
         }
     }
 
-    /// Adds a new key at the end. It allocates nothing: `new` made room for `bound` keys.
+    /// Adds a key at the end. The caller has found the key absent, and gives it an element less than the index's bound that no key has
+    /// (`HashMap::add`). It allocates nothing: `new` made room for `bound` keys.
     pub(crate) fn insert(&mut self, key: &[u8], element: u32)
         requires takes { TakesKeys self.old (length key.now) }
         requires absent { found key.now (entries_of self.old) ≡ None }
@@ -136,7 +138,8 @@ impl KeyIndex {
         }
     }
 
-    /// Removes a key and returns its element; `None` if the key is absent. The others keep their order.
+    /// Removes a key, which has the size of the map's keys, and returns its element; `None` if the key is absent. The other keys keep their
+    /// order.
     pub(crate) fn remove(&mut self, key: &[u8]) -> Option<u32>
         requires { TakesKeys self.old (length key.now) }
         ensures element { result ≡ found key.now (entries_of self.old) }

@@ -25,7 +25,7 @@ impl Model for ShortKey {
 }
 
 impl ShortKey {
-    /// Makes a key of the lowest `length` bytes of a number, little-endian.
+    /// Makes a key of the lowest `length` bytes of a number, at most eight, the lowest first.
     pub(crate) fn of_word(word: u64, length: usize) -> ShortKey
         requires { length ≤ 8 }
         ensures { result ≡ low_bytes length word }

@@ -10,24 +10,26 @@ pub fn calls_are_those_of_a_map()
     ensures { CallsAreThoseOfAMap }
 {}
 
-/// A write of the value of the element of a key gives that key another object in the map of values.
+/// If bytes become the value of the element of a key, then in the map from keys to values they are the value of this key, and nothing else
+/// changes.
 pub fn writes_refine_values()
     ensures { WritesRefineValues (List ℕ) }
 {}
 
-/// Values that are equal at all elements in use give equal maps. Each element in use, or kept apart, is less than `max_entries`.
+/// Two assignments of values to elements that agree on each element of a key give equal maps from keys to values. Each element of a key, or
+/// kept apart, is less than `max_entries`.
 pub fn values_agree()
     ensures numbers { ValuesAgree ℕ }
     ensures bytes { ValuesAgree (List ℕ) }
     ensures within { ElementsAreWithin }
 {}
 
-/// If the areas are unchanged, each value keeps its offset in the part.
+/// If the areas are unchanged, the value of each element of a live map keeps its offset in the part.
 pub fn areas_keep_elements()
     ensures { AreasKeepElements }
 {}
 
-/// A deletion frees no element: that of the key is kept apart.
+/// A deletion frees no element: that of the deleted key is kept apart until the run ends.
 pub fn deletes_keep_elements()
     ensures { DeletesKeepElements }
 {}
@@ -42,8 +44,8 @@ pub fn values_are_written()
     ensures { ValuesAreWritten }
 {}
 
-/// A live map with the bytes of its values changes as its table of keys does: by a deletion, at the end of a run, and by a claim
-/// followed by the write of the value.
+/// If a change keeps the areas, a live map with the bytes of its values changes as its table of keys does: by a deletion, at the end of a
+/// run, and by a claim followed by the write of the value.
 pub fn live_maps_refine_values()
     ensures { LiveMapsRefineValues }
 {

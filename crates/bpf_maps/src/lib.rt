@@ -77,7 +77,7 @@
 //!   `LongIndex`), so that a map takes all memory for its keys when it is created: with a `Vec` for each key, a new key took memory.
 //!   The arrays are allocated and not written until their key comes. One length for both would take eight times the memory for keys of
 //!   9 to 64 bytes. The two indices are the same code: an index for any length would have to show that the array's length is small
-//!   in each place that uses a key.
+//!   at each use of a key.
 //! - Such a key is hashed in one write of all its bytes, which the hasher takes sixteen at a time, and is looked up by borrowed bytes
 //!   (`KeyBytes`). The look-up of a key of 64 bytes took 598 machine instructions before and 218 after this change.
 //! - A look-up in a hash map is three functions in the machine code: one that checks how the keys are stored and ends in a jump
@@ -91,9 +91,9 @@
 //!   `Maps` room for sixteen maps, so an update, a delete and the end of a run allocate nothing.
 //! - A hash map that is freed keeps its memory for a later one of this tenant, of the same size of keys and as many entries
 //!   (`SpareMaps`): so the last release gives no memory back, and such a new map takes none. Whenever a map takes memory, the spare maps
-//!   and the live ones have at most 32,768 entries, as many as only live ones can have. If there would be more, a spare one that
-//!   suffices is freed, the one with the least memory; if none does, those with the most entries before it. In the order in which they were
-//!   closed, a full map was freed before one that suffices. No contract mentions the spare maps.
+//!   and the live ones have at most 32,768 entries, as many as only live ones can have. If there would be more, a spare one that suffices
+//!   is freed, the one with the least memory; if none does, those with the most entries, until one does. Freed in the order in which they
+//!   were closed, a full map went before a smaller one that suffices. No contract mentions the spare maps.
 //! - The elements that no key has are one list: first those of keys that were deleted in this run, then the free ones. An element of
 //!   the first part counts as an entry until the run ends. The end of a run only sets the length of that part to 0, so it takes
 //!   the same time however many keys were deleted.

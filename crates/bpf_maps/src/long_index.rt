@@ -13,11 +13,11 @@ use seeded_hash::HashSeed;
 use std::alloc::{AllocError, Global};
 use std::marker::Model;
 
-/// The length of the longest key of a `LongIndex`, in bytes.
+/// The length of the longest key of a `LongIndex`, in bytes: that of the longest key of any map, `LONGEST_KEY` of `tagged_model`.
 pub(crate) const LONGEST_LONG: usize = 512;
 
-/// Keys of at most 512 bytes, each with its element, in the order in which they were added. Contracts see the keys' bytes with their
-/// elements.
+/// Keys of at most 512 bytes, each with its element, in the order in which they were added. Each is kept in an array of 512 bytes.
+/// Contracts see the keys' bytes with their elements.
 #[derive(Drop)]
 pub struct LongIndex {
     map: OrderedMap<InlineKey<LONGEST_LONG>, HashSeed>,
@@ -36,7 +36,8 @@ impl Model for LongIndex {
 }
 
 impl LongIndex {
-    /// Makes an index without keys, for elements less than `bound`. `AllocError`: out of memory.
+    /// Makes an index without keys, for elements less than `bound`. Allocates memory for `bound` keys, which are hashed with the seed.
+    /// `AllocError`: out of memory.
     pub(crate) fn new(alloc: Global, bound: u32, seed: HashSeed) -> Result<LongIndex, AllocError>
         ensures bound { IfOk result (λ index. index.bound ≡ bound) }
         ensures entries { IfOk result (λ index. index.entries ≡ []) }
@@ -54,7 +55,7 @@ impl LongIndex {
         self.map.get(KeyBytes { bytes: key })
     }
 
-    /// Returns the key that follows a key, if there is one. After an absent key it is the first.
+    /// Returns the key that follows a key, if there is one. After an absent key, also one of another size, it is the first.
     pub(crate) fn key_after(&self, key: &[u8]) -> Option<&[u8]>
         ensures { option_map lent_key result ≡ key_after key.now self.now.entries }
     {
@@ -71,7 +72,8 @@ impl LongIndex {
         Some((key.bytes(), element))
     }
 
-    /// Adds a new key at the end. It allocates nothing: `new` made room for `bound` keys.
+    /// Adds a key of at most 512 bytes at the end. The caller has found the key absent, and gives it an element less than the index's bound
+    /// that no key has (`HashMap::add`). It allocates nothing: `new` made room for `bound` keys.
     pub(crate) fn insert(&mut self, key: &[u8], element: u32)
         requires short { length key.now ≤ LONGEST_LONG }
         requires absent { found key.now self.old.entries ≡ None }
@@ -92,7 +94,7 @@ impl LongIndex {
         self.map.clear();
     }
 
-    /// Removes a key and returns its element; `None` if the key is absent. The others keep their order.
+    /// Removes a key and returns its element; `None` if the key is absent. The other keys keep their order.
     pub(crate) fn remove(&mut self, key: &[u8]) -> Option<u32>
         ensures element { result ≡ found key.now self.old.entries }
         ensures left { self.new.entries ≡ without key.now self.old.entries }

@@ -32,7 +32,8 @@ use tagged_model::{MapFault, MapShape};
 // A map with this number of references is freed when one of them is dropped.
 const LAST: u32 = 1;
 
-/// The handle of a live map, 0 to 15. Contracts see the number.
+/// A handle, the number of one of a tenant's live maps, 0 to 15. Once the map is freed, the handle has no map until a new one gets it.
+/// Contracts see the number.
 #[derive(Clone, Copy, Debug, PartialEq, Eq)]
 pub struct MapKey {
     pub(crate) handle: usize,
@@ -46,7 +47,7 @@ impl Model for MapKey {
     ghost inverse = { λ n. record { handle = n } };
 }
 
-/// A tenant's live maps. Contracts see the map of each of `MAPS` handles, and the positions of its values in the tenant's part.
+/// A tenant's live maps. Contracts see the map of each of `MAPS` handles, and the offsets of its values in the tenant's part.
 #[derive(Drop)]
 pub struct Maps {
     // With these, new maps are allocated and the keys of hash maps are hashed.
@@ -61,7 +62,7 @@ pub struct Maps {
     // The number of bytes that the areas of all maps take. The areas lie one after another, in order of creation, after the stack
     // and the context.
     pub(crate) bytes: usize,
-    // Whether memory was refused to a new map.
+    // Whether memory was ever refused to a new map.
     refused: bool,
 }
 
@@ -113,7 +114,7 @@ impl Maps {
         let _ = &self.maps;
     }
 
-    /// The live map of a handle.
+    /// The live map of a handle, as it is stored in the slab.
     #[inline(always)]
     pub(crate) fn stored(&self, map: MapKey) -> &StoredMap
         requires { IsSome (live_at self.now map) }
@@ -184,7 +185,7 @@ impl Maps {
             elements: Elements::of(shape).word(),
             holds: 1,
         };
-        // The slab's key is less than its capacity, and so it is not `NO_KEY`.
+        // For the proof: by the contract of `capacity` the slab's key is less than it, and so is not `NO_KEY`.
         let _capacity = self.maps.capacity();
         let key = self.maps.insert_reserved(stored);
         self.keys.put(handle, key);
@@ -192,7 +193,8 @@ impl Maps {
         Ok(MapKey { handle })
     }
 
-    /// Adds one reference to a map, which has fewer than 2^32 - 1.
+    /// Adds one reference to a live map, which has fewer than 2^32 - 1, so that their number fits in 32 bits: each of a tenant's 64
+    /// objects refers to a map at most once.
     pub fn hold(&mut self, map: MapKey)
         requires live { IsSome (live_at self.old map) }
         requires few { holds_at self.old map < 2 ^ 32 - 1 }
@@ -213,8 +215,8 @@ impl Maps {
         stored.holds += 1;
     }
 
-    /// Drops one reference to a map; the last frees the map, its handle and its area. The areas after that one then move down by its
-    /// size, and their maps keep their elements, keys and values.
+    /// Drops one reference to a live map; the last frees the map, its handle and its area. The areas after that one then move down by its
+    /// size in `part`, the tenant's part of `PART` bytes, and their maps keep their elements, keys and values.
     pub fn release(&mut self, map: MapKey, part: &mut [u8])
         requires live { IsSome (live_at self.old map) }
         requires length { length part.old ≡ PART }
@@ -261,7 +263,7 @@ impl Maps {
         self.refused
     }
 
-    /// Whether a map is live.
+    /// Whether the handle has a live map.
     #[inline(always)]
     pub fn is_live(&self, map: MapKey) -> bool
         ensures { result ≡ is_some (live_at self.now map) }
@@ -271,7 +273,7 @@ impl Maps {
         self.keys.get(map.handle).is_some()
     }
 
-    /// The shape of a map.
+    /// The shape of a live map.
     #[inline(always)]
     pub fn shape(&self, map: MapKey) -> MapShape
         requires { IsSome (live_at self.now map) }
@@ -297,8 +299,8 @@ impl Maps {
         Some((stored.start, stored.elements))
     }
 
-    /// The offset of the value of an element of a map in the tenant's part, in bytes. The values of all maps lie in the part, after
-    /// the stack and the context, and don't overlap.
+    /// The offset of the value of an element of a live map in the tenant's part, in bytes. `find`, `claim` and `entry_after` return such an
+    /// element. The values of all live maps lie in the part, after the stack and the context, and don't overlap.
     #[inline(always)]
     pub fn value_at(&self, map: MapKey, element: u32) -> usize
         requires live { IsSome (live_at self.now map) }
@@ -310,7 +312,8 @@ impl Maps {
         self.offset_in(map, self.stored(map), element)
     }
 
-    /// The element of a key; `None` if the map doesn't have the key.
+    /// The element of a key in a live map; `None` if the map doesn't have the key. The caller has checked that the key has the size of
+    /// the map's keys.
     #[inline(always)]
     pub fn find(&self, map: MapKey, key: &[u8]) -> Option<u32>
         requires live { IsSome (live_at self.now map) }
@@ -322,8 +325,8 @@ impl Maps {
         self.stored(map).map.find(key)
     }
 
-    /// The address of the value of a key, modulo 2^64, in a part that begins at address `part`; 0 if the map doesn't have the key.
-    /// The value lies in the part.
+    /// The address of the value of a key of a live map, modulo 2^64, in a part that begins at address `part`; 0 if the map doesn't have the
+    /// key. The key has the size of the map's keys. The value lies in the part.
     #[inline(always)]
     pub fn address_of(&self, map: MapKey, key: &[u8], part: u64) -> u64
         requires live { IsSome (live_at self.now map) }
@@ -340,12 +343,12 @@ impl Maps {
         }
     }
 
-    /// Claims an element for a key; the caller then writes the value there. A present key keeps its element. A new key goes to the end,
-    /// and gets any element that is not in use.
+    /// Claims an element of a live map for a key, which has the size of the map's keys; the caller then writes the value there. A present
+    /// key keeps its element. A new key goes to the end, and gets any element that is not in use.
     ///
     /// # Errors
     ///
-    /// Those of an update (bpf(2), BPF_MAP_UPDATE_ELEM): `Invalid` if `flags` is none of `ANY`, `NOEXIST` and `EXIST`; for a
+    /// Those of an update (bpf(2), BPF_MAP_UPDATE_ELEM): `Invalid` if `flags` is none of `ANY`, `NOEXIST` and `EXIST`, 0 to 2; for a
     /// present key, `Exists` if `flags` is `NOEXIST`; for an absent key of an array, `TooBig`; for an absent key of a hash map,
     /// `NoEntry` if `flags` is `EXIST`, else `TooBig` if the map is full, counting the keys removed in this run. Then no map has
     /// changed. Takes no memory.
@@ -365,7 +368,8 @@ impl Maps {
         stored.map.claim(key, flags)
     }
 
-    /// Removes a key. Its element is kept apart until the run ends: until then no key gets it. Takes no memory.
+    /// Removes a key, which has the size of the map's keys, from a live map. Its element is kept apart until the run ends (`end_run`):
+    /// until then no key gets it. Takes no memory.
     ///
     /// # Errors
     ///
@@ -412,7 +416,8 @@ impl Maps {
         self.stored(map).map.entry_after(element)
     }
 
-    /// Writes the key that follows a key to the start of `next`. After an empty or absent key it is the first.
+    /// Writes the key of a live map that follows `key` to the start of `next`, which has room for the longest key. If `key` is empty or
+    /// absent, it is the first.
     ///
     /// # Errors
     ///
@@ -431,7 +436,7 @@ impl Maps {
         self.stored(map).map.next_key(key, next)
     }
 
-    /// Ends a run on a map: the elements that were kept apart are free again. Takes no memory.
+    /// Ends a run on a live map: the elements that were kept apart are free again. Takes no memory.
     pub fn end_run(&mut self, map: MapKey)
         requires { IsSome (live_at self.old map) }
         ensures ended { keys_at self.new map ≡ after_run (keys_at self.old map) }

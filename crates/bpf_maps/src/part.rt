@@ -5,25 +5,27 @@ ghost use Rattle.std.specs.Prelude.{◌≡◌, ◌+◌, ◌≤◌, ◌++◌, len
 use tagged_model::LONGEST_KEY;
 use words::STACK_SIZE;
 
-/// The size of the space for the context in bytes; its words take 44.
+/// The size of the space for the context in bytes. Its words take 44; with 64, the areas after it begin at a multiple of 64 bytes, and so
+/// of eight, from the start of the part.
 const CONTEXT_ROOM: usize = 64;
 
 /// The size of the stack and the context together, in bytes. The areas begin after them.
 pub const STACK_AND_CONTEXT: usize = STACK_SIZE + CONTEXT_ROOM;
 
-/// The most live maps that a tenant may have.
+/// The most live maps that a tenant may have, a limit of this project.
 pub const MAPS: usize = 16;
 
-/// The most bytes that the values of a tenant's live maps may take together.
+/// The most bytes that the values of a tenant's live maps may take together, each rounded up to a multiple of eight. A limit of this
+/// project.
 pub const LARGEST_SUM: usize = 262_144;
 
 /// The size of a part in bytes.
 pub const PART: usize = STACK_AND_CONTEXT + LARGEST_SUM;
 
-/// The length of the longest key in bytes.
+/// The room for the key that a request for the next key returns: the length of the longest key, in bytes.
 pub const KEY_ROOM: usize = LONGEST_KEY as usize;
 
-/// Writes `size` zeros at offset `start` of a part.
+/// Writes `size` zeros at offset `start` of a part, in which they lie.
 pub(crate) fn clear(part: &mut [u8], start: usize, size: usize)
     requires { start + size ≤ length part.old }
     ensures { part.new ≡ take start part.old ++ (replicate size 0 ++ drop (start + size) part.old) }

@@ -65,7 +65,7 @@ impl SlabKeys {
         first_without_key(&self.words)
     }
 
-    /// Gives a handle a key.
+    /// Gives a handle, 0 to 15, a key, which is not `NO_KEY`.
     pub(crate) fn put(&mut self, handle: usize, key: usize)
         requires handle { handle < most_maps }
         requires key { key < NO_KEY }
@@ -74,7 +74,7 @@ impl SlabKeys {
         self.words[handle] = key;
     }
 
-    /// Takes a handle's key away.
+    /// Takes the key of a handle, 0 to 15, away.
     pub(crate) fn clear(&mut self, handle: usize)
         requires { handle < most_maps }
         ensures { self.new ≡ slice_set self.old handle None }
@@ -83,7 +83,7 @@ impl SlabKeys {
     }
 }
 
-/// The key in a word, if there is one.
+/// The key in a word; `None` if the word is `NO_KEY`.
 #[inline(always)]
 fn key_of(word: usize) -> Option<usize>
     ensures { result ≡ key_in word }

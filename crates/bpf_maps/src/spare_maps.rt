@@ -13,7 +13,8 @@ use seeded_hash::HashSeed;
 use std::alloc::{AllocError, Global};
 use tagged_model::MapShape;
 
-/// The most entries that a tenant's live hash maps can have together: the value of each takes at least eight bytes of `LARGEST_SUM`.
+/// The most entries that a tenant's live hash maps can have together, 32,768: the value of each takes at least eight bytes of
+/// `LARGEST_SUM`. (`MOST_ENTRIES` of `tagged_model` is that of one map.)
 const MOST_ENTRIES: usize = LARGEST_SUM / 8;
 
 /// The live hash maps of a tenant: how many they are, and how many entries they can have.
@@ -30,7 +31,7 @@ pub(crate) const NO_HASH_MAPS: LiveHashMaps = LiveHashMaps {
 };
 
 impl LiveHashMaps {
-    /// These and one map more, which can have this many entries.
+    /// These and one map more, which can have this many entries. The sums stop at the largest number, which no tenant reaches.
     pub(crate) fn with(self, entries: u32) -> LiveHashMaps {
         LiveHashMaps {
             maps: self.maps.saturating_add(1),
@@ -41,8 +42,8 @@ impl LiveHashMaps {
 
 /// Hash maps that are no longer live. With the live ones they are at most `MAPS`, with at most `MOST_ENTRIES` entries, whenever a map takes
 /// memory. So a tenant takes no more memory than one whose hash maps are all live, and there is room for each map that is closed: a close
-/// frees none. A new map frees a single one, if one suffices. Otherwise those that are freed before the last one have fewer entries than
-/// the new map, so it frees less than two of the largest maps.
+/// frees none. A new map frees a single one, if one suffices. Otherwise those that are freed before the last one have together fewer
+/// entries than the new map, so it frees less than two of the largest maps.
 #[derive(Drop)]
 pub struct SpareMaps {
     maps: Vec<HashMap>,
@@ -55,7 +56,7 @@ impl SpareMaps {
         Ok(SpareMaps { maps })
     }
 
-    /// Keeps a hash map, if there is room for it; an array has no memory to keep. It takes no memory.
+    /// Keeps a hash map that is no longer live, for its memory; an array has none to keep. It takes no memory.
     #[inline(always)]
     pub(crate) fn keep(&mut self, map: BpfMap) {
         if let BpfMap::Hash(map) = map {
@@ -63,7 +64,8 @@ impl SpareMaps {
         }
     }
 
-    /// Keeps a hash map, if there is room for it. It is not inlined, so that an array takes no call and no copy of the map's record.
+    /// Keeps a hash map, if the list has room for it, and else frees it. There always is room (`SpareMaps`), which is not proved. It is not
+    /// inlined, so that an array takes no call and no copy of the map's record.
     #[cold]
     #[inline(never)]
     fn keep_hash_map(&mut self, map: HashMap) {
@@ -72,8 +74,9 @@ impl SpareMaps {
         }
     }
 
-    /// Makes a hash map of this shape: a spare one with the same size of keys and as many entries, if there is one, or a new one.
-    /// `live` are the live hash maps. `AllocError`: out of memory.
+    /// Makes a hash map of this shape: of a spare one with the same size of keys and as many entries, if there is one, or of new memory,
+    /// for which spare maps are freed if they, the live hash maps (`live`) and the new one are too many. A new hash map is rare, so it is
+    /// made out of line. `AllocError`: out of memory.
     #[cold]
     #[inline(never)]
     pub(crate) fn hash_map(
@@ -95,7 +98,7 @@ impl SpareMaps {
         HashMap::new(alloc, shape, seed)
     }
 
-    /// The index of a spare map with this shape's size of keys and as many entries, if there is one.
+    /// The index of the first spare map with this shape's size of keys and as many entries, if there is one.
     fn position(&self, shape: MapShape) -> Option<usize>
         ensures { IfSome result (λ at. IsLike shape (slice_get self.now.maps.items at)) }
     {
@@ -128,7 +131,8 @@ impl SpareMaps {
         entries.saturating_sub(MOST_ENTRIES)
     }
 
-    /// Frees spare maps until the others and these live ones are few enough (`has_room`). Once a turn frees none, no later one does.
+    /// Frees spare maps until the others and these, the live ones and the new one, are few enough (`has_room`). A turn frees at most one,
+    /// and once a turn frees none, no later one does.
     fn make_room(&mut self, live: LiveHashMaps) {
         for _ in 0..self.maps.len() {
             if !self.maps.is_empty() && !self.has_room(live) {
@@ -138,8 +142,8 @@ impl SpareMaps {
         }
     }
 
-    /// The index of the map to free if `excess` entries are too many: of those that can have so many, the one with the least memory; if
-    /// none can, the one with the most entries.
+    /// The index of the spare map to free if `excess` entries are too many: of those that can have so many, the one with the least memory;
+    /// if none can, the one with the most entries. At 0 only the number of maps is too large, and each can. There is a spare map.
     fn next_to_free(&self, excess: usize) -> usize
         requires { 0 < vec_len self.now.maps }
         ensures within { result < vec_len self.now.maps }
@@ -169,7 +173,7 @@ fn is_freed_before(shape: MapShape, other: MapShape, excess: usize) -> bool
     }
 }
 
-/// The memory for the keys of a full map, in bytes.
+/// The memory for the keys of a full map, in bytes, by which `is_freed_before` compares maps.
 fn key_memory(shape: MapShape) -> u64 {
     KeyIndex::room_of(shape.key_size as usize) as u64 * shape.max_entries as u64
 }

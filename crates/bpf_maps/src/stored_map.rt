@@ -8,7 +8,7 @@ use crate::part::MAPS;
 use crate::slab_keys::SlabKeys;
 use slab::Slab;
 
-/// A live map, its area, and the number of references to it.
+/// A live map, its area, and the number of references to it, `holds`.
 #[derive(Drop)]
 pub(crate) struct StoredMap {
     pub map: BpfMap,
@@ -16,7 +16,7 @@ pub(crate) struct StoredMap {
     pub start: usize,
     /// The distance from the start of one value to the start of the next, in bytes.
     pub stride: usize,
-    /// Its elements as one number (`Elements::word`).
+    /// Its elements as a run knows them, as one number (`Elements::word`).
     pub elements: u64,
     pub holds: u32,
 }
@@ -33,7 +33,8 @@ impl StoredMap {
     }
 }
 
-/// Lowers the start of each area from `end` on by `size`: an area of `size` bytes that ended at `end` is gone.
+/// Lowers the start of the area of each map by `size` if the area begins at `end` or after it: an area of `size` bytes up to `end` is gone.
+/// `keys` has the slab's key of each map, by handle.
 pub(crate) fn close_gap(keys: &SlabKeys, maps: &mut Slab<StoredMap>, end: usize, size: usize)
     requires size { size ≤ end }
     requires keys { AreKeys keys.now maps.old }

@@ -16,7 +16,7 @@ pub const ANY: u64 = 0;
 /// The flag of an update whose key must be absent (bpf(2), BPF_NOEXIST).
 pub const NOEXIST: u64 = 1;
 
-/// The flag of an update whose key must be present (bpf(2), BPF_EXIST).
+/// The flag of an update whose key must be present (bpf(2), BPF_EXIST), the largest flag.
 pub const EXIST: u64 = 2;
 
 /// A map from keys, in order, to elements. An element is a number less than the map's `max_entries`, and no two keys have the same
@@ -25,19 +25,19 @@ pub trait ValueMap {
     /// The keys in order, each with its element, and the elements that are kept apart.
     ghost keys: { Self → KeyTable };
 
-    /// Returns the element of a key; `None` if the key is absent.
+    /// Returns the element of a key, which has the size of the map's keys; `None` if the key is absent.
     fn find(&self, key: &[u8]) -> Option<u32>
         requires size { length key.now ≡ (keys self.now).shape.key_size }
         ensures element { result ≡ look_up (table_of (keys self.now)) key.now }
         ensures within { IfSome result (λ element. element < (keys self.now).shape.max_entries) }
         ensures sound { IsSound (keys self.now) };
 
-    /// Claims an element for a key; the caller then writes the value there. A present key keeps its element. A new key goes to the end,
-    /// and gets any element that is not in use.
+    /// Claims an element for a key, which has the size of the map's keys; the caller then writes the value there. A present key keeps its
+    /// element. A new key goes to the end, and gets any element that is not in use.
     ///
     /// # Errors
     ///
-    /// Those of an update (bpf(2), BPF_MAP_UPDATE_ELEM): `Invalid` if `flags` is none of `ANY`, `NOEXIST` and `EXIST`; for a
+    /// Those of an update (bpf(2), BPF_MAP_UPDATE_ELEM): `Invalid` if `flags` is none of `ANY`, `NOEXIST` and `EXIST`, 0 to 2; for a
     /// present key, `Exists` if `flags` is `NOEXIST`; for an absent key of an array, `TooBig`; for an absent key of a hash map,
     /// `NoEntry` if `flags` is `EXIST`, else `TooBig` if the map is full, counting the keys removed in this run. Then nothing has
     /// changed. Takes no memory.
@@ -49,7 +49,8 @@ pub trait ValueMap {
         ensures shape { (keys self.new).shape ≡ (keys self.old).shape }
         ensures sound { IsSound (keys self.new) };
 
-    /// Removes a key. Its element is kept apart until the run ends: until then no key gets it. Takes no memory.
+    /// Removes a key, which has the size of the map's keys. Its element is kept apart until the run ends (`end_run`): until then no key
+    /// gets it. Takes no memory.
     ///
     /// # Errors
     ///
@@ -70,7 +71,8 @@ pub trait ValueMap {
             length (key_bytes given) ≡ (keys self.now).shape.key_size) }
         ensures short { IfSome result (λ given. length (key_bytes given) ≤ KEY_ROOM) };
 
-    /// Writes the key that follows a key to the start of `next`. After an empty or absent key it is the first.
+    /// Writes the key that follows `key` to the start of `next`, which has room for the longest key. If `key` is empty or absent, it is the
+    /// first.
     ///
     /// # Errors
     ///
@@ -93,7 +95,7 @@ pub trait ValueMap {
         ensures sound { IsSound (keys self.new) };
 }
 
-/// Writes a key to the start of `next`. The bytes after it are unchanged.
+/// Writes a key, of at most `KEY_ROOM` bytes, to the start of `next`. The bytes after it are unchanged.
 fn put_key(key: &[u8], next: &mut [u8; KEY_ROOM])
     requires { length key.now ≤ KEY_ROOM }
     ensures { next.new ≡ key.now ++ drop (length key.now) next.old }

@@ -38,7 +38,8 @@ impl Model for WordIndex {
 }
 
 impl WordIndex {
-    /// Makes an index without keys, for keys of `size` bytes and elements less than `bound`. `AllocError`: out of memory.
+    /// Makes an index without keys, for keys of `size` bytes, at most eight, and elements less than `bound`. Allocates memory for `bound`
+    /// keys, which are hashed with the seed. `AllocError`: out of memory.
     pub(crate) fn new(
         alloc: Global,
         size: usize,
@@ -54,8 +55,8 @@ impl WordIndex {
         Ok(WordIndex { size, map })
     }
 
-    /// Returns the element of a key; `None` if the key is absent. A function of its own in the machine code, so that it saves no registers
-    /// that only longer keys need.
+    /// Returns the element of a key, which has the index's size; `None` if the key is absent. A function of its own in the machine code, so
+    /// that it saves no registers that only the look-up of longer keys needs.
     #[inline(never)]
     pub(crate) fn get(&self, key: &[u8]) -> Option<u32>
         requires { length key.now ≡ self.now.size }
@@ -85,7 +86,8 @@ impl WordIndex {
         Some((ShortKey::of_word(*word, self.size), element))
     }
 
-    /// Adds a new key at the end. It allocates nothing: `new` made room for `bound` keys.
+    /// Adds a key, which has the index's size, at the end. The caller has found the key absent, and gives it an element less than the
+    /// index's bound that no key has (`HashMap::add`). It allocates nothing: `new` made room for `bound` keys.
     pub(crate) fn insert(&mut self, key: &[u8], element: u32)
         requires size { length key.now ≡ self.old.size }
         requires absent { found key.now self.old.entries ≡ None }
@@ -108,7 +110,7 @@ impl WordIndex {
         self.map.clear();
     }
 
-    /// Removes a key and returns its element; `None` if the key is absent. The others keep their order.
+    /// Removes a key, which has the index's size, and returns its element; `None` if the key is absent. The other keys keep their order.
     pub(crate) fn remove(&mut self, key: &[u8]) -> Option<u32>
         requires { length key.now ≡ self.old.size }
         ensures element { result ≡ found key.now self.old.entries }

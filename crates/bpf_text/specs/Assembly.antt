@@ -18,7 +18,7 @@ use Rattle.bpf_text.specs.Lines.{text_lines}
 
 -- ---- slots and labels of lines; `None` is a line that has none of the forms
 
--- the number of slots of a line's instruction, 0 if it has none
+-- the number of slots of a line's instruction, 0 if the line has no instruction
 abbrev pub line_slots : Option Line → ℕ
 line_slots None = 0
 line_slots (Some blank) = 0

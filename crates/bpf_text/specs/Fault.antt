@@ -14,11 +14,11 @@ kind_number TooLong = 5
 kind_number Empty = 6
 kind_number Memory = 7
 
--- out of memory
+-- the fault of a text for which memory is refused; line 0 is the whole text
 abbrev pub memory_fault : TextFault
 memory_fault = record { line = 0; kind = Memory }
 
--- the text has no slot
+-- the fault of a text that has no slot; line 0 is the whole text
 abbrev pub empty_fault : TextFault
 empty_fault = record { line = 0; kind = Empty }
 

@@ -68,8 +68,8 @@ fn defined<'a>(line: &Option<Line<'a>>) -> Option<&'a str>
     }
 }
 
-/// Enters the label that a line defines, with `definition`, the line's index and the slots before it. Nothing is entered if the line
-/// defines no label, or one that an earlier line defines: the first definition counts.
+/// Enters the label that a line defines into `labels`, with `definition`, the line's index and the slots before it. Nothing is entered if
+/// the line defines no label, or one that an earlier line defines: the first definition counts.
 fn note<'a>(
     labels: &mut HashMap<&'a str, Definition>,
     line: &Option<Line<'a>>,
@@ -111,9 +111,9 @@ fn definition_of_label(labels: &HashMap<&str, Definition>, name: &str) -> Option
     labels.get(name).copied()
 }
 
-/// The distance in slots from slot `slot + 1`, which is next after a jump, to a label. So that it fits 16 bits, a label past `MAX_SLOTS`
-/// counts as one at that slot: its text is too long. A label that no line defines, which is a fault too, counts as one at slot 0.
-/// A form that names no label has `None` too, and does not use the distance.
+/// The distance in slots from slot `slot + 1`, which is next after a jump at `slot`, to a label. So that it fits 16 bits, a label past
+/// `MAX_SLOTS` counts as one at that slot: its text has a line that is `TooLong`. `None` counts as a label at slot 0: no line defines it,
+/// which is a fault too, or the form names no label and does not use the distance.
 fn distance(label: Option<Definition>, slot: usize) -> i16
     requires { slot ≤ MAX_SLOTS }
     ensures { result ≡ kept_distance label slot }
@@ -125,8 +125,10 @@ fn distance(label: Option<Definition>, slot: usize) -> i16
     to as i16 - (slot as i16 + 1)
 }
 
-/// The instruction of a form, or its fault. The kinds are tested from the lowest on, so it is the lowest that the form has. `label` is the
-/// definition of the label that the form names, `None` if it names none or no line defines it; `slot` is the number of slots before it.
+/// The instruction of a form that a line has, so that `Form::insn` is `None` only for a number out of range; or the form's fault, of the
+/// lowest kind that it has, as the kinds are tested from the lowest on. `label` is the definition of the label that the form names, `None`
+/// if it names none or no line defines it; `slot` is the number of slots before the form, at most `MAX_SLOTS`, as no earlier line is
+/// `TooLong`.
 fn resolve(form: &Form, label: Option<Definition>, slot: usize) -> Result<Insn, TextFaultKind>
     requires form { IsForm form.now }
     requires room { slot ≤ MAX_SLOTS }
@@ -147,8 +149,9 @@ fn resolve(form: &Form, label: Option<Definition>, slot: usize) -> Result<Insn, 
     Ok(insn)
 }
 
-/// The instruction on a line, or the line's fault. `None` for a blank line, and for the first line that defines a label: the lines after it
-/// that define the label have the fault. `here` is the line's index and the slots before it.
+/// The instruction on a line, or the line's fault: `Syntax` if the line has none of the forms (`None`). The result is `None` for a blank
+/// line, and for the first line that defines a label: later lines that define this label have the fault `LabelTwice`. `here` is the line's
+/// index and the slots before it, at most `MAX_SLOTS`, since no earlier line is `TooLong`.
 fn instruction(
     labels: &HashMap<&str, Definition>,
     line: &Option<Line<'_>>,
@@ -178,7 +181,8 @@ fn instruction(
     }
 }
 
-/// The instructions on the lines, or the fault of the first line that has one.
+/// The instructions on the lines, as `read_lines` parsed them, or the fault of the first line that has one. `labels` has the first
+/// definition of each label on these lines.
 fn instructions(
     alloc: Global,
     lines: &[Option<Line<'_>>],
@@ -208,8 +212,8 @@ fn instructions(
     Ok(insns)
 }
 
-/// The program of the instructions; the fault `Empty` if there is no instruction. There are at most `MAX_SLOTS` slots, so `Program::new`
-/// fails only if out of memory.
+/// The program of the instructions; the fault `Empty` if there is no instruction. They have at most `MAX_SLOTS` slots, which `instructions`
+/// has checked, so `Program::new` fails only if out of memory.
 fn program(alloc: Global, insns: &[Insn]) -> Result<Program, TextFault>
     requires { slot_count insns.now ≤ MAX_SLOTS }
     ensures made { IfOk result (λ program. (program ≡ insns.now) × (0 < slot_count insns.now)) }

@@ -97,7 +97,7 @@ fn write_operand(text: &mut String, wide: bool, src: Operand) -> Result<(), Allo
 
 // ---- lines of instructions
 
-/// Appends the line of an operation of two operands, or of a move.
+/// Appends the line of an operation of two operands, or of a move: of 64-bit registers if `wide`, else of their low 32 bits.
 #[tactic(auto, unfolding(text_line::specs::Written::printed_insn))]
 fn write_alu(
     text: &mut String,
@@ -134,7 +134,7 @@ fn write_movsx(text: &mut String, movsx: &Movsx) -> Result<(), AllocError>
     write!(text, "{dst} = ({bits}){src}")
 }
 
-/// Appends the line of a conditional jump, with its offset in slots.
+/// Appends the line of a conditional jump, with its offset in slots. It compares 64 bits if `wide`, else the low 32.
 #[tactic(auto, unfolding(text_line::specs::Written::printed_insn))]
 fn write_jump(
     text: &mut String,
@@ -306,7 +306,8 @@ pub fn disassemble(alloc: Global, program: &Program) -> Result<String, AllocErro
     // The text assembles to the program.
     ensures program { IfOk result (λ text. IsAssembled (string_bytes text) program.now) }
 {
-    // Two laws, which do nothing when they run.
+    // Two laws, which do nothing when they run: the loop meets the program's instructions in order, and the printed text assembles
+    // to the program.
     program.insns_in_order();
     laws::printed_text_is_assembled();
     let mut text = String::new(alloc);

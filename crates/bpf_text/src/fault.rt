@@ -49,13 +49,13 @@ pub struct TextFault {
     pub kind: TextFaultKind,
 }
 
-/// The fault of a text for which memory is refused.
+/// The fault of a text for which memory is refused: of the whole text, at line 0.
 pub(crate) const OUT_OF_MEMORY: TextFault = TextFault {
     line: 0,
     kind: TextFaultKind::Memory,
 };
 
-/// The fault of a text without a slot of which no line has a fault.
+/// The fault of a text without a slot of which no line has a fault: of the whole text, at line 0.
 pub(crate) const NO_SLOT: TextFault = TextFault {
     line: 0,
     kind: TextFaultKind::Empty,
@@ -65,7 +65,7 @@ impl TextFault {
     ghost use Rattle.bpf_text.specs.inside.Faults.{fault_on};
 
     /// The fault of the line with this index, counted from 0, so that its number is `index + 1`; `Memory` is a fault of the whole text,
-    /// at line 0.
+    /// at line 0. The bound, which an index of a list meets, keeps the sum from overflowing.
     pub(crate) fn at(index: usize, kind: TextFaultKind) -> TextFault
         requires { index < 2 ^ 63 }
         ensures { result ≡ fault_on index kind }

@@ -33,7 +33,7 @@ pub fn hex_lines(alloc: Global, program: &Program) -> Result<String, AllocError>
     let bytes = write_program(alloc, program)?;
     let mut text = String::new(alloc);
     let mut rest = bytes.as_slice();
-    // The bytes are eight for each slot, so none is left.
+    // The bytes are eight for each slot, so none is left at the end.
     while rest.len() >= 8 {
         let (slot, after) = rest.split_at(8);
         text.push_str(&hex::encode(alloc, slot)?)?;
@@ -91,8 +91,9 @@ fn slots_on(alloc: Global, lines: &[&str]) -> Result<Vec<u8>, TextFault>
     Ok(bytes)
 }
 
-/// Appends the slot of a line, eight bytes, to `bytes`, which has the slots of the lines before it; a blank line has none. Or returns the
-/// fault: `Syntax` if the line is no slot, `TooLong` if `bytes` has `MAX_SLOTS` slots, `Memory` if out of memory.
+/// Appends the slot of a line, eight bytes, to `bytes`, the slots of the lines before it, at most `MAX_SLOTS`, as each call leaves it; a
+/// blank line has none. Or returns the fault: `Syntax` if the line is no slot, `TooLong` if `bytes` has `MAX_SLOTS` slots, `Memory` if out
+/// of memory.
 fn append_slot(bytes: &mut Vec<u8>, line: &str) -> Result<(), TextFaultKind>
     requires { vec_len bytes.old ≤ 8 * MAX_SLOTS }
     ensures ok { OnOk result (bytes.new.items ≡ bytes.old.items

@@ -23,15 +23,16 @@ abbrev pub states : Option Session → List TenantState
 states None = []
 states (Some s) = s.host.states
 
--- A reply lies at an address: it is the bytes of the vector of the session's last reply, which
--- begin there. The session owns them, and the handle owns the session. An empty handle has none.
+-- A reply lies at address `at`, with `length` bytes: it is the bytes of the vector of the session's
+-- last reply, which begin there. The session owns them, and the handle owns the session. False for
+-- an empty handle (None).
 abbrev pub StandsAt : Option Session → List ℕ → Ptr → ℕ → Type 0
 StandsAt None reply at length = ⊥
 StandsAt (Some s) reply at length =
     (s.reply.items ≡ reply) × (at ≡ vec_ptr s.reply) × (length ≡ vec_len s.reply)
 
--- The frames that were saved last lie at an address: they are the bytes of the session's vector for
--- them, which begin there. An empty handle has none.
+-- The frames that were saved last lie at address `at`, with `length` bytes: they are the bytes of
+-- the session's vector for them, which begin there. False for an empty handle (None).
 abbrev pub SavedAt : Option Session → List ℕ → Ptr → ℕ → Type 0
 SavedAt None frames at length = ⊥
 SavedAt (Some s) frames at length =
@@ -39,27 +40,31 @@ SavedAt (Some s) frames at length =
 
 -- ---- return codes
 
--- the code of a call that creates a host, unless it is out of memory
+-- the code of a call that creates a host of so many tenants, unless it is out of memory; `before`
+-- is what the handle has before the call, None if it is empty
 abbrev pub new_code : Option Session → ℕ → ℤ
 new_code before tenants =
     if nat_lt tenants 1 || nat_lt most_tenants tenants then ERR_TENANT_COUNT
     else (if is_none before then DONE else ERR_HAS_HOST)
 
--- the code of a call that needs a host and nothing else
+-- the code of a call that needs only a host; `before` is what the handle has before the call
 abbrev pub host_code : Option Session → ℤ
 host_code before = if is_none before then ERR_NO_HOST else DONE
 
--- the code of a call that also takes room for the longest reply
+-- the code of a call that needs a host and room for the longest reply: its handle has `before`, and
+-- its room has `room` bytes, which are tested first
 abbrev pub room_code : Option Session → ℕ → ℤ
 room_code before room = if nat_lt room longest_reply then ERR_BUFFER_TOO_SMALL else host_code before
 
--- the code of a call that saves a part, unless it is out of memory
+-- the code of a call that saves a part, if its handle has `before`, unless it is out of memory; a
+-- tenant that is not served has no part
 abbrev pub save_code : Option Session → ℕ → ℕ → ℤ
 save_code before tenant part =
     if is_none before
     then ERR_NO_HOST
     else (if is_none (saved_part (host_of before) tenant part) then ERR_NO_PART else DONE)
 
--- the code of a call that runs packets, with contexts of `size` words, unless it is out of memory
+-- the code of a call that runs packets, if its handle has `before`, unless it is out of memory;
+-- `words` are those of all its contexts, of `size` words each
 abbrev pub run_code : Option Session → ℕ → List ℕ → ℤ
 run_code before size words = if is_none before then ERR_NO_HOST else contexts_code size words

@@ -28,11 +28,13 @@ have_known_words size zero words = true
 have_known_words size (suc count) words =
     has_known_words (take size words) && have_known_words size count (drop size words)
 
--- the contexts of a call, each of `size` words, as a run is given them
+-- the contexts of a call, each of `size` words, as a run is given them; if the last one is cut off,
+-- its words are left out, and the call has the code of an error (`contexts_code`)
 abbrev pub contexts_of : ℕ → List ℕ → List (List ℕ)
 contexts_of size words = fitted_all size (length words / size) words
 
--- the code of a call with contexts of `size` words, unless it is out of memory
+-- the code of a call with contexts of `size` words, unless it is out of memory: ERR_SIZE if `size`
+-- is 0 or the last context is cut off, ERR_TOO_BIG if a word that no run is given is not 0
 abbrev pub contexts_code : ℕ → List ℕ → ℤ
 contexts_code size words =
     if nat_eq size 0 || not (nat_eq (length words % size) 0) then ERR_SIZE

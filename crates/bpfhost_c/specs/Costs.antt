@@ -5,11 +5,13 @@ use Rattle.host_core.specs.State.{TenantState}
 use Rattle.verifier.specs.declared.cost.Cost.{Cost}
 use Rattle.bpfhost_c.specs.declared.costs.ProgramCost.{ProgramCost}
 
--- a cost as C has it: both numbers are 0 if there is no program, and no program has 0 instructions
+-- the cost of a program as C has it: both numbers are 0 if there is none (None), and no program has
+-- 0 instructions
 abbrev pub shown_cost : Option Cost → ProgramCost
 shown_cost None = record { instructions = 0; calls = 0 }
 shown_cost (Some cost) = record { instructions = cost.instructions; calls = cost.calls }
 
--- `shown` is the cost of the program that descriptor fd of a tenant names, as C has it
+-- `shown` is the cost of the program that descriptor fd of a tenant names, as C has it; both
+-- numbers are 0 if fd names no program, or the tenant is not served (None)
 abbrev pub ShowsCost : Option TenantState → ℕ → ProgramCost → Type 0
 ShowsCost s fd shown = (cost : Option Cost) × HasCostAt s fd cost × (shown ≡ shown_cost cost)

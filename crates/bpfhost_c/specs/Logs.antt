@@ -13,7 +13,8 @@ style_of n =
     if n == 0 then Some New else
     (if n == 1 then Some Whole else (if n == 2 then Some Graph else None))
 
--- the log of slots in the style of a number, and whether their program is accepted
+-- `text` is the log of the slots in the style with this number, if descriptors name the objects
+-- `named`, and `accepted` is whether their program is accepted; false if no style has the number
 abbrev pub Logs : ℕ → List ℕ → List Named → Bool → List ℕ → Type 0
 Logs number slots named accepted text =
     (style : LogStyle)
@@ -33,7 +34,8 @@ text_in text (byte ∷ rest) =
     take (fitting text (byte ∷ rest)) text
     ++ 0 ∷ drop (fitting text (byte ∷ rest) + 1) (byte ∷ rest)
 
--- the code of a call for a log, unless it is out of memory
+-- the code of a call for a log in the style with this number, unless it is out of memory; `before`
+-- is what the handle has, None if it is empty
 abbrev pub verify_code : Option Session → ℕ → ℤ
 verify_code before style =
     if is_none before

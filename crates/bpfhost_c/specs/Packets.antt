@@ -4,8 +4,10 @@ use Rattle.host_core.specs.Batch.{RunsFor, ChangesTenant, IsAllowedFor, refusal_
 use Rattle.host_core.specs.TenantBatch.{packets_in, inputs_of, are_contexts}
 use Rattle.host_core.specs.State.{TenantState}
 
--- A batch of a tenant with its status. If the status is 0, each packet was run, and the results at
--- the front of `room` give `written`; else none was run, and nothing has changed.
+-- A batch of the program at descriptor fd of a tenant, with its status. The packets lie one after
+-- another in `bytes`, up to their `ends`; `before` and `after` are the states of all tenants. If
+-- the status is 0, each packet was run, and the results at the front of `room` give `written`; else
+-- none was run, and nothing has changed.
 pub record RunsPackets (tenant fd : ℕ) (contexts : List (List ℕ)) (bytes ends room written : List ℕ)
     (status : ℤ) (before after : List TenantState) : Type 0 where
   pub told : status
@@ -18,13 +20,15 @@ pub record RunsPackets (tenant fd : ℕ) (contexts : List (List ℕ)) (bytes end
   pub refused : status ≢ pos 0 → (after ≡ before) × (written ≡ room)
   pub others : ChangesTenant tenant before after
 
--- the contexts of the first n of so many packets: the first n if each has its own, else all of them
+-- the contexts of the first n of so many packets: the first n if each packet has its own, else all
+-- of them: one for all packets, or a number of them for which the batch is rejected
 abbrev pub front_contexts : ℕ → ℕ → List (List ℕ) → List (List ℕ)
 front_contexts packets n contexts = if length contexts == packets then take n contexts else contexts
 
--- A bound on executed instructions makes a batch shorter: its first packets are a batch, as many as
--- the bound allows. A batch with neither one context nor one for each packet is not made shorter,
--- since it is rejected as a whole. `ran` is the number of packets that were run.
+-- A bound on executed instructions, unless it is 0, makes a batch shorter: its first packets are a
+-- batch, as many as the bound allows (`packets`). A batch with neither one context nor one for each
+-- packet is not made shorter, since it is rejected as a whole. `ran` is the number of packets that
+-- were run.
 pub record RunsBounded (tenant fd bound : ℕ) (contexts : List (List ℕ))
     (bytes ends room written : List ℕ) (status : ℤ) (ran : ℕ)
     (before after : List TenantState) : Type 0 where

@@ -29,7 +29,8 @@ abbrev pub map_of : Result MapShape Errno → Option Target
 map_of (Ok shape) = Some (target.Map shape)
 map_of (Err errno) = None
 
--- the object of a descriptor: a program, or a map of the shape with these fields of MAP_CREATE
+-- the object of a descriptor: a program if its kind is 0, else a map of the shape with these fields
+-- of MAP_CREATE and flags 0; None if MAP_CREATE would have an error
 abbrev pub object_of : Descriptor → Option Target
 object_of d =
     if d.kind == 0 then Some target.Program
@@ -66,18 +67,20 @@ Prepares named slots None r =
 
 -- ---- installing
 
--- the code of a call that installs a program, if it fits the tenant
+-- the code of a call that installs a program, if it fits the tenant; `session` and `program` are
+-- what the two handles have, None if they are empty
 abbrev pub install_code : Option Session → Option Accepted → ℤ
 install_code session program =
     if is_none session then ERR_NO_HOST else (if is_none program then ERR_NO_PROGRAM else DONE)
 
--- there is a program, and it fits the tenant
+-- the handle has a program (not None), and it fits the tenant: each descriptor of its maps names a
+-- map of the shape with which it was accepted; nothing is required of a tenant that is not served
 abbrev pub FitsPrepared : Option Accepted → Option TenantState → Type 0
 FitsPrepared None s = ⊥
 FitsPrepared (Some a) s = FitsTenant a s
 
 -- what a host does at the frame of a tenant that loads the program, whose reply has this status;
--- without a program nothing is installed
+-- false without a program (None)
 abbrev pub InstallsPrepared : ℕ → Option Accepted → ℤ → HostState → HostState → Type 0
 InstallsPrepared tenant None status before after = ⊥
 InstallsPrepared tenant (Some a) status before after = Installs tenant a.code status before after

@@ -40,7 +40,8 @@ fn fit(words: &[u32]) -> [u32; GIVEN_WORDS]
     context
 }
 
-/// The first `count` contexts in `words`, each of `size` words, as a run is given them (`fit`). `AllocError`: out of memory.
+/// The first `count` contexts in `words`, each of `size` words, as a run is given them (`fit`). The caller counts only whole contexts, so
+/// there are as many. `AllocError`: out of memory.
 #[tactic(auto, using(crate::proofs::Loops::fitted_more, crate::proofs::Loops::room_step))]
 fn fit_all(
     alloc: Global,
@@ -77,7 +78,8 @@ fn is_known(words: &[u32]) -> bool
     true
 }
 
-/// Whether each of the first `count` contexts in `words`, of `size` words each, has only zeros after the words that a run is given.
+/// Whether each of the first `count` contexts in `words`, of `size` words each, has only zeros after the words that a run is given. The
+/// caller counts only whole contexts, so there are as many.
 #[tactic(auto, using(crate::proofs::Loops::known_step, crate::proofs::Loops::room_step))]
 fn are_known(words: &[u32], size: usize, count: usize) -> bool
     requires { count * size ≤ length words.now }
@@ -96,7 +98,7 @@ fn are_known(words: &[u32], size: usize, count: usize) -> bool
 
 /// Contexts of `size` words, one after another, as a run is given them, in memory of their own.
 ///
-/// `Err`: the code of the call: `ERR_SIZE` if `size` is 0 or the last context is cut off, `ERR_TOO_BIG` if one has a word that no run is
+/// `Err`: the code that C gets: `ERR_SIZE` if `size` is 0 or the last context is cut off, `ERR_TOO_BIG` if one has a word that no run is
 /// given and that is not 0, or `ERR_NO_MEMORY`.
 fn copied_contexts(
     alloc: Global,
@@ -125,7 +127,7 @@ fn copied_contexts(
 /// Contexts of `size` words, one after another, as a run is given them: the words themselves if `size` is `GIVEN_WORDS`, else
 /// copies.
 ///
-/// `Err`: the code of the call: `ERR_SIZE` if `size` is 0 or the last context is cut off, `ERR_TOO_BIG` if one has a word that no run is
+/// `Err`: the code that C gets: `ERR_SIZE` if `size` is 0 or the last context is cut off, `ERR_TOO_BIG` if one has a word that no run is
 /// given and that is not 0, or `ERR_NO_MEMORY`.
 pub(crate) fn given_contexts(
     alloc: Global,

@@ -18,7 +18,8 @@ pub struct ProgramCost {
     pub calls: u32,
 }
 
-/// A cost as C has it; both numbers are 0 if there is none. A program has at least one instruction.
+/// The cost of a program as C has it; both numbers are 0 if there is no program (`None`). A program has at least one instruction, so 0
+/// instructions are never a program's.
 fn shown(cost: Option<Cost>) -> ProgramCost
     ensures { result ≡ shown_cost cost }
 {

@@ -11,8 +11,8 @@ use std::marker::Model;
 use std::mem::replace;
 use std::ptr::null_mut;
 
-/// A pointer to a session, or null. For C it is an opaque type of the size of a pointer, since `alloc` has no bytes. `session`, for
-/// contracts only, is what the pointer leads to.
+/// A pointer to a session, cast to a pointer to bytes, or null. For C it is an opaque type of the size of a pointer, since `alloc` has no
+/// bytes. `session`, for contracts only, is what the pointer leads to; `None` if it is null.
 #[repr(C)]
 pub struct Handle {
     at: *mut u8,
@@ -46,7 +46,7 @@ impl Handle {
         }
     }
 
-    /// The raw pointer of the session's box, with which the caller gets the box and has to free it; `None` if the handle is empty.
+    /// The raw pointer of the session's box, which the caller then owns and has to free; `None` if the handle is empty.
     pub(crate) fn into_raw_box(self) -> Option<RawBox<Session, Global>>
         ensures { option_map (λ raw. raw.value) result ≡ self.session }
     {
@@ -79,8 +79,8 @@ impl Handle {
     }
 }
 
-/// Frees the session of a handle that is dropped. It is never inlined, unlike `drop` of `Handle`. `put` drops the handle that it replaces,
-/// which `take` has emptied before: so of this drop a call has only the test for null in its code.
+/// Frees the session of a handle that is dropped. Most handles that are dropped are empty: `put` drops the one that it replaces, which
+/// `take` has emptied. So `drop` of `Handle`, a test for null, is inlined, and this function, which only `bpfhost_c_free` needs, is not.
 #[cold]
 #[inline(never)]
 fn free(session: Box<Session>) {
@@ -88,7 +88,7 @@ fn free(session: Box<Session>) {
 }
 
 impl Drop for Handle {
-    /// Frees the session, if there is one. It is inlined in each call, and `free`, which only a full handle needs, is not.
+    /// Frees the session, if there is one. It is inlined in each call, and `free`, which only a handle with a session needs, is not.
     #[inline(always)]
     fn drop(self) {
         if let Some(raw) = self.into_raw_box() {

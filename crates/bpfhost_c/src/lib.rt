@@ -154,7 +154,8 @@ use std::alloc::Global;
 pub use verifying::{Logged, bpfhost_c_verify};
 use version::{ABI, VERSION};
 
-/// The address of what is lent, a reply or the frames of a part of a save, and its length in bytes.
+/// The address and the number of the bytes that a call lends: a reply, or the frames of a part of a save. They lie in the library's own
+/// memory, and the caller may read them until the next call with the handle.
 #[derive(Drop)]
 #[repr(C)]
 pub struct Lent {
@@ -162,10 +163,11 @@ pub struct Lent {
     pub length: usize,
 }
 
-/// Creates a host for 1 to `MOST_TENANTS` tenants, and stores it in an empty handle. `first` and `second` are the seed of its hash maps:
-/// two random words, which no tenant knows.
+/// Creates a host for 1 to `MOST_TENANTS` (64) tenants, and stores it in an empty handle. `first` and `second` are the seed of its hash
+/// maps: two words that the caller draws at random and keeps secret from tenants.
 ///
-/// Returns `DONE`; else `ERR_TENANT_COUNT`, `ERR_HAS_HOST` or `ERR_NO_MEMORY`, and the handle is unchanged.
+/// Returns `DONE`; else `ERR_TENANT_COUNT`, `ERR_HAS_HOST` or `ERR_NO_MEMORY`, and the handle is unchanged: a host that `take` finds in it
+/// is put back.
 #[unsafe(no_mangle)]
 pub extern "C" fn bpfhost_c_new(
     alloc: Global,
@@ -195,7 +197,8 @@ pub extern "C" fn bpfhost_c_new(
     }
 }
 
-/// Copies bytes to the front of `room`, which is no shorter, and returns how many.
+/// Copies `bytes` to the front of `room`, and returns how many they are. They fit: the caller has tested that `room` has room for the
+/// longest reply.
 fn copy_to_front(bytes: &[u8], room: &mut [u8]) -> usize
     requires { length bytes.now ≤ length room.old }
     ensures count { result ≡ length bytes.now }
@@ -207,7 +210,7 @@ fn copy_to_front(bytes: &[u8], room: &mut [u8]) -> usize
 }
 
 /// Handles a frame (what follows the length field) of any length, copies the reply to the front of `room` and its length to
-/// `written`.
+/// `written`. `room` needs `LONGEST_REPLY` bytes for every frame: how long a reply is, is known only when the frame was handled.
 ///
 /// Returns `DONE`; else `ERR_BUFFER_TOO_SMALL` or `ERR_NO_HOST`, and the host, `room` and `written` are unchanged.
 #[unsafe(no_mangle)]
@@ -240,8 +243,8 @@ pub extern "C" fn bpfhost_c_handle(
     DONE
 }
 
-/// Handles a frame, and writes the address and the length of the reply to `lent`. They are valid until the next call with this
-/// handle.
+/// Handles a frame (what follows the length field) of any length, and writes the address and the length of the reply, in the session's own
+/// buffer, to `lent`. They are valid until the next call with this handle.
 ///
 /// Returns `DONE`; else `ERR_NO_HOST`, and the handle and `lent` are unchanged.
 #[unsafe(no_mangle)]
@@ -270,7 +273,7 @@ pub extern "C" fn bpfhost_c_handle_lent(
     DONE
 }
 
-/// Runs the program at a descriptor of a tenant on many packets, one after another. The packets lie one after another in `bytes`, and
+/// Runs the program at descriptor `fd` of a tenant on many packets, one after another. The packets lie one after another in `bytes`, and
 /// `ends` has for each how many bytes are before its end. `contexts` has one context for all packets, or one for each. Each context
 /// has `size` words: if they are fewer than a run is given, the others count as 0; if they are more, the rest have to be 0.
 ///
@@ -280,8 +283,9 @@ pub extern "C" fn bpfhost_c_handle_lent(
 /// Writes the result of each packet to the front of `results`, 0 to `status` and the number of packets to `ran`; or, if the batch is
 /// rejected, the status of the error that its frames would get, and 0 to `ran`, and then no packet was run.
 ///
-/// Returns `DONE`; else `ERR_NO_HOST`, `ERR_SIZE`, `ERR_TOO_BIG` or `ERR_NO_MEMORY`, and the host, `results`, `status` and `ran` are
-/// unchanged. With contexts of as many words as a run is given it takes no memory.
+/// Returns `DONE`; else `ERR_NO_HOST`, `ERR_SIZE` (`size` is 0 or the last context is cut off), `ERR_TOO_BIG` (a word that has to be 0 is
+/// not) or `ERR_NO_MEMORY`, and the host, `results`, `status` and `ran` are unchanged. Contexts of as many words as a run is given take no
+/// memory.
 #[unsafe(no_mangle)]
 pub extern "C" fn bpfhost_c_run_packets(
     alloc: Global,
@@ -332,10 +336,10 @@ pub extern "C" fn bpfhost_c_run_packets(
     code
 }
 
-/// Saves a part of a tenant: writes the address and the length of its frames, each of which has its length before it, to `lent`. They
-/// are valid until the next call with this handle. A new tenant of this number that is given the frames of all parts from 0 on, on
-/// this host or another one, then replies as this one does, whatever calls this host had. Between two parts the tenant must not
-/// change.
+/// Saves part `part` of a tenant, counted from 0: writes the address and the length of its frames, each of which has its length before
+/// it, to `lent`. They are valid until the next call with this handle. If a new tenant of this number, on this host or another one, is
+/// given the frames of all parts in order and no memory is refused to it, it then replies as this one does, whatever calls this host
+/// had. Between two parts the tenant must not change.
 ///
 /// Returns `DONE`; else `ERR_NO_PART` after the last part and for a tenant that is not served, `ERR_NO_MEMORY` or `ERR_NO_HOST`,
 /// and `lent` is unchanged.

@@ -11,8 +11,8 @@ use std::mem::replace;
 use std::ptr::null_mut;
 use verifier::Verified;
 
-/// A pointer to a prepared program, or null. For C it is an opaque type of the size of a pointer, since `alloc` has no bytes. `program`,
-/// for contracts only, is what the pointer leads to.
+/// A pointer to a prepared program, cast to a pointer to bytes, or null. For C it is an opaque type of the size of a pointer, since `alloc`
+/// has no bytes. `program`, for contracts only, is what the pointer leads to; `None` if it is null.
 #[repr(C)]
 pub struct Prepared {
     at: *mut u8,
@@ -46,7 +46,7 @@ impl Prepared {
         }
     }
 
-    /// The raw pointer of the program's box, with which the caller gets the box and has to free it; `None` if the handle is empty.
+    /// The raw pointer of the program's box, which the caller then owns and has to free; `None` if the handle is empty.
     pub(crate) fn into_raw_box(self) -> Option<RawBox<Verified, Global>>
         ensures { option_map (λ raw. raw.value) result ≡ self.program }
     {
@@ -71,7 +71,7 @@ impl Prepared {
         }
     }
 
-    /// Puts a program in. A program that the handle had is dropped.
+    /// Puts a program in. A program that the handle had is dropped; in a call it has none, since `take` was called before.
     pub(crate) fn put(&mut self, program: Box<Verified>)
         ensures { self.new.program ≡ Some program.value }
     {

@@ -21,7 +21,7 @@ use tagged_model::{Named, Target};
 use tenant::{Errno, asked_shape};
 use verifier::{Refusal, Verified, WorkingMemory, verify_slots};
 
-/// The most descriptors that a tenant can have open.
+/// The most descriptors that a tenant can have open, so a program is prepared for no more.
 const MOST_DESCRIPTORS: usize = 64;
 
 /// A descriptor that a program names, and the object that it is to name. `kind` is 0 for a program, else a type of bpf(2), 1 for a hash map
@@ -136,11 +136,12 @@ fn shown_refusal(refusal: Refusal) -> PreparedRefusal
     }
 }
 
-/// Verifies the slots of a program with these objects, and stores it in an empty handle; or stores none, and writes why the slots are
-/// refused. The host is not needed, so this can be done on any thread. A refusal is that of PROG_LOAD if the descriptors name these
-/// objects. If `descriptors` has the same descriptor more than once, the first entry counts.
+/// Verifies the slots of a program with these objects, stores it in an empty handle, and writes 0 to all of `refusal`; or stores none, and
+/// writes why the slots are refused, as PROG_LOAD refuses them if the descriptors name these objects. No host is needed, so this can be
+/// done on any thread. If `descriptors` has the same descriptor more than once, the first entry counts.
 ///
-/// Returns `DONE`; else `ERR_HAS_PROGRAM`, `ERR_DESCRIPTORS` or `ERR_NO_MEMORY`, and `prepared` and `refusal` are unchanged.
+/// Returns `DONE` in both cases; else `ERR_HAS_PROGRAM`, `ERR_DESCRIPTORS` (more than 64, or an object that there cannot be) or
+/// `ERR_NO_MEMORY`, and `prepared` and `refusal` are unchanged.
 #[unsafe(no_mangle)]
 pub extern "C" fn bpfhost_c_prepare(
     alloc: Global,
@@ -179,9 +180,9 @@ pub extern "C" fn bpfhost_c_prepare(
     }
 }
 
-/// Opens a prepared program of a tenant, and writes the status of the reply to the frame that would load it: a descriptor, or the negated
-/// error number. What happens is what happens at this frame, but the program is neither copied nor verified again. `prepared` is empty
-/// afterwards, whatever the status is.
+/// Opens a prepared program at a descriptor of `tenant`, and writes the status of the reply to the frame that would load it: the
+/// descriptor, or the negated error number. What happens is what happens at this frame, but the program is neither copied nor verified
+/// again. `prepared` is empty afterwards, whatever the status is.
 ///
 /// Returns `DONE`; else `ERR_NO_HOST`, `ERR_NO_PROGRAM`, or `ERR_STALE` if a descriptor of the program names no map of the shape with
 /// which it was prepared, and the host, `prepared` and `status` are unchanged.

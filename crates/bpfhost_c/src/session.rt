@@ -26,7 +26,7 @@ use verifier::Verified;
 pub struct Session {
     pub(crate) host: Host,
     pub(crate) reply: Vec<u8>,
-    /// The frames that were saved last.
+    /// The frames of the part that was saved last; empty before the first save, and after a save that found no part or had no memory.
     pub(crate) saved: Vec<u8>,
     alloc: Global,
     ghost room: { longest_reply ≤ vec_capacity reply },
@@ -55,7 +55,7 @@ pub(crate) struct Ran {
 }
 
 /// The contexts of the first `count` of `packets` packets: the first `count` if each packet has its own, else all contexts: one
-/// for all packets, or a number of them for which the batch is rejected.
+/// for all packets, or a number of them for which the batch is rejected. `count` comes from `allowed_packets`, so it is at most `packets`.
 fn front_contexts(
     contexts: &[[u32; GIVEN_WORDS]],
     packets: usize,
@@ -72,7 +72,8 @@ fn front_contexts(
 }
 
 impl Session {
-    /// A session with a new host. `AllocError`: out of memory.
+    /// A session with a new host for `tenants` tenants, a number that the caller has tested. It has no reply and no saved part yet.
+    /// `AllocError`: out of memory.
     pub(crate) fn new(
         alloc: Global,
         tenants: usize,
@@ -101,7 +102,8 @@ impl Session {
         ensures recorded { Records frame.now self.new.reply.items self.old.host self.new.host }
         ensures bound { length self.new.reply.items ≤ longest_reply }
     {
-        // The vector has the capacity for the longest reply, so it can be a buffer for one.
+        // `ReplyBuf` takes the vector, and gives it back afterwards. It has the capacity for the longest reply (`room`), so that
+        // `from_vec` never returns `None`.
         let room = replace(&mut self.reply, Vec::new(self.alloc));
         let Some(mut reply) = ReplyBuf::from_vec(room) else {
             unreachable!()
@@ -110,8 +112,8 @@ impl Session {
         self.reply = reply.into_vec();
     }
 
-    /// Saves part `part` of a tenant, counted from 0. Its frames are then in `saved`. False if there is no such part, or the tenant is not
-    /// served; then `saved` is empty. `AllocError`: out of memory.
+    /// Saves part `part` of a tenant, counted from 0. True: its frames are in `saved`. False: there is no such part, or the tenant is not
+    /// served. `AllocError`: out of memory. In both of these cases `saved` is empty.
     pub(crate) fn save(&mut self, tenant: usize, part: usize) -> Result<bool, AllocError>
         ensures saved { IfOk result (λ found. saved_part self.old.host tenant part
             ≡ (if found then Some self.new.saved.items else None)) }
@@ -131,9 +133,9 @@ impl Session {
         }
     }
 
-    /// Opens a program of `tenant` that was verified elsewhere, and returns the status of the reply to the frame that would load it. If a
-    /// descriptor of its maps names no map of the shape with which it was accepted, the program is given back, and the session is
-    /// unchanged.
+    /// Opens a program that was verified without a host at a descriptor of `tenant`, and returns the status of the reply to the frame that
+    /// would load it: the descriptor, or the negated error number. `Err`: a descriptor of its maps names no map of the shape with which it
+    /// was accepted. Then the program is given back, and the session is unchanged.
     pub(crate) fn install(
         &mut self,
         tenant: u16,
@@ -149,7 +151,8 @@ impl Session {
         self.host.install(tenant, program)
     }
 
-    /// Runs a program of a tenant on the packets of a batch, and returns the status: 0, or that of the refusal.
+    /// Runs the program at descriptor `fd` of a tenant on the packets of a batch, writes the results to the front of `results`, and returns
+    /// 0. If the batch is rejected, no packet is run, and the status of the error is returned.
     pub(crate) fn run_packets(
         &mut self,
         tenant: usize,
@@ -176,8 +179,9 @@ impl Session {
         }
     }
 
-    /// The number of packets at the front of a batch that a bound on executed instructions allows. It has `contexts` contexts and
-    /// `packets` packets. A batch with neither one context nor one for each packet is not made shorter, since it is rejected as a whole.
+    /// The number of packets at the front of a batch that a bound on executed instructions allows; 0 is no bound. The batch has `contexts`
+    /// contexts and `packets` packets, and runs the program at descriptor `fd`. If it has neither one context nor one for each packet, it
+    /// is not made shorter, since it is rejected as a whole.
     fn allowed_packets(
         &self,
         tenant: usize,
@@ -197,8 +201,8 @@ impl Session {
         self.host.allowed_packets(tenant, fd, bound, packets)
     }
 
-    /// Runs a program of a tenant on the packets at the front of a batch that a bound on executed instructions allows; 0 is no bound. If
-    /// the batch is rejected, none was run.
+    /// Runs the program at descriptor `fd` of a tenant on the packets at the front of a batch that a bound on executed instructions allows;
+    /// 0 is no bound. Their results are written to the front of `results`. If the batch is rejected, none was run.
     pub(crate) fn run_bounded(
         &mut self,
         tenant: usize,
@@ -226,10 +230,11 @@ impl Session {
         Ran { status, packets }
     }
 
-    /// Runs a program of a tenant on the packets at the front of a batch that a bound on executed instructions allows, with contexts of
-    /// any size; a bound of 0 is none.
+    /// Runs the program at descriptor `fd` of a tenant on the packets at the front of a batch that a bound on executed instructions allows;
+    /// 0 is no bound. The batch has contexts of any size, which are brought to the words that a run is given.
     ///
-    /// `Err`: the code of the call, by its contexts: `ERR_SIZE`, `ERR_TOO_BIG` or `ERR_NO_MEMORY`. Then nothing is changed.
+    /// `Err`: the code that C gets. `ERR_SIZE`: the size is 0 or the last context is cut off. `ERR_TOO_BIG`: a context has a word that no
+    /// run is given and that is not 0. `ERR_NO_MEMORY`: out of memory. Then nothing is changed.
     pub(crate) fn run_sized(
         &mut self,
         tenant: usize,

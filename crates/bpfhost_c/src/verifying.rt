@@ -13,7 +13,7 @@ use host_core::Host;
 use log_core::{LogStyle, SlotsLog, log_of_slots};
 use std::alloc::{AllocError, Global};
 
-/// The length of a whole log in bytes, even if it did not fit in the room, and whether the program is accepted.
+/// The length of a whole log in bytes, even if only its front fitted in the caller's room, and whether the program is accepted.
 #[derive(Drop)]
 #[repr(C)]
 pub struct Logged {
@@ -46,8 +46,8 @@ fn write_text(text: &[u8], room: &mut [u8])
     room[count] = 0;
 }
 
-/// The log of the program that slots spell, or the line of their refusal if they spell none. The objects are those that the descriptors of
-/// `tenant` name. `AllocError`: out of memory.
+/// The log of the program that the bytes of `slots` spell, or the line of their refusal if they spell none. The program is verified with
+/// the objects that the descriptors of `tenant` name; for a tenant that is not served nothing is open. `AllocError`: out of memory.
 fn log_in(
     alloc: Global,
     host: &Host,

@@ -12,7 +12,7 @@ use verifier::VerifyFault;
 /// What is wrong with a line, or with what it names.
 #[derive(Debug, Drop, Error)]
 pub enum CaseError {
-    /// The text is no program, or has no hex lines.
+    /// The text does not assemble to a program, or is not made of hex lines.
     #[error("line {} fault {}", .0.line, .0.kind.number())]
     Text(#[from] TextFault),
     /// The slots are no program.
@@ -30,7 +30,7 @@ pub enum CaseError {
     /// A number is out of its range.
     #[error("out of range")]
     OutOfRange,
-    /// The line names no map that is live, or has a program that does not load exactly one.
+    /// The line is about a map that is not live, or that no line before has created; or its program does not load exactly one map.
     #[error("no such map")]
     NoMap,
     /// The bytes are fewer or more than those of a key or a value of the map.
@@ -48,6 +48,7 @@ pub enum CaseError {
     /// No line begins with this word.
     #[error("unknown word")]
     UnknownWord,
+    /// Out of memory.
     #[error(transparent)]
     Memory(#[from(alloc)] AllocError),
 }

@@ -17,7 +17,7 @@ pub struct Descriptors {
     named: Vec<Named>,
 }
 
-/// The shape `KIND:KEY:VALUE:MAX`. `read_shape` parses it with a descriptor before it, and 3 is one.
+/// The shape that a text `KIND:KEY:VALUE:MAX` means. `read_shape` needs a descriptor before it; any valid one, as 3, will do.
 pub fn shape_of(alloc: Global, text: &str) -> Result<MapShape, CaseError> {
     let argument = format!(in alloc; "3:{text}")?;
     match read_shape(argument.as_str())?.target {

@@ -26,7 +26,8 @@ fn append_output(alloc: Global, text: &mut String, output: &str) -> Result<(), A
     Ok(())
 }
 
-/// The status of a program that was run, and below it the lines of its output and of its fault, those of `faults`.
+/// The text of how a program ended: its status, and below it the lines of `output` and, after `fault: `, those of `faults`, which the
+/// program wrote as its fault. `NoText` if `faults` are not UTF-8.
 pub fn outcome(
     alloc: Global,
     status: u8,

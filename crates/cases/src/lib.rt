@@ -1,8 +1,8 @@
 //! Worked cases as data: the notation of their lines, the error that a line may have, and the loop that plays the lines
 //! of standard input.
 //!
-//! Each line is a case: its first word says what is done with the rest. It is written unchanged, and its answer below it,
-//! indented by two blanks. A line that is empty or begins with `#` is a remark, and has no answer.
+//! Each line is a case: its first word says what is done with the rest. It is written unchanged, and its outcome below it,
+//! indented by two blanks. A line that is empty or begins with `#` is a remark, and has no outcome.
 //!
 //! | Notation | Means |
 //! |---|---|
@@ -12,7 +12,7 @@
 //! | hex digits | bytes; blanks may separate them |
 //! | `FD:KIND:KEY:VALUE:MAX` | a map at a descriptor, as the arguments of `verify` name it; `KIND:KEY:VALUE:MAX` is its shape |
 //!
-//! Texts in answers have the same notation. Of a program that is run, the answer is its status, and below it the lines of
+//! Texts in outcomes have this notation too. Of a program that is run, the outcome is its status, and below it the lines of
 //! its output and of its fault.
 #![tactic(auto)]
 

@@ -24,7 +24,7 @@ pub fn first_word(text: &str) -> (&str, &str)
     text.split_once(' ').unwrap_or((text, ""))
 }
 
-/// The arguments of a program, which are before the first `<`, and its input, which is after it.
+/// The arguments of a program, which are before the first `<`, and its input, which is after it. `Notation` if there is no `<`.
 pub fn input_of(text: &str) -> Result<(&str, &str), CaseError> {
     text.split_once('<').ok_or(CaseError::Notation)
 }

@@ -11,10 +11,10 @@ use std::fmt::Write;
 /// The number of bytes in one group of hex digits, of frames, replies, keys and values.
 pub const GROUP: usize = 4;
 
-/// The greatest number of times that a part is repeated.
+/// The greatest number of times that a part is repeated: as many as the program's longest input has bytes.
 const MOST_TIMES: u32 = 1_048_576;
 
-/// A number of times, from decimal digits, at most `MOST_TIMES`.
+/// A number of times, from its decimal digits. `Notation` if it is no number, or above `MOST_TIMES`.
 pub fn times(digits: &str) -> Result<u32, CaseError> {
     match digits.parse::<u32>() {
         Ok(times) if times <= MOST_TIMES => Ok(times),
@@ -30,7 +30,8 @@ fn append_characters(bytes: &mut Vec<u8>, text: &str) -> Result<(), AllocError> 
     Ok(())
 }
 
-/// Appends the byte with the two hex digits at the front of `text`, which followed a `\x`, and the characters after them.
+/// Appends the byte with the two hex digits at the front of `text`, which followed a `\x`, and the characters after them. `Notation` if
+/// there are no two characters, `Digits` if they are no hex digits.
 fn append_escaped(bytes: &mut Vec<u8>, text: &str) -> Result<(), CaseError> {
     let (digits, rest) = text.split_at_checked(2).ok_or(CaseError::Notation)?;
     let byte = <[u8; 1] as FromHex>::from_hex(digits)?;
@@ -77,7 +78,8 @@ fn append_times(
     Ok(())
 }
 
-/// Appends the bytes of a repetition, given without its first brace, and of the text after it.
+/// Appends the bytes of a repetition, given without its first brace, and of the text after it. `Notation` if the second brace, the `*` or
+/// the number of times is missing.
 fn append_repeated(alloc: Global, bytes: &mut Vec<u8>, text: &str) -> Result<(), CaseError> {
     let (repetition, rest) = text.split_once('}').ok_or(CaseError::Notation)?;
     let (digits, part) = repetition.split_once('*').ok_or(CaseError::Notation)?;
@@ -87,7 +89,8 @@ fn append_repeated(alloc: Global, bytes: &mut Vec<u8>, text: &str) -> Result<(),
     append_text(bytes, rest)
 }
 
-/// The bytes that a text in this notation represents. Each piece but the first follows a `{`.
+/// The bytes that a text in the notation of cases represents, with its `;`, `\xHH` and `{COUNT*PART}`. Each piece but the first follows a
+/// `{`.
 pub fn written(alloc: Global, text: &str) -> Result<Vec<u8>, CaseError> {
     let mut bytes = Vec::new(alloc);
     for (index, piece) in text.split('{').enumerate() {
@@ -100,7 +103,7 @@ pub fn written(alloc: Global, text: &str) -> Result<Vec<u8>, CaseError> {
     Ok(bytes)
 }
 
-/// The bytes as text, if they are UTF-8.
+/// The bytes as text. `NoText` if they are not UTF-8.
 pub fn text_of(bytes: &[u8]) -> Result<&str, CaseError> {
     str::from_utf8(bytes).map_err(|_| CaseError::NoText)
 }
@@ -114,7 +117,7 @@ pub fn bytes_of(alloc: Global, text: &str) -> Result<Vec<u8>, CaseError> {
     Ok(bytes)
 }
 
-/// The bytes of hex digits, which are as many as those of a map's key or value.
+/// The bytes of hex digits, for a map's key or value. `Size` unless they are `size` bytes.
 pub fn bytes_of_size(alloc: Global, text: &str, size: u32) -> Result<Vec<u8>, CaseError>
     ensures { IfOk result (λ bytes. length bytes.items ≡ size) }
 {

@@ -6,11 +6,11 @@ use std::io;
 
 /// Plays the lines of a file of cases in order. Its state is what earlier lines have made.
 pub trait Player {
-    /// The answer to a line that is no remark: lines, or none.
+    /// Does what a line that is no remark asks for. Returns the lines to write below it, or the empty text.
     fn play(&mut self, line: &str) -> Result<String, CaseError>;
 }
 
-/// Writes the lines of an answer, each indented by two blanks.
+/// Writes the lines of an outcome, `answer`, each indented by two blanks.
 fn print_indented<R: Print>(rt: &R, answer: &str) -> io::Result<()> {
     for line in answer.lines() {
         println!(rt; "  {line}")?;
@@ -18,7 +18,8 @@ fn print_indented<R: Print>(rt: &R, answer: &str) -> io::Result<()> {
     Ok(())
 }
 
-/// Writes each line of standard input, and below it its answer or its error.
+/// Writes each line of standard input, and below it its outcome or its error, indented; nothing below a remark. The error is that of the
+/// input or the output.
 pub fn play_lines<R: AllocGlobal + Input + Print, P: Player>(
     rt: &R,
     player: &mut P,

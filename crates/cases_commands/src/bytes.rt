@@ -3,7 +3,7 @@
 use cases::{GROUP, hex_groups};
 use std::alloc::{AllocError, Global};
 
-/// Up to this number of bytes, all of them are written.
+/// The most bytes that are all written in an outcome; of more, it has the first 16, so that its line stays short.
 const MOST_WRITTEN: usize = 64;
 
 /// The hex digits of bytes; of more than `MOST_WRITTEN` bytes, only those of the first 16, and how many there are.

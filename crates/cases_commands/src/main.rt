@@ -1,6 +1,6 @@
 //! Worked cases of frames and descriptors. The crate `cases` has the notation.
 //!
-//! | Line | Answer |
+//! | Line | Outcome |
 //! |---|---|
 //! | `head HEX` | the tenant and the command of a frame, which is what follows the length field |
 //! | `parse HEX` | the command that a frame with a head carries, with its fields, or why it carries none |
@@ -10,7 +10,7 @@
 //! | `close FD..` | what these descriptors named before it closes them |
 //! | `full` | whether no descriptor is free |
 //!
-//! Of many bytes an answer has the first ones and their number.
+//! Of more than 64 bytes an outcome has the first 16 and their number.
 #![tactic(auto)]
 
 mod bytes;

@@ -25,7 +25,8 @@ impl CommandPlayer {
         })
     }
 
-    /// The bytes of a reply, for the words of a line: a tenant, a command, a status, and the hex digits of the payload.
+    /// The bytes of a reply, for the words of a line: a tenant, a command, a status, and the hex digits of the payload. `OutOfRange` if it
+    /// is longer than a reply may have.
     fn reply(&mut self, rest: &str) -> Result<String, CaseError> {
         let (tenant, rest) = first_word(rest);
         let (command, rest) = first_word(rest);
@@ -42,7 +43,7 @@ impl CommandPlayer {
         Ok(shown(self.alloc, self.room.bytes())?)
     }
 
-    /// Opens a number, and returns its descriptor as text; or that it is handed back, if no descriptor is free.
+    /// Opens the lowest free descriptor for a number, and returns it as text; if none is free, that the number is handed back.
     fn place(&mut self, number: u32) -> Result<String, AllocError> {
         match self.numbers.place(number) {
             Ok(fd) => fd.to_string(self.alloc),
@@ -66,7 +67,7 @@ impl CommandPlayer {
         }
     }
 
-    /// The answer to each number of a line, with commas between them. `word` is `place`, `get` or `close` (`_`).
+    /// What `place`, `get` or `close` (`_`), the `word` of the line, returns for each number after it, with commas between them.
     fn each(&mut self, word: &str, rest: &str) -> Result<String, CaseError> {
         let mut text = String::new(self.alloc);
         for number in rest.split_whitespace() {

@@ -1,6 +1,6 @@
 //! Worked cases over frames and streams of them. The crate `cases` has the notation.
 //!
-//! | Line | Answer |
+//! | Line | Outcome |
 //! |---|---|
 //! | `new TENANTS` | nothing: a new host, for the lines that follow |
 //! | `words HEX` | nothing: the context words of the runs that follow; zeros at first |

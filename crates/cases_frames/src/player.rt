@@ -7,31 +7,38 @@ use host::{HashSeed, Host, MOST_TENANTS, ReplyBuf};
 use insn_codec::write_program;
 use std::alloc::{AllocError, Global};
 
-/// The numbers of the commands in frames. All but CLOSE are those of bpf(2).
+/// The number of MAP_CREATE in frames, as in bpf(2).
 const MAP_CREATE: u16 = 0;
 
+/// The number of MAP_LOOKUP_ELEM in frames, as in bpf(2).
 const MAP_LOOKUP_ELEM: u16 = 1;
 
+/// The number of MAP_UPDATE_ELEM in frames, as in bpf(2).
 const MAP_UPDATE_ELEM: u16 = 2;
 
+/// The number of MAP_DELETE_ELEM in frames, as in bpf(2).
 const MAP_DELETE_ELEM: u16 = 3;
 
+/// The number of MAP_GET_NEXT_KEY in frames, as in bpf(2).
 const MAP_GET_NEXT_KEY: u16 = 4;
 
+/// The number of PROG_LOAD in frames, as in bpf(2).
 const PROG_LOAD: u16 = 5;
 
+/// The number of PROG_TEST_RUN in frames, as in bpf(2).
 const PROG_TEST_RUN: u16 = 10;
 
 /// The number of CLOSE in frames, which is no command of bpf(2).
 const CLOSE: u16 = 256;
 
-/// A program type of PROG_LOAD: a socket filter.
+/// A program type of PROG_LOAD: BPF_PROG_TYPE_SOCKET_FILTER of bpf(2).
 const SOCKET_FILTER: u32 = 1;
 
 /// The length in bytes of the context words that a frame of PROG_TEST_RUN has: ten of the eleven, as the host writes the packet's length.
 const WORDS: usize = 40;
 
-/// A new host for this number of tenants, in decimal digits, with a seed that is always the same.
+/// A new host for this number of tenants, in decimal digits, with a seed that is always the same. `OutOfRange` if it is not from 1 to
+/// `MOST_TENANTS`.
 pub fn new_host(alloc: Global, tenants: &str) -> Result<Host, CaseError> {
     let tenants: usize = tenants.parse()?;
     if tenants < 1 || tenants > MOST_TENANTS {
@@ -82,7 +89,7 @@ fn slots_of(alloc: Global, text: &str) -> Result<Vec<u8>, CaseError> {
     Ok(write_program(alloc, &program)?)
 }
 
-/// The host on which lines are played, and the context words of its runs.
+/// The host on which lines are played, and the bytes of the context words of its runs, as a frame has them.
 #[derive(Drop)]
 pub struct HostPlayer {
     alloc: Global,
@@ -134,8 +141,8 @@ impl HostPlayer {
         self.command(tenant, command, descriptor, &bytes)
     }
 
-    /// The reply to MAP_CREATE, for the words of a line: a tenant, and the five numbers of the body: the kind of map, the sizes of a key
-    /// and of a value, the most entries, and the flags.
+    /// The reply to MAP_CREATE, for the words of a line: a tenant, and the five numbers of the body: the kind of map, and in `sizes` the
+    /// sizes of a key and of a value, the most entries, and the flags.
     fn create(&mut self, rest: &str) -> Result<String, CaseError> {
         let (tenant, rest) = first_word(rest);
         let (kind, sizes) = first_word(rest);
@@ -214,7 +221,8 @@ impl HostPlayer {
         Ok(replies)
     }
 
-    /// The replies of the first round after round 0 that differ from `first`, those of round 0, with its number; `None` if none does.
+    /// Plays the lines again until they have been played `count` times, or their replies differ from `first`, those of round 0. Returns the
+    /// number of such a round and its replies; `None` if there is none.
     fn other_round(
         &mut self,
         lines: &str,

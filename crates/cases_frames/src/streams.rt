@@ -7,7 +7,7 @@ use host::{
 };
 use std::alloc::{AllocError, Global};
 
-/// The room for the bytes of one call of a reader.
+/// The size in bytes of the buffer for one call of a reader: small, so that a short case has more bytes than it takes.
 const ROOM: usize = 4;
 
 /// How a stream ended: `ok`, or the program's fault line, and how many frames had a reply.
@@ -29,7 +29,8 @@ fn ended(alloc: Global, end: Result<u32, ServeFault>, output: &[u8]) -> Result<S
     format!(in alloc; "{end}\n{output}")
 }
 
-/// How `serve` ends on these bytes, of which it serves at most `limit` frames, in decimal digits; and what it wrote.
+/// How `serve` ends on these bytes, of which it serves at most `limit` frames, in decimal digits; and below it what it wrote. `OutOfRange`
+/// if `limit` is above `MOST_FRAMES`.
 fn served(alloc: Global, host: &mut Host, limit: &str, input: &[u8]) -> Result<String, CaseError> {
     let limit: u32 = limit.parse()?;
     if limit > MOST_FRAMES {
@@ -50,7 +51,7 @@ pub fn stream(alloc: Global, line: &str) -> Result<String, CaseError> {
     served(alloc, &mut host, limit, &input)
 }
 
-/// The first bytes of those that the hex digits represent; `count`, in decimal digits, is how many.
+/// The first bytes of those that the hex digits represent; `count`, in decimal digits, is how many. All of them if there are fewer.
 fn front(alloc: Global, count: &str, digits: &str) -> Result<Vec<u8>, CaseError> {
     let mut input = bytes_of(alloc, digits)?;
     input.truncate(count.parse()?);
@@ -68,7 +69,8 @@ pub fn cut(alloc: Global, line: &str) -> Result<String, CaseError> {
     served(alloc, &mut host, limit, &input)
 }
 
-/// What is written and flushed of the bytes that one call of a reader gives, with room for `ROOM` of them.
+/// How many bytes one call of a reader gives, into a buffer of `ROOM` bytes, how many of them one call of a writer takes, and what it has
+/// then; or which call fails.
 pub fn relay(alloc: Global, digits: &str) -> Result<String, CaseError> {
     let input = bytes_of(alloc, digits)?;
     let mut reader = Counted::new(input.as_slice());

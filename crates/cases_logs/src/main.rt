@@ -1,6 +1,6 @@
 //! Worked cases of the verifier's log. The crate `cases` has the notation.
 //!
-//! | Line | Answer |
+//! | Line | Outcome |
 //! |---|---|
 //! | `log TEXT` | the log of a program's text |
 //! | `all TEXT` | the log of a program's text, with all that is known before each instruction |

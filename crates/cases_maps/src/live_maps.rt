@@ -19,7 +19,7 @@ pub struct LiveMapsPlayer {
     alloc: Global,
     maps: Maps,
     arena: Arena,
-    // The keys of all maps so far, each once. A map's number is the index of its key.
+    // The key (`MapKey`) of each map so far, once. A map's number in the lines is the index of its key.
     keys: Vec<MapKey>,
 }
 
@@ -34,7 +34,7 @@ impl Model for LiveMapsPlayer {
     ghost invariant = { λ p. IsPartOf 0 p.arena };
 }
 
-/// Creates a map, and adds this number of references to the one that it has.
+/// Creates a map, and adds `holds` references to the one that it has. `part` is the tenant's part of the memory, which gets its area.
 fn create_held(
     maps: &mut Maps,
     shape: MapShape,
@@ -52,7 +52,7 @@ fn create_held(
 }
 
 impl LiveMapsPlayer {
-    /// A player without maps.
+    /// A player without maps. The seed of its hash maps is always the same, and its memory has the one part.
     pub fn new(alloc: Global) -> Result<LiveMapsPlayer, AllocError> {
         Ok(LiveMapsPlayer {
             alloc,
@@ -79,7 +79,8 @@ impl LiveMapsPlayer {
         }
     }
 
-    /// The number of a map: the index of its key, which is appended if it is new. The live maps, all that contracts see, are unchanged.
+    /// The number of a map in the lines: the index of its key in `keys`, to which a new one is appended. The live maps, all that contracts
+    /// see, are unchanged.
     fn number_of(&mut self, map: MapKey) -> Result<usize, AllocError>
         ensures { self.new ≡ self.old }
     {
@@ -91,7 +92,7 @@ impl LiveMapsPlayer {
     }
 
     /// A new map, for the words of a line: its shape, and the number of references that are added. Returns its number, and the offset of
-    /// its first value in the part.
+    /// its first value in the part, or the name of the fault of the creation, as text.
     fn create(&mut self, rest: &str) -> Result<String, CaseError> {
         let (shape, holds) = first_word(rest);
         let shape = shape_of(self.alloc, shape)?;
@@ -107,7 +108,7 @@ impl LiveMapsPlayer {
         }
     }
 
-    /// Drops a reference to a map. Returns whether it is still live, as text.
+    /// Drops a reference to a map. Returns `live`, or `gone` if that was the last reference.
     fn release(&mut self, number: &str) -> Result<String, CaseError> {
         let map = self.live_map(number)?;
         // A law, which does nothing when it runs: the size of the memory is that of its part.
@@ -152,7 +153,7 @@ impl LiveMapsPlayer {
         Ok(format!(in self.alloc; "at {offset}")?)
     }
 
-    /// The value of a key, for the words of a line: the map and the key.
+    /// The value of a key as hex digits, for the words of a line: the map and the key; `absent` if the map does not have the key.
     fn find(&self, rest: &str) -> Result<String, CaseError> {
         let (number, digits) = first_word(rest);
         let map = self.live_map(number)?;
@@ -197,7 +198,8 @@ impl LiveMapsPlayer {
         Ok(done(self.alloc, self.maps.remove(map, &key), "removed")?)
     }
 
-    /// The key that follows a key, for the words of a line: the map, and the key, or nothing for the first key.
+    /// The key that follows a key, for the words of a line: the map, and the key, or nothing for the first key. So `Size` only if a key of
+    /// another size is given.
     fn next(&self, rest: &str) -> Result<String, CaseError> {
         let (number, digits) = first_word(rest);
         let map = self.live_map(number)?;

@@ -8,13 +8,13 @@ use arena::{Arena, BASE, Trace};
 use cases::{CaseError, first_word};
 use std::alloc::{AllocError, Global};
 
-/// The most parts of a memory.
+/// The most parts of a memory, few enough for `Arena::new`, which takes up to 2^28 bytes in all.
 const MOST_PARTS: usize = 16;
 
-/// The most bytes of a part.
+/// The most bytes of a part, few enough for `Arena::new`, which takes up to 2^28 bytes in all.
 const LARGEST_PART: usize = 4096;
 
-/// An address: a number, or after `+` its distance from the first address.
+/// An address: a number, or after `+` its distance from the first address. `OutOfRange` if that is 2^64 or more.
 fn address(text: &str) -> Result<u64, CaseError> {
     match text.strip_prefix('+') {
         Some(offset) => BASE
@@ -24,7 +24,7 @@ fn address(text: &str) -> Result<u64, CaseError> {
     }
 }
 
-/// The size of a load or a store in bytes.
+/// The size of a load or a store in bytes, 1, 2, 4 or 8. `OutOfRange` for any other text.
 fn size_of(text: &str) -> Result<usize, CaseError>
     ensures { IfOk result (λ size. IsSize size) }
 {
@@ -37,7 +37,7 @@ fn size_of(text: &str) -> Result<usize, CaseError>
     }
 }
 
-/// A memory of this number of parts of this size.
+/// A memory of this number of parts of this size. `OutOfRange` if one is 0, or above `MOST_PARTS` or `LARGEST_PART`.
 fn new_memory(alloc: Global, parts: usize, size: usize) -> Result<Arena, CaseError> {
     if parts < 1 || parts > MOST_PARTS || size < 1 || size > LARGEST_PART {
         return Err(CaseError::OutOfRange);
@@ -80,7 +80,7 @@ impl MemoryPlayer {
         }
     }
 
-    /// A store, for the words of a line: the address, the size and the number.
+    /// A store, for the words of a line: the address, the size and the number. `outside` if the memory does not have all these bytes.
     fn store(&mut self, rest: &str) -> Result<String, CaseError> {
         let (at, rest) = first_word(rest);
         let (size, value) = first_word(rest);
@@ -90,7 +90,7 @@ impl MemoryPlayer {
     }
 
     /// A copy, for the words of a line: the addresses of the target and of the source, and the length, which `Arena::copy` requires to be
-    /// at least 1.
+    /// at least 1. `outside` if the memory does not have all these bytes.
     fn copy(&mut self, rest: &str) -> Result<String, CaseError> {
         let (to, rest) = first_word(rest);
         let (from, length) = first_word(rest);
@@ -102,8 +102,8 @@ impl MemoryPlayer {
         Ok(done_inside(self.alloc, outcome, "copied")?)
     }
 
-    /// The bytes from an address on, each loaded by itself, for the words of a line: the address, and how many. `outside` if the memory
-    /// does not have one of them.
+    /// The bytes from an address on as decimal numbers, each loaded by itself, for the words of a line: the address, and how many, at most
+    /// 255. `outside` if the memory does not have one of them.
     fn bytes(&self, rest: &str) -> Result<String, CaseError> {
         let (from, count) = first_word(rest);
         let from = address(from)?;

@@ -8,7 +8,8 @@ use cases::{CaseError, bytes_of, bytes_of_size, first_word, shape_of};
 use seeded_hash::HashSeed;
 use std::alloc::Global;
 
-/// The element of a key, given as hex digits, as text. `size` is the size of the map's keys.
+/// The number of the element of a key, given as hex digits, as text; `absent` if the map does not have the key. `size` is the size of the
+/// map's keys.
 fn find<M: ValueMap>(alloc: Global, map: &M, size: u32, digits: &str) -> Result<String, CaseError>
     requires { size ≡ (M.keys map.now).shape.key_size }
 {
@@ -47,7 +48,8 @@ fn remove<M: ValueMap>(
     Ok(done(alloc, map.remove(&key), "removed")?)
 }
 
-/// The key that follows the key of these hex digits, or the first key if there are none. `size` is the size of the map's keys.
+/// The key that follows the key of these hex digits, or the first key if there are none. `size` is the size of the map's keys; `Size` for a
+/// key of another size.
 fn next<M: ValueMap>(alloc: Global, map: &M, size: u32, digits: &str) -> Result<String, CaseError>
     requires { size ≡ (M.keys map.now).shape.key_size }
 {
@@ -96,7 +98,7 @@ impl OneMapPlayer {
         OneMapPlayer { alloc, map: None }
     }
 
-    /// Plays the lines that follow on a new map of this shape.
+    /// Plays the lines that follow on a new map of this shape. The seed of a hash map is always the same.
     fn begin(&mut self, shape: &str) -> Result<String, CaseError> {
         let shape = shape_of(self.alloc, shape)?;
         self.map = Some(BpfMap::new(self.alloc, shape, HashSeed::new(1, 2))?);

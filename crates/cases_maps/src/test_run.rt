@@ -15,7 +15,7 @@ use std::alloc::Global;
 use tagged_model::{MapShape, Named, Outcome, Target};
 use verifier::{Verified, laws, verify};
 
-/// The descriptor of the map.
+/// The descriptor by which programs name the map: 3, a tenant's lowest.
 const DESCRIPTOR: u32 = 3;
 
 /// The program of a text in the notation of cases, accepted with a map of this shape at `DESCRIPTOR`. Each map that it loads has the shape.
@@ -35,8 +35,9 @@ fn accepted(alloc: Global, text: &str, shape: MapShape) -> Result<Verified, Case
     Ok(verified)
 }
 
-/// The result of a program, given as text, on this packet and zeros as the other words of the context, with this map, which it has to
-/// load. The map's run is ended first, as a bound map has no element that is kept apart. The memory's part 0 is used.
+/// The result of a program, given as text, on this packet and zeros as the other words of the context. `map` is live, and the program has
+/// to load it, by `DESCRIPTOR`: `NoMap` if it loads none. `OutOfRange` if the packet is too long. The map's run is ended first, as a bound
+/// map has no element that is kept apart. The values are in part 0 of the memory.
 pub fn run_text(
     alloc: Global,
     text: &str,

@@ -4,7 +4,8 @@ use cases::{CaseError, input_of, outcome, text_of, written};
 use host::{HashSeed, read_shape, run_words};
 use std::alloc::Global;
 
-/// `program`: how the program ends on these arguments and this input.
+/// `program`: how the program ends on the arguments and the input of `case`, which are separated by `<`. Any seed will do for its hash
+/// maps.
 pub fn ran(alloc: Global, case: &str) -> Result<String, CaseError> {
     let (arguments, text) = input_of(case)?;
     let arguments: Vec<&str> = arguments.split_whitespace().collect(alloc)?;
@@ -22,7 +23,7 @@ pub fn ran(alloc: Global, case: &str) -> Result<String, CaseError> {
     outcome(alloc, status, text_of(&output)?, &faults)
 }
 
-/// `map`: the map that an argument names.
+/// `map`: the descriptor and the shape of the map that an argument names, as Rust prints them for debugging.
 pub fn map_named(alloc: Global, argument: &str) -> Result<String, CaseError> {
     let map = read_shape(argument)?;
     Ok(format!(in alloc; "{map:?}")?)

@@ -14,7 +14,8 @@ pub fn grouped(alloc: Global, bytes: &[u8]) -> Result<String, AllocError> {
     hex_groups(alloc, bytes, SLOT)
 }
 
-/// The text of an instruction, the number of slots from which it was decoded, and its bytes as they are encoded, two slots at most.
+/// An instruction as Rust prints it for debugging, `slots`, from how many slots it was decoded, and its bytes as they are encoded, at most
+/// 16: two slots.
 fn encoded(alloc: Global, insn: &Insn, slots: usize) -> Result<String, AllocError> {
     let mut out = [0; 16];
     let length = encode(insn, &mut out);
@@ -51,7 +52,7 @@ fn insns_of(alloc: Global, program: &Program) -> Result<Vec<Insn>, AllocError> {
     Ok(insns)
 }
 
-/// Appends the instruction that begins at a slot, or that none does. Before each slot but the first one it appends a semicolon.
+/// Appends the instruction that begins at a slot, or `none`. Before each slot but slot 0 it appends a semicolon.
 fn append_place(text: &mut String, program: &Program, slot: usize) -> Result<(), AllocError> {
     if slot != 0 {
         text.push_str("; ")?;
@@ -62,7 +63,8 @@ fn append_place(text: &mut String, program: &Program, slot: usize) -> Result<(),
     }
 }
 
-/// `places`: what begins at each slot and after the last one. This is read from a clone of a program that is made of the instructions.
+/// `places`: what begins at each slot of a program, given by its slots, and after the last one. This is read from a clone of a program that
+/// is made of its instructions, so that `Program::new` and `clone` are played too.
 pub fn places(alloc: Global, text: &str) -> Result<String, CaseError> {
     let bytes = bytes_of(alloc, text)?;
     let program = read_program(alloc, &bytes)?;
@@ -75,7 +77,7 @@ pub fn places(alloc: Global, text: &str) -> Result<String, CaseError> {
     Ok(answer)
 }
 
-/// `exits`: the number of slots of a program of this number of exits.
+/// `exits`: the number of slots of a program of so many exits, or the fault of a program that is empty or too long.
 pub fn made_of_exits(alloc: Global, digits: &str) -> Result<String, CaseError> {
     let exits = vec![in alloc; Insn::Exit; times(digits)? as usize]?;
     let program = Program::new(alloc, &exits)?;

@@ -1,6 +1,6 @@
 //! Worked cases of instructions and programs, as bytes and as text. The crate `cases` has the notation.
 //!
-//! | Line | Answer |
+//! | Line | Outcome |
 //! |---|---|
 //! | `codec HEX` | the instruction at the front, the number of its slots, and its bytes as they are encoded |
 //! | `dis HEX` | the text of the program |

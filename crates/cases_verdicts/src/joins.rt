@@ -8,10 +8,10 @@ use std::alloc::Global;
 /// The register of which something is known.
 const REGISTER: usize = 0;
 
-/// The stack slot of which something is known, the lowest one.
+/// The stack slot of which something is known: slot 0, the lowest one.
 const SLOT: usize = 0;
 
-/// The range `LO HI` of numbers.
+/// The range `LO HI` of numbers. `OutOfRange` if LO is above HI.
 fn range_of(text: &str) -> Result<Range, CaseError> {
     let (lo, hi) = first_word(text);
     let (lo, hi): (u64, u64) = (lo.parse()?, hi.parse()?);
@@ -21,7 +21,7 @@ fn range_of(text: &str) -> Result<Range, CaseError> {
     Ok(Range { lo, hi })
 }
 
-/// A pointer into a value, `FD LO HI`: the map's descriptor, and the lowest and the highest offset.
+/// A pointer into a value, `FD LO HI`: the map's descriptor, and the lowest and the highest offset. `OutOfRange` if LO is above HI.
 fn value_of(text: &str) -> Result<ValuePointer, CaseError> {
     let (map, rest) = first_word(text);
     let (lo, hi) = first_word(rest);

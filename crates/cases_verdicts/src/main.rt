@@ -1,6 +1,6 @@
 //! Worked cases of the verifier's verdicts. The crate `cases` has the notation.
 //!
-//! | Line | Answer |
+//! | Line | Outcome |
 //! |---|---|
 //! | `verify TEXT` | the verdict on a program's text |
 //! | `start TEXT` | the verdict on a program that begins with this text, and then ends with `r0 = 0; exit` |

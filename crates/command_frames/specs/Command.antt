@@ -50,11 +50,13 @@ longest_frame = 131072
 
 -- ---- the body
 
--- the little-endian number in the four bytes at an offset of the body
+-- the little-endian number in the four bytes at an offset of the body; a body that does not have
+-- them makes no command (`exactly`, `at_least`)
 abbrev pub word_at : ℕ → List ℕ → ℕ
 word_at at body = little_number 4 (drop at body)
 
--- the little-endian number in the eight bytes at an offset of the body
+-- the little-endian number in the eight bytes at an offset of the body; a body that does not have
+-- them makes no command (`at_least`)
 abbrev pub long_at : ℕ → List ℕ → ℕ
 long_at at body = little_number 8 (drop at body)
 

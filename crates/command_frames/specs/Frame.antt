@@ -54,8 +54,8 @@ longest_payload = 4096
 abbrev pub longest_reply : ℕ
 longest_reply = 4 + reply_head + longest_payload
 
--- the bytes of a reply before its payload: the length of what follows this length, the tenant, the
--- command and the status
+-- the bytes of a reply before its payload: `size`, the number of bytes that follow this number, the
+-- tenant, the command and the status
 abbrev pub front_bytes : ℕ → ℕ → ℤ → ℕ → List ℕ
 front_bytes tenant command status size =
     little_bytes 4 size
@@ -68,6 +68,7 @@ abbrev pub reply_bytes : ℕ → ℕ → ℤ → List ℕ → List ℕ
 reply_bytes tenant command status payload =
     front_bytes tenant command status (reply_head + length payload) ++ payload
 
--- the reply to a frame
+-- the reply to a frame, with this status and payload; it repeats the frame's tenant and command
+-- number, and has 65535 for both if the frame is too short for a head
 abbrev pub reply_to : List ℕ → ℤ → List ℕ → List ℕ
 reply_to frame status payload = reply_bytes (owner frame) (command_number frame) status payload

@@ -40,8 +40,8 @@ FramesInFront =
 -- ---- commands
 
 -- The encoding of a command inverts parsing: the frame of a command to a tenant is parsed as this
--- command, if it is not too long; and a frame that is parsed as a command is that command's frame
--- to its owner.
+-- command, if the command's numbers fit (`FitsFields`) and the frame is not too long; and a frame
+-- that is parsed as a command is that command's frame to its owner, and the numbers fit.
 pub record EncodingInvertsParsing : Type 0 where
   pub parsed_again : (tenant : ℕ) (c : Command)
       → FitsFields c → length (frame_of tenant c) ≤ longest_frame
@@ -50,7 +50,7 @@ pub record EncodingInvertsParsing : Type 0 where
       → ((i : ℕ) → slice_index frame i < 256) → head_length ≤ length frame → parsed frame ≡ Ok c
       → (frame ≡ frame_of (owner frame) c) × FitsFields c
 
--- the owner of the frame of a command to a tenant is this tenant
+-- the owner of the frame of a command to a tenant is this tenant, if its number fits in two bytes
 abbrev pub FramesHaveOwners : Type 0
 FramesHaveOwners = (tenant : ℕ) (c : Command) → tenant < 2 ^ 16 → owner (frame_of tenant c) ≡ tenant
 

@@ -28,7 +28,7 @@ pub(crate) const CONTEXT_LENGTH: usize = GIVEN_WORDS * WORD_LENGTH;
 /// The number of bytes before the packet of PROG_TEST_RUN: a descriptor and the context.
 const BEFORE_PACKET: usize = WORD_LENGTH + CONTEXT_LENGTH;
 
-/// The word at an offset in bytes, little-endian.
+/// The number in the four bytes from offset `at` on, little-endian. Each caller has tested that they are there.
 fn word(bytes: &[u8], at: usize) -> u32
     requires { at + word_length ≤ length bytes.now }
     ensures { result ≡ little_number 4 (drop at bytes.now) }
@@ -120,7 +120,8 @@ fn prog_load(body: &[u8]) -> Result<Command<'_>, BadFrame>
     })
 }
 
-/// Reads the ten words of the context that a frame has, in order: all but the context's first one, which is the packet's length.
+/// Reads the ten words of the context that a frame has from the front of `bytes`, in order: all but the context's first one, which is the
+/// packet's length. The caller has tested that there are so many bytes.
 fn given_words(bytes: &[u8]) -> [u32; GIVEN_WORDS]
     requires { context_length ≤ length bytes.now }
     ensures { result ≡ words given_words bytes.now }

@@ -12,7 +12,8 @@ use byteorder::{ByteOrder, LittleEndian};
 /// The length of a head (a tenant and a command) in bytes.
 pub const HEAD_LENGTH: usize = 4;
 
-/// The length of the longest frame that is read, in bytes.
+/// The length of the longest frame that is read, in bytes. Each command within its own limits is shorter: the longest is a test run on a
+/// packet of 65,536 bytes.
 pub const LONGEST_FRAME: usize = 131_072;
 
 /// The head of a frame; `None` if it has fewer than four bytes.
@@ -28,7 +29,8 @@ pub fn head(frame: &[u8]) -> Option<Head>
     })
 }
 
-/// The command of a frame, which has at least the four bytes of a head. Only its numbers are copied; the rest is borrowed.
+/// The command of a frame, which has at least the four bytes of a head: the caller has found one by `head`. Only the numbers are copied;
+/// the rest is borrowed.
 ///
 /// # Errors
 ///

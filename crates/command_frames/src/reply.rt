@@ -17,7 +17,7 @@ const FRONT_LENGTH: usize = 4 + REPLY_HEAD;
 /// What the length field has in a reply whose payload is a number of four bytes: the bytes after this field.
 const NUMBER_LENGTH: u32 = REPLY_HEAD as u32 + 4;
 
-/// The length of the longest payload of a reply, in bytes.
+/// The length of the longest payload of a reply, in bytes: that of the longest value of a map.
 pub const LONGEST_PAYLOAD: usize = 4096;
 
 /// The length of the longest reply, in bytes.
@@ -91,7 +91,8 @@ impl ReplyBuf {
         self.bytes.clear();
     }
 
-    /// Appends bytes, for which there is room, so `unwrap` never meets an error.
+    /// Appends bytes. The caller appends no more than a reply has, and the buffer has the capacity for the longest reply, so `unwrap` never
+    /// meets an error.
     fn append(&mut self, bytes: &[u8])
         requires { length self.old + length bytes.now ≤ longest_reply }
         ensures { self.new ≡ self.old ++ bytes.now }
@@ -112,7 +113,7 @@ fn front(head: Head, status: i32, length: u32) -> [u8; FRONT_LENGTH]
     [a, b, c, d, e, f, g, h, i, j, k, l]
 }
 
-/// Writes a reply to `reply`, in place of its contents. The payload has at most 4,096 bytes.
+/// Replaces the contents of `reply` by a reply. The payload has at most 4,096 bytes, as each command sees to it.
 pub fn write_reply(head: Head, status: i32, payload: &[u8], reply: &mut ReplyBuf)
     requires { length payload.now ≤ longest_payload }
     ensures { reply.new ≡ reply_bytes head.tenant head.command status payload.now }
@@ -123,7 +124,7 @@ pub fn write_reply(head: Head, status: i32, payload: &[u8], reply: &mut ReplyBuf
     reply.append(payload);
 }
 
-/// Writes a reply of status 0 to `reply`, in place of its contents. Its payload is `number` in four bytes, little-endian.
+/// Replaces the contents of `reply` by a reply of status 0. Its payload is `number` in four bytes, little-endian.
 pub fn write_number(head: Head, number: u32, reply: &mut ReplyBuf)
     ensures { reply.new ≡ reply_bytes head.tenant head.command (pos 0) (little_bytes 4 number) }
 {

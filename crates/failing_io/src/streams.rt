@@ -187,6 +187,7 @@ fn streams_end_and_fail(rt: HostRuntime) {
         stream.end = end;
         assert_ends(&rt, alloc, "cut after", length, stream);
     }
+    // How many bytes are read before the failure, how many frames then have replies, and how many bytes these have.
     for (length, frames, written) in [(0, 0, 0), (5, 0, 0), (28, 1, 12), (40, 1, 12)] {
         let input = front(&LOAD_AND_RUN, length);
         let mut stream = stream_of(input, Then::Fails, front(&REPLIES, written));
@@ -226,6 +227,7 @@ fn streams_end_and_fail(rt: HostRuntime) {
     empty.end = Ok(0);
     assert_ends(&rt, alloc, "no frame is allowed, bytes:", 0, empty);
 
+    // Any byte after the last frame allowed is too much, such as the first one of a length.
     let mut byte = stream_of(&[24], Then::Ends, &[]);
     byte.limit = 0;
     byte.end = fault(ServeFaultKind::TooManyFrames, 0);

@@ -7,7 +7,7 @@ use Rattle.std.specs.Prelude.{option_and_then, position, replicate, slice_get, s
 abbrev pub first_descriptor : ℕ
 first_descriptor = 3
 
--- how many may be open at once
+-- how many descriptors may be open at once
 abbrev pub most : ℕ
 most = 64
 
@@ -32,7 +32,7 @@ module _ {A : Type 0} where
   abbrev pub lowest : List (Option A) → Option ℕ
   lowest table = option_map (λ index. first_descriptor + index) (position is_none table)
 
-  -- the table with x open at descriptor fd
+  -- the table with x open at descriptor fd, which is 3 to 66
   abbrev pub with_open : List (Option A) → ℕ → A → List (Option A)
   with_open table fd x = slice_set table (fd - first_descriptor) (Some x)
 

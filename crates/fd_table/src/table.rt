@@ -7,13 +7,13 @@ ghost use Rattle.fd_table.specs.Table.{first_descriptor, most, nothing_open, nam
 use std::alloc::{AllocError, Global};
 use std::marker::Model;
 
-/// The lowest descriptor.
+/// The lowest descriptor. 0 to 2, the standard streams of a process, name nothing here.
 pub const FIRST: u32 = 3;
 
-/// How many descriptors may be open at once.
+/// How many descriptors may be open at once: as many as a word has bits, since a bit mask has one for each.
 pub const MOST: usize = 64;
 
-/// The open objects by descriptor. Contracts see a list of 64 entries, each free or with an object; entry 0 is descriptor
+/// The open objects by descriptor. Contracts see a list of 64 entries, each free (`None`) or with an object; entry 0 is descriptor
 /// 3.
 #[derive(Drop)]
 pub struct FdTable<T> {

@@ -1,3 +1,4 @@
+-- Definitions for private contracts and proofs. No public contract names them.
 pub mod Flat
 pub mod Ranges
 pub mod Steps

@@ -44,7 +44,7 @@
 //!   instruction.
 //! - A constant has its sign extended to 64 bits in both widths; an operator on 32 bits reads only the low half.
 //! - There is no thread next to a program, so an atomic operation is a load, the operation and a store: a run takes the arena
-//!   out of its place, and one thread serves all frames. It requests two ranges, one for the load and one for the store.
+//!   out of the host's variable, and one thread serves all frames. It requests two ranges, one for the load and one for the store.
 //! - In a program that is built with its proofs, an `unreachable!()`, and so each unwrap, is still a comparison and a jump to a
 //!   trap, since the compiler does not see what was proved. So code that runs often has a `requires` and no arm for the rest, or
 //!   reads an element of an array that has none in that arm: a load of a map returns a word and no `Option`. If an `Option` passes

@@ -14,7 +14,7 @@ ghost use Rattle.flat_machine.specs.Packets.{longest_packet, packets_in, inputs_
 use std::marker::Model;
 use words::GIVEN_WORDS;
 
-/// The length of the longest packet of a run, in bytes.
+/// The length of the longest packet of a run, in bytes: this project's own limit.
 pub const LONGEST_PACKET: usize = 65_536;
 
 /// The highest bit of a word, 2^63. No slice has so many bytes, so an end of a packet that has it is outside.
@@ -62,8 +62,9 @@ fn are_enough(contexts: usize, packets: usize) -> bool
 }
 
 /// Whether it is seen at once that packets with these ends are in order, in `many` bytes, and shorter than `LONGEST_PACKET`: the bits of
-/// all lengths and of all ends are collected, without a test for each packet. A negative length has the highest bit. If it is `false`, the
-/// packets may still be accepted.
+/// all lengths and of all ends are collected, without a test for each packet. `LONGEST_PACKET` is a power of two, so all lengths are below
+/// it exactly if the number with all their bits is. A negative length has the highest bit. If the result is `false`, the packets may still
+/// be accepted.
 #[inline(always)]
 fn are_plain(many: usize, ends: &[usize]) -> bool
     ensures { result ≡ true → packets_fault many 0 ends.now ≡ None }

@@ -11,7 +11,7 @@ use Rattle.tenant.specs.State.{TenantState}
 use Rattle.host_core.specs.Handled.{Turn, frames_in, replies_in, HandlesInOrder}
 
 -- the program at descriptor fd of a tenant runs on these inputs, which leads from one state to the
--- other; the results at the front of `room` give `written`; a tenant that is not served runs none
+-- other; `written` is `room` with the results at its front; a tenant that is not served runs none
 abbrev pub RunsFor : ℕ → Option TenantState → List BatchInput → List ℕ → List ℕ → Option TenantState
     → Type 0
 RunsFor fd None inputs room written after = ⊥
@@ -25,8 +25,8 @@ refusal_for None fd contexts many ends room = Some NotPermitted
 refusal_for (Some s) fd contexts many ends room =
     batch_refusal (named s.objects fd) contexts many ends room
 
--- a bound on executed instructions allows the first n packets of a batch of so many; a batch of a
--- tenant that is not served is not made shorter, and is rejected
+-- n is the number of packets that a bound on executed instructions allows a batch of so many; all
+-- for a tenant that is not served, since such a batch is rejected as a whole
 abbrev pub IsAllowedFor : Option TenantState → ℕ → ℕ → ℕ → ℕ → Type 0
 IsAllowedFor None fd bound packets n = n ≡ packets
 IsAllowedFor (Some s) fd bound packets n = IsAllowed (named s.objects fd) bound packets n

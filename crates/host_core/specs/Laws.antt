@@ -80,7 +80,8 @@ SameFramesSameReplies =
 
 -- ---- a stream that is served again
 
--- a tenant has the same state at the beginning of two streams, and neither refuses memory to it
+-- tenant t has the same state at the beginning of two streams, in `old` and in `old_too`, and
+-- neither refuses memory to it, by its states at the end, in `new` and in `new_too`
 pub record BeginsAlike (old new old_too new_too : List TenantState) (t : ℕ) : Type 0 where
   pub same : slice_get old t ≡ slice_get old_too t
   pub unrefused : IsUnrefused (slice_get new t)

@@ -55,7 +55,9 @@ RunsPackets before after =
     (slice_get after.states tenant)
     × ChangesTenant tenant before.states after.states × (after.births ≡ before.births)
 
--- what a call does to a host: it handles a frame, runs a program on packets, or changes nothing
+-- what a call does to a host: it handles a frame, or does what handling one would (an
+-- installation); it runs a program on packets; or it changes nothing (a save, a call that only
+-- reads)
 abbrev pub Call : HostState → HostState → Type 0
 Call before after = HandlesFrame before after ⊎ (RunsPackets before after ⊎ (after ≡ before))
 

@@ -46,7 +46,8 @@ pub record StreamState : Type 0 where
   pub read_failures : ℕ
   pub write_failures : ℕ
 
--- the state of a stream with these tenants' states, this reader and this writer
+-- the state of a stream with these tenants' states, this reader and this writer; `source` and
+-- `sink` have what contracts see of a reader and of a writer
 abbrev pub stream_state : {R W : Type 0}
     → OfSource R
     → OfSink W

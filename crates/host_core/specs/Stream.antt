@@ -4,8 +4,8 @@ use Rattle.std.specs.Io.KnownBytes.{Consumes}
 use Rattle.std.specs.declared.result.Result.{Result}
 use Rattle.std.specs.declared.result.Result.TheVariants.{Ok, Err}
 
--- exactly these bytes were read between two states of a reader, whose bytes `remaining` gives, if
--- they are known
+-- exactly these bytes were read between the states `old` and `new` of a reader; `remaining` gives
+-- the bytes that it has left, and if they are not known, nothing is claimed
 abbrev pub Takes : {R : Type 0} → (R → Option (List ℕ)) → R → R → List ℕ → Type 0
 Takes remaining old new bytes = Consumes (remaining old) (remaining new) bytes
 

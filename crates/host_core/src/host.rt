@@ -28,7 +28,7 @@ const NO_HEAD: Head = Head {
     command: u16::MAX,
 };
 
-/// The most tenants of a host.
+/// The most tenants of a host, a limit of this project.
 pub const MOST_TENANTS: usize = 64;
 
 /// A host of 1 to `MOST_TENANTS` tenants. Contracts see the list of their states, and the list of the births of their objects, both
@@ -142,9 +142,10 @@ impl Host {
     /// The frames of one part of a save of `tenant`, each with its length before it. Parts are counted from 0; `None` after the last one,
     /// and for a tenant that is not served.
     ///
-    /// A new tenant of this number that is given the frames of all parts in their order, on this host or another one, then replies
-    /// as this one does. Between two parts the tenant must not change; others may be served. A part creates one map or program, puts at
-    /// most 1,024 keys into a map, or opens or closes descriptors. So a save of any size takes the memory of one part at a time.
+    /// A new tenant of this number that is given the frames of all parts in their order, on this host or another one, then replies as this
+    /// one does, unless it is refused memory. Between two parts the tenant must not change; others may be served. A part creates one map or
+    /// program, puts at most 1,024 keys into a map, or opens or closes descriptors. So a save of any size takes the memory of one part at a
+    /// time.
     ///
     /// # Errors
     ///
@@ -181,8 +182,10 @@ impl Host {
     ///
     /// # Errors
     ///
-    /// `NotPermitted` if the tenant is not served; else those of `Tenant::run_packets`: the errors that the test-run frames would get. Then
-    /// no packet was run, and nothing has changed.
+    /// The first that applies: `NotPermitted` if the tenant is not served; `BadDescriptor` if the descriptor is not open, `Invalid` if it
+    /// names a map; `Invalid` if `results` has room for fewer results than packets, or if there is neither one context nor one for each
+    /// packet; `Invalid` or `TooBig` for the first packet that is outside of `bytes` or has more than 65,536 bytes. Then no packet was run,
+    /// and nothing has changed.
     pub fn run_packets(
         &mut self,
         tenant: usize,

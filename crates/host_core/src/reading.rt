@@ -57,7 +57,8 @@ fn number_in(bytes: &[u8]) -> u32
     LittleEndian::read_u32(bytes)
 }
 
-/// Reads the length of a frame, four bytes; `None` if the input ends before them, `Truncated` if it ends after one to three of them.
+/// Reads the length of a frame, four bytes; `None` if the input ends before them. `Truncated` if it ends after one to three of them, `Read`
+/// if a call of the reader failed.
 fn read_length<S: Source>(reader: &mut S) -> Result<Option<u32>, ServeFaultKind>
     requires { S.failures reader.old < 2 ^ 64 - 1 }
     ensures some { IfOk result (λ found.
@@ -83,7 +84,7 @@ fn read_length<S: Source>(reader: &mut S) -> Result<Option<u32>, ServeFaultKind>
 }
 
 /// Reads and discards `count` bytes, of a frame that is too long. Each read overwrites the front of `scratch`, which is not empty.
-/// `Truncated` if the input ends before all are read.
+/// `Truncated` if the input ends before all are read, `Read` if a call of the reader failed.
 fn skip<S: Source>(reader: &mut S, scratch: &mut [u8], count: usize) -> Result<(), ServeFaultKind>
     requires failures { S.failures reader.old < 2 ^ 64 - 1 }
     requires scratch { 0 < length scratch.old }
@@ -104,7 +105,8 @@ fn skip<S: Source>(reader: &mut S, scratch: &mut [u8], count: usize) -> Result<(
     Ok(())
 }
 
-/// Reads `count` bytes into the front of `buffer`, which has room for them. `Truncated` if the input ends before all are read.
+/// Reads `count` bytes into the front of `buffer`, which has room for them. `Truncated` if the input ends before all are read, `Read` if a
+/// call of the reader failed.
 fn read_whole<S: Source>(
     reader: &mut S,
     buffer: &mut [u8],
@@ -127,7 +129,8 @@ fn read_whole<S: Source>(
 }
 
 /// Reads a frame of `total` bytes, which is longer than `buffer`, and keeps only its head, in the first four bytes of `buffer`. The bytes
-/// that are skipped are read over the rest of the buffer, since the reply depends only on the head.
+/// that are skipped are read over the rest of the buffer, since the reply depends only on the head. `Truncated` if the input ends before
+/// all are read, `Read` if a call of the reader failed.
 fn read_long<S: Source>(
     reader: &mut S,
     buffer: &mut [u8],
@@ -151,6 +154,7 @@ fn read_long<S: Source>(
 
 /// Reads a frame of `total` bytes, and returns how many bytes of `buffer` have to be handled: the frame, which is at the front of the
 /// buffer. For a frame that is longer they are the whole buffer, and only the first four, the head, are sure to be those of the frame.
+/// `Truncated` if the input ends before all are read, `Read` if a call of the reader failed.
 fn read_body<S: Source>(
     reader: &mut S,
     buffer: &mut [u8],
@@ -177,9 +181,9 @@ fn read_body<S: Source>(
     }
 }
 
-/// Reads a frame, with its length before it, and returns how many bytes of `buffer` have to be handled: the frame, which is at the front
-/// of the buffer. For a frame that is longer they are the whole buffer, and only the first four, the head, are sure to be those of the
-/// frame. `None` if the input ends before a frame.
+/// Reads a frame, with its length before it, and returns how many bytes of `buffer` have to be handled: the frame, which is at the front of
+/// the buffer. For a frame that is longer they are the whole buffer, and only the first four, the head, are sure to be those of the frame.
+/// `None` if the input ends before a frame. `Truncated` if it ends inside one, `Read` if a call of the reader failed.
 pub(crate) fn read_frame<S: Source>(
     reader: &mut S,
     buffer: &mut [u8],

@@ -23,7 +23,7 @@ use command_frames::ReplyBuf;
 use seeded_hash::HashSeed;
 use std::alloc::{AllocError, Global};
 
-/// The greatest limit on the frames of one call of `serve`.
+/// The greatest limit on the frames of one call of `serve`: 2^24, a limit of this project.
 pub const MOST_FRAMES: u32 = 16_777_216;
 
 /// Why a stream was not served to its end.
@@ -91,7 +91,8 @@ fn serve_frame<R: Source, W: Sink>(
     Ok(true)
 }
 
-/// Whether the input is at its end, after the last frame that the limit allows. If not, one more byte of it is read and lost.
+/// Whether the input is at its end, after the last frame that the limit allows. If not, one more byte of it is read and lost. `Read` if a
+/// call of the reader failed.
 fn is_at_end<R: Source>(reader: &mut R) -> Result<bool, ServeFaultKind>
     requires { R.failures reader.old < 2 ^ 64 - 1 }
     ensures end { IfOk result (λ end. end ≡ true → Takes R.remaining reader.old reader.new []

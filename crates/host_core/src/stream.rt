@@ -17,8 +17,8 @@ pub trait Source {
     // How many calls failed so far.
     ghost failures: { Self → ℕ };
 
-    /// Reads bytes into the front of `buffer` and returns how many; 0 only at the end of the input, or if `buffer` is
-    /// empty.
+    /// Reads bytes into the front of `buffer` and returns how many; 0 only at the end of the input, or if `buffer` is empty. A call that
+    /// fails takes no bytes.
     fn read(&mut self, buffer: &mut [u8]) -> io::Result<usize>
         requires { failures self.old < 2 ^ 64 - 1 }
         ensures bound { ReadsAtMost result buffer.new }
@@ -38,7 +38,8 @@ pub trait Sink {
     // How many calls failed so far.
     ghost failures: { Self → ℕ };
 
-    /// Writes bytes from the front of `bytes`, and returns how many. If that is 0 although there are some, the call counts as failed.
+    /// Writes bytes from the front of `bytes`, and returns how many. If that is 0 although there are some, the call counts as failed. A
+    /// call that fails writes none.
     fn write(&mut self, bytes: &[u8]) -> io::Result<usize>
         requires { failures self.old < 2 ^ 64 - 1 }
         ensures bound { WritesAtMost result bytes.now }
@@ -46,7 +47,7 @@ pub trait Sink {
         ensures failures { failures self.new
             ≡ failures self.old + write_failures result bytes.now };
 
-    /// Flushes what was written.
+    /// Flushes what was written; no bytes are added. If the call fails, contracts do not say whether everything is flushed.
     fn flush(&mut self) -> io::Result<()>
         requires { failures self.old < 2 ^ 64 - 1 }
         ensures bytes { Keeps (contents self.old) (contents self.new) }

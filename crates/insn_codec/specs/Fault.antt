@@ -33,6 +33,7 @@ HasFault bytes _ = ⊥
 
 -- ---- the kinds' numbers
 
+-- the number of a kind of fault; the reason in the reply to a PROG_LOAD that has it is 100 more
 abbrev pub fault_number : FaultKind → ℕ
 fault_number Opcode = 1
 fault_number Reserved = 2

@@ -3,6 +3,7 @@
 //! variable of `decode`). `wide` is the width: 64 bits if true, 32 if false.
 //!
 //! Each function returns the second slot of the instruction, as `read_slot` does. None of these instructions has one, so it is `None`.
+//! A precondition on the opcode is that the slot's opcode has this form or class: the caller has looked at its class and code.
 
 ghost use Rattle.std.specs.Prelude.{◌≡◌, ◌≢◌, ◌+◌, ◌*◌, ◌/◌, ◌%◌, ◌≤◌, [], ◌∷◌, None, Bool, true, IfSome, IfOk, IfErr, OnOk, IsTrue};
 ghost use Rattle.insn_set.specs.Slot.{fields};
@@ -45,8 +46,9 @@ pub(crate) fn check_fields(is_listed: bool, slot: &RawSlot) -> Result<(), FaultK
     Ok(())
 }
 
-/// Reads an operation on two operands into `entry`; it has no second slot (`None`). `op` is the operator of the opcode at offset 0: another
-/// offset makes a division or a remainder signed, and is the number of bits from which a move extends the sign, 8, 16 or 32 (`_`).
+/// Reads an operation on two operands, of 64 bits (`wide`) or 32, into `entry`; it has no second slot (`None`). `op` is the operator of the
+/// opcode at offset 0: another offset makes a division or a remainder signed, and is the number of bits from which a move extends the
+/// sign, 8, 16 or 32 (`_`). `source` says which field has the second operand.
 #[inline(always)]
 fn read_operation(
     wide: bool,
@@ -95,7 +97,8 @@ fn read_operation(
     Ok(None)
 }
 
-/// Reads a negation into `entry`; it has no second slot (`None`). The operand is the destination, so all other fields are zero.
+/// Reads a negation, of 64 bits (`wide`) or 32, into `entry`; it has no second slot (`None`). The operand is the destination, so all other
+/// fields are zero.
 #[inline(always)]
 fn read_negation(wide: bool, entry: &mut Insn, slot: &RawSlot) -> Result<Option<RawSlot>, FaultKind>
     requires opcode { slot.now.opcode ≡ opcode_of (form.Neg wide) }
@@ -113,8 +116,8 @@ fn read_negation(wide: bool, entry: &mut Insn, slot: &RawSlot) -> Result<Option<
     Ok(None)
 }
 
-/// Reads a byte-order conversion into `entry`; it has no second slot (`None`). The immediate is the number of bits that it keeps,
-/// 16, 32 or 64 (`_`).
+/// Reads a byte-order conversion into `entry`; it has no second slot (`None`). `how` is to little endian, to big endian, or a swap of the
+/// bytes. The immediate is the number of bits that it keeps, 16, 32 or 64 (`_`).
 #[inline(always)]
 fn read_byte_order(
     how: ByteOrder,
@@ -167,7 +170,8 @@ fn read_one_operand(
     }
 }
 
-/// Reads an instruction of class ALU64 (`wide`) or ALU into `entry` (RFC 9669, section 4.1); it has no second slot (`None`).
+/// Reads an instruction of class ALU64 (`wide`) or ALU into `entry` (RFC 9669, sections 4.1 and 4.2); it has no second slot (`None`). Each
+/// source bit has an arm of its own, so that the inlined `read_operation` has it as a constant.
 #[inline(always)]
 pub(crate) fn read_alu(
     wide: bool,
@@ -188,7 +192,8 @@ pub(crate) fn read_alu(
     }
 }
 
-/// Reads a jump that is taken if a condition holds into `entry`; it has no second slot (`None`). `wide` is the width of the comparison.
+/// Reads a jump that is taken if a condition holds into `entry`; it has no second slot (`None`). It compares 64 bits (`wide`) or 32, and
+/// `source` says which field has the second operand of the comparison.
 #[inline(always)]
 fn read_branch(
     wide: bool,
@@ -300,7 +305,8 @@ fn read_unconditional(
     }
 }
 
-/// Reads an instruction of class JMP (`wide`) or JMP32 into `entry` (RFC 9669, section 4.3); it has no second slot (`None`).
+/// Reads an instruction of class JMP (`wide`) or JMP32 into `entry` (RFC 9669, section 4.3); it has no second slot (`None`). Each source
+/// bit has an arm of its own, so that the inlined `read_branch` has it as a constant.
 #[inline(always)]
 pub(crate) fn read_jump(
     wide: bool,
@@ -324,7 +330,8 @@ pub(crate) fn read_jump(
     }
 }
 
-/// Reads a load, of class LDX, into `entry` (RFC 9669, sections 5.1 and 5.2); it has no second slot (`None`).
+/// Reads a load, of class LDX, into `entry` (RFC 9669, sections 5.1 and 5.2); it has no second slot (`None`). An opcode that the table of
+/// loads does not have is no instruction's, so the fault is `Opcode`.
 #[inline(always)]
 pub(crate) fn read_load(entry: &mut Insn, slot: &RawSlot) -> Result<Option<RawSlot>, FaultKind>
     ensures value { OnOk result (IsInsn entry.new) }
@@ -347,7 +354,7 @@ pub(crate) fn read_load(entry: &mut Insn, slot: &RawSlot) -> Result<Option<RawSl
 }
 
 /// Reads a store of a constant (class ST, `SourceBit::Imm`) or of a register (class STX) into `entry` (RFC 9669, section 5.1); it has no
-/// second slot (`None`). The mode, the upper three bits of the opcode, is MEM, which is 3.
+/// second slot (`None`). The mode, the upper three bits of the opcode, is MEM, which is 3; with another one the fault is `Opcode`.
 #[inline(always)]
 pub(crate) fn read_store(
     source: SourceBit,

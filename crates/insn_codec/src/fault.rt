@@ -4,7 +4,7 @@ ghost use Rattle.std.specs.Prelude.{◌≡◌};
 
 use std::alloc::{AllocError, AllocFailed};
 
-/// Kinds of faults, lowest first: of several faults of one slot the lowest is reported.
+/// Kinds of faults, lowest number first: of several faults of one slot the lowest is reported.
 #[derive(Clone, Copy, Debug, PartialEq, Eq)]
 pub enum FaultKind {
     /// No instruction has this opcode.
@@ -16,7 +16,7 @@ pub enum FaultKind {
     /// The second slot of a wide instruction is missing, or has a field that is not zero. The immediate may be any number, if the
     /// instruction uses it.
     SecondSlot = 4,
-    /// The number of bytes is no multiple of eight.
+    /// The number of bytes of a program is no multiple of eight; for `decode`, it is below eight.
     Ragged = 5,
     /// There is no slot.
     Empty = 6,
@@ -29,7 +29,7 @@ pub enum FaultKind {
 impl FaultKind {
     ghost use Rattle.insn_codec.specs.Fault.{fault_number};
 
-    /// The number of the kind, 1 to 8.
+    /// The number of the kind, 1 to 8. The reason in the reply to a PROG_LOAD with this fault is 100 more.
     pub fn number(self) -> u16
         ensures { result ≡ fault_number self }
     {

@@ -20,7 +20,7 @@
 //!   `slots` of `Program`.
 //! - The slots that a program lends for a run are those of its instructions in their order; from the slot of an instruction on,
 //!   they begin with its own: `length`, `slots`, `first` of `run_slots` of `Program`, `slots_of_spelled`. The first slot of a
-//!   sequence may have a mark in the place of its opcode; the instructions from there on are those of its row: `marks`.
+//!   sequence may have a mark instead of its opcode; the instructions from there on are those of the mark's sequence: `marks`.
 //! - The opcode and the fields of its first slot determine an instruction, form by form; a register field that the form does
 //!   not use is zero: `arithmetic_by_opcode`, `moves_by_opcode`, `one_operand_by_opcode`, `jumps_by_opcode`,
 //!   `accesses_by_opcode`, `atomics_by_opcode`, `wide_by_opcode`.
@@ -41,11 +41,11 @@
 //! - The instructions are one vector by slot, with `exit` as a filler at the second slot of a wide instruction. A filler is
 //!   never wide, so one look at the previous slot identifies a second slot.
 //! - The forms of opcodes (`OpcodeForm` of the definitions) and of lines (`Form` of the crate for lines of text) are apart from `Insn`.
-//!   An opcode determines less than an instruction, and a line may name a label in place of an instruction's distance. The order
+//!   An opcode determines less than an instruction, and a line may name a label instead of an instruction's distance. The order
 //!   of the codec's faults and the laws by opcode are about the first, the law of one reading about the second.
 //! - A slot is decoded by the class of its opcode, each form by a function of its own (`by_class`), and no value of the code names a
 //!   form. With an enum of forms, decoding took 58 machine instructions a slot of straight code, with an instruction whose other
-//!   fields are zero in the place of a form 72, and now 55 (callgrind, builds without proofs).
+//!   fields are zero instead of a form 72, and now 55 (callgrind, builds without proofs).
 //! - `read_program` copies the slots from the bytes first, a word of eight bytes each. Then it decodes each instruction from its
 //!   slot in that list, into an entry of a vector with room for all, so no entry needs a test of the capacity. Operators and
 //!   conditions are looked up by their code (`insn_set`). Machine instructions a slot (callgrind, builds without proofs):

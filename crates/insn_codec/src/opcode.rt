@@ -34,7 +34,7 @@ impl SourceBit {
         }
     }
 
-    /// Whether the operand field that this source bit does not select is zero.
+    /// Whether the operand field that this source bit does not select, the source register or the immediate, is zero.
     pub(crate) fn lists_operand(self, slot: &RawSlot) -> bool
         ensures { result ≡ one_operand self (fields slot.now) }
     {
@@ -44,7 +44,8 @@ impl SourceBit {
         }
     }
 
-    /// The second operand of a slot, whose unused operand field is zero; `src` is the register of its source field.
+    /// The second operand of a slot: its immediate, or `src`, the register of its source field. The caller has tested that the other of the
+    /// two fields is zero, and that the register's number is at most 10.
     pub(crate) fn operand(self, slot: &RawSlot, src: Reg) -> Operand
         requires listed { IsTrue (one_operand self (fields slot.now)) }
         requires src { (fields slot.now).src ≡ src }
@@ -61,16 +62,17 @@ impl SourceBit {
     }
 }
 
-/// Whether an instruction with the opcode of this operator may have this offset (RFC 9669, section 4.1). Of two operators with one opcode,
-/// `op` is the unsigned one.
+/// Whether an operation of 64 bits (`wide`) or 32 with the opcode of this operator may have this offset (RFC 9669, section 4.1). Of two
+/// operators with one opcode, `op` is the unsigned one.
 pub(crate) fn allows_offset(op: AluOp, wide: bool, source: SourceBit, offset: u16) -> bool
     ensures { result ≡ offset_listed wide op source offset }
 {
     offset == 0 || allows_other_offset(op, wide, source, offset)
 }
 
-/// Whether an instruction with the opcode of this operator may have this offset, which is not 0: 1 is for a signed division or remainder,
-/// and 8, 16 or 32 are the bits from which a move extends the sign. Other operators have only offset 0.
+/// Whether an operation of 64 bits (`wide`) or 32 with the opcode of this operator may have this offset, which is not 0: 1 is for a signed
+/// division or remainder, and 8, 16 or, if `wide`, 32 are the bits from which a move of a register extends the sign. Other operators have
+/// only offset 0.
 fn allows_other_offset(op: AluOp, wide: bool, source: SourceBit, offset: u16) -> bool
     requires { offset ≢ 0 }
     ensures { result ≡ offset_listed wide op source offset }

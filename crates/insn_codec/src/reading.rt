@@ -21,7 +21,7 @@ use insn_set::{Insn, RawSlot, Reg};
 /// Reads a wide instruction into `entry` (RFC 9669, section 5.4). `slot` is its first slot, whose fields are checked, `dst` the register in
 /// its destination field, and `rest` the bytes after it. Returns the second slot, which is at the front of `rest`; `SecondSlot` if it is
 /// missing or wrong. The source field is 0 for a number of 64 bits, 1 for a map, and 2 for an address in the first value of a map; by the
-/// precondition `listed` it is no other, so `_` is 2.
+/// precondition `listed`, which `check_fields` has tested, it is no other, so `_` is 2.
 fn read_wide(entry: &mut Insn, slot: &RawSlot, dst: Reg, rest: &[u8]) -> Result<RawSlot, FaultKind>
     requires opcode { slot.now.opcode ≡ 0x18 }
     requires listed { IsTrue (listed Wide (fields slot.now)) }
@@ -106,8 +106,9 @@ fn read_slot(entry: &mut Insn, slot: &RawSlot, rest: &[u8]) -> Result<Option<Raw
     }
 }
 
-/// Reads the instruction at the front of the bytes into `entry`: without a copy, since an instruction is as large as two slots. `first` is
-/// the slot in their first eight bytes. Returns whether the instruction is wide.
+/// Reads the instruction at the front of the bytes, which are at least eight, into `entry`. `first` is the slot in their first eight bytes.
+/// Returns whether the instruction is wide. The instruction is written to its entry directly: it is as large as two slots, and would be
+/// copied if it were returned.
 #[inline(always)]
 #[tactic(auto, unfolding(crate::specs::inside::FirstFault::first_fault))]
 pub(crate) fn read_from(entry: &mut Insn, first: &RawSlot, bytes: &[u8]) -> Result<bool, FaultKind>
@@ -122,7 +123,8 @@ pub(crate) fn read_from(entry: &mut Insn, first: &RawSlot, bytes: &[u8]) -> Resu
     Ok(second.is_some())
 }
 
-/// Reads the instruction at the front of the bytes into `entry`. The fault of fewer than eight bytes is `Ragged`.
+/// Reads the instruction at the front of the bytes, of which there may be any number, into `entry`. The fault of fewer than eight bytes is
+/// `Ragged`.
 #[tactic(auto, unfolding(crate::specs::inside::FirstFault::first_fault))]
 fn read_front(entry: &mut Insn, bytes: &[u8]) -> Result<(), FaultKind>
     ensures found { OnOk result (IsInsn entry.new × Begins entry.new bytes.now) }

@@ -34,7 +34,7 @@ fn end_opcode(how: ByteOrder) -> u8
     }
 }
 
-/// The source bit that distinguishes a constant from a register (RFC 9669, section 4).
+/// The source bit of an opcode: 0 if the second operand is a constant, 1 if it is a register (RFC 9669, section 4).
 fn source_bit(operand: Operand) -> u8
     ensures value { result ≡ source_bit operand }
     ensures bound { result ≤ 1 }
@@ -45,7 +45,7 @@ fn source_bit(operand: Operand) -> u8
     }
 }
 
-/// The source register's field, which is 0 with a constant (RFC 9669, section 3.1).
+/// The field of the source register: the register's number, or 0 if the operand is a constant (RFC 9669, section 3.1).
 fn src_field(operand: Operand) -> u8
     ensures value { result ≡ src_field operand }
     ensures bound { result < 16 }
@@ -56,7 +56,7 @@ fn src_field(operand: Operand) -> u8
     }
 }
 
-/// The immediate, which is 0 with a register (RFC 9669, section 3.1).
+/// The field of the immediate: the constant, or 0 if the operand is a register (RFC 9669, section 3.1).
 fn imm_field(operand: Operand) -> u32
     ensures { result ≡ imm_field operand }
 {
@@ -66,7 +66,7 @@ fn imm_field(operand: Operand) -> u32
     }
 }
 
-/// The class ALU64 (`wide`) or ALU (RFC 9669, section 3.3).
+/// The class of arithmetic: ALU64 if it is of 64 bits (`wide`), else ALU (RFC 9669, section 3.3).
 fn arithmetic_class(wide: bool) -> u8
     ensures value { result ≡ alu_class wide }
     ensures bound { result < 8 }
@@ -74,7 +74,7 @@ fn arithmetic_class(wide: bool) -> u8
     if wide { 7 } else { 4 }
 }
 
-/// The class JMP (`wide`: 64 bits are compared) or JMP32 (RFC 9669, section 3.3).
+/// The class of conditional jumps: JMP if 64 bits are compared (`wide`), JMP32 if 32 are (RFC 9669, section 3.3).
 fn jumping_class(wide: bool) -> u8
     ensures value { result ≡ jump_class wide }
     ensures bound { result < 8 }
@@ -118,8 +118,8 @@ fn raw_slot(opcode: u8, dst: u8, src: u8, offset: u16, imm: u32) -> RawSlot
 
 /// The first slot of an instruction. `raw_slot` takes the opcode, the destination, the source, the offset and the immediate, of which those
 /// that the instruction does not use are 0. Code 11 with source bit 1 is a move of a register, code 8 a negation; the modes are 3 (MEM), 4
-/// (MEMSX, a load that extends the sign) and 6 (ATOMIC). The source field of a wide load is 0 for a number, 1 for a map, 2 for an address
-/// in its value.
+/// (MEMSX, a load that extends the sign) and 6 (ATOMIC), the classes 1 (LDX), 2 (ST) and 3 (STX). The source field of a wide load is 0
+/// for a number, 1 for a map, 2 for an address in its value.
 fn first(insn: &Insn) -> RawSlot
     ensures { fields result ≡ first_slot insn.now }
 {

@@ -7,7 +7,7 @@ use Rattle.words.specs.declared.operator.KeptBits.TheVariants as bits
 use Rattle.words.specs.declared.operator.ExtendedBits.{ExtendedBits}
 use Rattle.words.specs.declared.operator.ExtendedBits.TheVariants as narrow
 
--- the name of the byte-order conversion that keeps this many low bits
+-- the name, in a line of text, of the byte-order conversion that keeps this many low bits
 abbrev pub order_name : ByteOrder → KeptBits → List ℕ
 order_name Little bits.Bits16 = codes "le16"
 order_name Little bits.Bits32 = codes "le32"
@@ -19,7 +19,7 @@ order_name Swap bits.Bits16 = codes "bswap16"
 order_name Swap bits.Bits32 = codes "bswap32"
 order_name Swap bits.Bits64 = codes "bswap64"
 
--- the name of the sign extension that starts from this many low bits
+-- the name, in a line of text, of the sign extension that starts from this many low bits
 abbrev pub extension_name : ExtendedBits → List ℕ
 extension_name narrow.Bits8 = codes "s8"
 extension_name narrow.Bits16 = codes "s16"

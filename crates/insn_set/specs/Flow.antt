@@ -72,7 +72,8 @@ jump_target i at = target_by (profile i).successors at
 
 -- ---- what it writes and names
 
--- the register that an instruction writes, if any
+-- the register that an instruction writes; None if it writes none, as an atomic operation (those
+-- that fetch are no instructions here), and for a call, whose row has none of registers 0 to 5
 abbrev pub written_register : Insn → Option ℕ
 written_register i = (profile i).written
 

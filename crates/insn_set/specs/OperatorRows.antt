@@ -1,5 +1,5 @@
--- The operator with a code at offset 0, and the one with a symbol, by the table of the code; the
--- second undoes `alu_symbol`. RFC 9669, section 4.1; the symbols are this project's own.
+-- The operator with a code and the offset field 0, and the one with a symbol, by the table of the
+-- code; the second undoes `alu_symbol`. RFC 9669, section 4.1; the symbols are this project's own.
 use Rattle.std.specs.Prelude.{ℕ, List, Option, map}
 use Rattle.words.specs.declared.operator.AluOp.{AluOp}
 use Rattle.insn_set.specs.declared.operator.TheConstants.{OPERATORS}

@@ -47,14 +47,15 @@ reference_of (immediate n) = names.Nothing
 reference_of (map_ref fd) = names.Map fd
 reference_of (value_ref fd off) = names.Value fd off
 
--- the source register of an access, if it has one: that of a store of a register, or of an atomic
--- operation
+-- the source register of an access: that of a store of a register, or of an atomic operation; None
+-- for a load and for a store of a constant
 abbrev pub stored_register : Access → Option ℕ
 stored_register (loads size signed dst) = None
 stored_register (stores size src) = register_of src
 stored_register (changes size op src) = Some src
 
--- the register into which an access loads, if it is a load
+-- the register into which an access loads; None if it is no load, also for an atomic operation, as
+-- those that fetch are no instructions here
 abbrev pub loaded_register : Access → Option ℕ
 loaded_register (loads size signed dst) = Some dst
 loaded_register (stores size src) = None

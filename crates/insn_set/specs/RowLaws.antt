@@ -79,8 +79,8 @@ condition_symbol_is s c e = symbol_of condition_symbol condition_rows s c refl e
 
 -- ---- operators: of two with one code, the unsigned one is found
 
--- the operator at offset 0 with this operator's code: the unsigned one of two, else the operator
--- itself
+-- the operator with this operator's code and the offset field 0: the unsigned one if two have the
+-- code, else the operator itself
 abbrev pub unsigned_of : AluOp → AluOp
 unsigned_of op.SignedDiv = op.Div
 unsigned_of op.SignedMod = op.Mod

@@ -35,11 +35,11 @@ imm_field (Reg r) = 0
 -- ---- the grammar: one case for each form, section 4 (arithmetic, jumps) and section 5 (loads,
 -- stores, atomic operations)
 
--- an instruction's first slot: its opcode is of a code, the source bit and a class (`opcode`), or
--- of a mode, a size and a class (`memory_opcode`); then the destination, the source, the offset and
--- the immediate, of which those that are not used are 0. A sign extension has its bits as offset, a
--- byte-order conversion as immediate. In a wide load (0x18) the source field is 0 for a number, 1
--- for a map, and 2 for a value
+-- the first slot: opcode (`opcode` of a code, the source bit and a class, or `memory_opcode` of a
+-- mode, a size and a class), destination, source, offset and immediate, 0 if not used. Codes: 11 is
+-- a move, 8 a negation or (class 5) a call, 9 the exit; modes: 3 MEM, 6 ATOMIC. The number of bits
+-- is the offset of a sign extension and the immediate of a byte-order conversion. In a wide load
+-- (0x18) the source field is 0 for a number, 1 for a map, and 2 for a value
 abbrev pub first : Insn → SlotFields
 first (Alu wide op dst src) =
     slot (opcode (alu_number op) (source_bit src) (alu_class wide)) dst (src_field src)
@@ -117,7 +117,7 @@ IsInsnUpTo top (MapValue dst fd off) = (dst ≤ top) × FitsSigned w32 fd × (of
 abbrev pub IsOperand : Operand → Type 0
 IsOperand o = IsOperandUpTo 10 o
 
--- the numbers of an instruction fit their fields, with the registers that exist
+-- the numbers of an instruction fit their fields, with the registers that exist: 0 to 10
 abbrev pub IsInsn : Insn → Type 0
 IsInsn i = IsInsnUpTo 10 i
 

@@ -5,7 +5,8 @@ ghost use Rattle.std.specs.Prelude.{◌≡◌, IfSome};
 use crate::table::{by_number, by_symbol};
 use words::AccessSize;
 
-/// The effect of an atomic operation on the bytes in memory, without FETCH (RFC 9669, section 5.3).
+/// The effect of an atomic operation on the bytes in memory (RFC 9669, section 5.3). An operation with FETCH, which also loads the old
+/// bytes into a register, is no instruction here.
 #[derive(Clone, Copy, Debug, PartialEq, Eq)]
 pub enum AtomicOp {
     Add,

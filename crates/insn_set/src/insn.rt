@@ -29,7 +29,7 @@ impl Model for Reg {
 }
 
 impl Reg {
-    /// The register with this number, which is at most 10.
+    /// The register with this number, which is at most 10: a caller that reads the number from a slot or a text has checked it.
     pub fn new(number: u8) -> Reg
         requires { number ≤ 10 }
         ensures { result ≡ number }
@@ -49,7 +49,7 @@ impl Reg {
 /// The second operand of an operation, or the value that a store writes (RFC 9669, section 4, the source bit).
 #[derive(Clone, Copy, Debug, PartialEq, Eq)]
 pub enum Operand {
-    /// The constant in the immediate field.
+    /// The constant in the immediate field. An operation of 64 bits and a store sign-extend it to 64 bits.
     Imm(i32),
     /// The value of the source register.
     Reg(Reg),
@@ -134,7 +134,8 @@ pub enum Insn {
         src: Operand,
         off: i16,
     },
-    /// An atomic operation on the bytes at the address in `dst` plus `off` bytes, with `src` as second operand (RFC 9669, section 5.3).
+    /// An atomic operation on the bytes at the address in `dst` plus `off` bytes, with `src` as second operand (RFC 9669, section 5.3). It
+    /// changes no register: those with FETCH are no instructions here.
     Atomic {
         size: AtomicSize,
         op: AtomicOp,

@@ -8,7 +8,7 @@ use crate::{Insn, MAX_SLOTS, RawSlot, Reg};
 /// An instruction takes 16 bytes, so indexing by slot is one shift and one load.
 const _: () = prove!(size_of::<Insn>() == 16);
 
-/// An optional instruction takes 24 bytes, eight more than an instruction.
+/// An optional instruction takes 24 bytes, eight more than an instruction: whether there is one has a tag of its own.
 const _: () = prove!(size_of::<Option<Insn>>() == 24);
 
 /// A raw slot takes the eight bytes in which it is spelled.

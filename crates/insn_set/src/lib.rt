@@ -27,13 +27,13 @@
 //!   operation has types of its own for its size, which has two values, and for its operation, so each value of `Insn::Atomic`
 //!   is an instruction.
 //! - Operators, conditions, atomic operations, loads and conversions have a table each, with a row for each value: its number
-//!   and its symbol or name (`OPERATORS`, `CONDITIONS`, `OPERATIONS`, `LOADS`, `ORDERS`, `EXTENSIONS`). Both directions between
-//!   a value and its number or symbol use the table, in the code and in the definitions, so a new value is a row. The
-//!   definitions also list number and symbol by cases, as RFC 9669 does: so the table is no assumption, and a row that differs
-//!   is rejected. A run uses no table: with one `globals, atomic` of the bench took 18.0 machine instructions for each
-//!   instruction instead of 15.3.
+//!   and its symbol or name (`OPERATORS`, `CONDITIONS`, `OPERATIONS`, `LOADS`, `ORDERS`, `EXTENSIONS`). A value is found by its
+//!   number or symbol in the table, in the code and in the definitions. The definitions also list number and symbol by cases, as
+//!   RFC 9669 does: so the table is no assumption, and a row that differs is rejected. Operators and conditions also have an
+//!   array by code, which is proved to agree with the rows, so the codec needs no search. A run uses no table: with one
+//!   `globals, atomic` of the bench took 18.0 machine instructions for each instruction instead of 15.3.
 //! - In two tables the order matters or a row is missing: an unsigned operator comes before the signed one with its code, as
-//!   the code finds the first; and `s64` is the name of a size that no load has, so it has a name and no row.
+//!   the definitions find the first; and `s64` is the name of a size that no load has, so it has a name and no row.
 //! - Eight groups (`View`) define what an instruction does, for values and for facts: its spelling does not matter there, and
 //!   proofs go over eight cases instead of fifteen. The code goes by instruction: an enum of the groups, constructed for each
 //!   instruction, made `verify` of `verifier` take 67 to 89% more machine instructions (builds without proofs).

@@ -8,7 +8,8 @@ use crate::table::by_symbol;
 use words::AluOp;
 
 /// Each operator, its code (RFC 9669, section 4.1), and the symbol that a line of text has for it. The rows are in the order of the
-/// variants, so `op as usize` is the index of its row. If two share a code, the unsigned one comes first: the offset distinguishes them.
+/// variants, so `op as usize` is the index of its row. If two share a code, the unsigned one comes first, as the definitions find the first
+/// row with a code; the offset field of a slot distinguishes the two.
 const OPERATORS: [(AluOp, u32, &str); 14] = [
     (AluOp::Add, 0, "+="),
     (AluOp::Sub, 1, "-="),
@@ -26,8 +27,8 @@ const OPERATORS: [(AluOp, u32, &str); 14] = [
     (AluOp::SignedShiftRight, 12, "s>>="),
 ];
 
-/// The operator of each code, 0 to 15, at offset 0; `None` for a code that no operator has. A look-up in it needs no search. It is proved
-/// to agree with `OPERATORS`.
+/// The operator of each code, 0 to 15, in a slot whose offset field is 0; `None` for a code that no operator of two operands has. A look-up
+/// needs no search. The array is proved to agree with `OPERATORS`.
 const OPERATORS_BY_CODE: [Option<AluOp>; 16] = [
     Some(AluOp::Add),
     Some(AluOp::Sub),
@@ -65,8 +66,8 @@ pub fn alu_offset(op: AluOp) -> u16
     }
 }
 
-/// The operator with this code at offset 0, the unsigned one of two; `None` for 8 and for 13 and above, which no operator of two operands
-/// has.
+/// The operator with this code in a slot whose offset field is 0, so the unsigned one if two have the code; `None` for 8 and for 13 and
+/// above, which no operator of two operands has.
 pub fn alu_by_number(number: u8) -> Option<AluOp>
     ensures value { result ≡ alu_by_number number }
     ensures inverse { IfSome result (λ op. alu_number op ≡ number) }

@@ -27,9 +27,9 @@ pub enum Reference {
     Nothing,
     /// A helper function, by its number (RFC 9669, section 4.3.1).
     Helper(i32),
-    /// A map, by its descriptor (RFC 9669, section 5.4.1).
+    /// A map, by its descriptor, whose 32 bits are read as unsigned (RFC 9669, section 5.4.1).
     Map(u32),
-    /// A byte in the first value of a map, by the map's descriptor and the byte's offset (RFC 9669, section 5.4.1).
+    /// A byte in the first value of a map, by the map's descriptor, unsigned too, and the byte's offset (RFC 9669, section 5.4.1).
     Value(u32, u32),
 }
 
@@ -43,7 +43,8 @@ pub struct Profile {
     /// or that an operator or a condition reads. `None` if that is a constant, or there is none. A call also reads its helper's arguments,
     /// which are not included here.
     pub second_read: Option<Reg>,
-    /// The register that it writes; `None` if there is none. A call's effect on registers 0 to 5 is not included here.
+    /// The register that it writes; `None` if there is none, also for an atomic operation, as those with FETCH are no instructions here. A
+    /// call's effect on registers 0 to 5 is not included.
     pub written: Option<Reg>,
     /// Its possible successors.
     pub successors: Successors,
@@ -226,8 +227,8 @@ impl Successors {
         }
     }
 
-    /// The slot to which an instruction at `slot` may jump; `None` if there is no jump, or the target is below slot 0. The bound of `slot`
-    /// keeps the next slot from overflowing.
+    /// The slot to which an instruction at `slot` may jump; `None` if there is no jump, or the target is below slot 0. The bound of `slot`,
+    /// which each slot of a program meets, keeps the next slot from overflowing.
     #[inline(always)]
     pub fn target(self, slot: usize) -> Option<usize>
         requires { slot ≤ MAX_SLOTS }

@@ -38,14 +38,14 @@ impl RawSlot {
         Some(RawSlot::in_front(bytes))
     }
 
-    /// Reads the slot in the first eight bytes; there are at least eight.
+    /// Reads the slot in the first eight bytes. The caller has checked that there are eight.
     #[inline(always)]
     #[tactic(auto, unfolding(crate::specs::Slot::slot_of))]
     fn in_front(bytes: &[u8]) -> RawSlot
         requires { 8 ≤ length bytes.now }
         ensures { fields result ≡ slot_of bytes.now }
     {
-        // One word, which a compiler loads, and stores as it is.
+        // The eight bytes as one word, so that a compiler loads them at once, and stores the word unchanged as the slot.
         let word = u64::from_le_bytes([
             bytes[0], bytes[1], bytes[2], bytes[3], bytes[4], bytes[5], bytes[6], bytes[7],
         ]);

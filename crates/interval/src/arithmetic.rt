@@ -7,8 +7,8 @@ ghost use Rattle.interval.specs.Table.{sum_range, difference_range, product_rang
 
 use crate::range::{Range, greatest};
 
-/// The range of the sums of members, modulo 2^64 (`wide`) or 2^32: exact if none wraps or all do, else all numbers. The tests compare with
-/// differences from the greatest number, so nothing overflows.
+/// The range of the sums of members, numbers of 64 bits (`wide`) or 32, modulo 2^64 or 2^32: exact if none wraps or all do, else all
+/// numbers. The tests compare with differences from the greatest number, so nothing overflows.
 pub(crate) fn sum(wide: bool, a: Range, b: Range) -> Range
     requires first { a.hi < 2 ^ width wide }
     requires second { b.hi < 2 ^ width wide }
@@ -24,8 +24,8 @@ pub(crate) fn sum(wide: bool, a: Range, b: Range) -> Range
     }
 }
 
-/// The range of the differences of members, modulo 2^64 (`wide`) or 2^32: exact if none wraps or all do, else all numbers. If all wrap,
-/// 2^64 or 2^32 is added as the greatest number and 1, so nothing overflows.
+/// The range of the differences of members, numbers of 64 bits (`wide`) or 32, modulo 2^64 or 2^32: exact if none wraps or all do, else all
+/// numbers. If all wrap, 2^64 or 2^32 is added as the greatest number and 1, so nothing overflows.
 pub(crate) fn difference(wide: bool, a: Range, b: Range) -> Range
     requires first { a.hi < 2 ^ width wide }
     requires second { b.hi < 2 ^ width wide }
@@ -41,8 +41,8 @@ pub(crate) fn difference(wide: bool, a: Range, b: Range) -> Range
     }
 }
 
-/// The range of the products of members, modulo 2^64 (`wide`) or 2^32: all numbers if the greatest wraps, which is so if it has more than
-/// 64 bits (`checked_mul`) or is above the greatest number of the width.
+/// The range of the products of members, numbers of 64 bits (`wide`) or 32, modulo 2^64 or 2^32: all numbers if the greatest wraps, which
+/// is so if it has more than 64 bits (`checked_mul`) or is above the greatest number of the width.
 pub(crate) fn product(wide: bool, a: Range, b: Range) -> Range
     requires first { a.hi < 2 ^ width wide }
     requires second { b.hi < 2 ^ width wide }

@@ -17,7 +17,7 @@ impl Range {
     ghost use Rattle.std.specs.Prelude.{◌≡◌, ◌≤◌};
     ghost use Rattle.interval.specs.Ranges.{span, constant, is_constant, full};
 
-    /// The numbers from `lo` to `hi`.
+    /// The numbers from `lo` to `hi`. Callers pass ends in order, so that there is a member.
     pub(crate) fn new(lo: u64, hi: u64) -> Range
         requires { lo ≤ hi }
         ensures { result ≡ span lo hi }

@@ -16,8 +16,8 @@ fn places(wide: bool, by: u64) -> u64
     if wide { by % 64 } else { by % 32 }
 }
 
-/// The range of the members of `a` shifted left by `places` bits; all numbers if the greatest member loses a bit, that is, no longer fits
-/// 64 bits (`wide`) or 32.
+/// The range of the members of `a`, numbers of 64 bits (`wide`) or 32, shifted left by `places` bits, which the function of that name has
+/// reduced modulo the width; all numbers if the greatest member loses a bit, that is, no longer fits the width.
 fn scaled(wide: bool, a: Range, places: u64) -> Range
     requires first { a.hi < 2 ^ width wide }
     requires bound { places < 64 }
@@ -30,7 +30,8 @@ fn scaled(wide: bool, a: Range, places: u64) -> Range
     }
 }
 
-/// The range of the members of `a` shifted left by members of `b`: all numbers unless `b` is a constant and no member loses a bit.
+/// The range of the members of `a`, numbers of 64 bits (`wide`) or 32, shifted left by members of `b`: all numbers of the width unless `b`
+/// is a constant and no member loses a bit.
 pub(crate) fn shift_left(wide: bool, a: Range, b: Range) -> Range
     requires { a.hi < 2 ^ width wide }
     ensures { result ≡ shift_left_range (width wide) a b }
@@ -42,8 +43,8 @@ pub(crate) fn shift_left(wide: bool, a: Range, b: Range) -> Range
     }
 }
 
-/// The range of the members of `a` shifted right by members of `b`, with zeros from the left. If `b` is no constant, it is from 0 to the
-/// greatest member of `a`, as a shift by 0 leaves a member as it is.
+/// The range of the members of `a` shifted right by members of `b`, modulo 64 (`wide`) or 32, with zeros from the left. If `b` is no
+/// constant, it is from 0 to the greatest member of `a`, as a shift by 0 leaves a member as it is.
 pub(crate) fn shift_right(wide: bool, a: Range, b: Range) -> Range
     ensures { result ≡ shift_right_range (width wide) a b }
 {
@@ -55,8 +56,8 @@ pub(crate) fn shift_right(wide: bool, a: Range, b: Range) -> Range
     }
 }
 
-/// The range of the members of `a` shifted right by members of `b`, with the sign bit copied: all numbers if a sign bit may be 1 (the
-/// greatest member is above half of `greatest`), else that of shifts without sign.
+/// The range of the members of `a`, on 64 bits (`wide`) or 32, shifted right by members of `b`, with the sign bit copied: all numbers if a
+/// sign bit may be 1 (the greatest member is above half of `greatest`), else that of shifts without sign.
 pub(crate) fn signed_shift_right(wide: bool, a: Range, b: Range) -> Range
     ensures { result ≡ signed_shift_right_range (width wide) a b }
 {
@@ -67,8 +68,8 @@ pub(crate) fn signed_shift_right(wide: bool, a: Range, b: Range) -> Range
     }
 }
 
-/// The range of the members of `b` extended by the sign of their low `from` bits: the members themselves if all fit into these bits with
-/// sign bit 0 (at most `positive`), else all numbers.
+/// The range of the members of `b` extended by the sign of their low `from` bits to 64 bits (`wide`) or 32: the members themselves if all
+/// fit into these bits with sign bit 0 (at most `positive`), else all numbers of the width.
 pub(crate) fn sign_extend(wide: bool, from: ExtendedBits, b: Range) -> Range
     ensures { result ≡ sign_extend_range (width wide) (extended_bits from) b }
 {

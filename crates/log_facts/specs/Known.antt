@@ -55,7 +55,7 @@ IsJudged code named known (Ok cost) = IsAcceptedWith code named known × IsCostO
 IsJudged code named known (Err fault) = IsRefusedWith code named known fault
 
 -- the Boolean, which a log has, is whether the program is accepted, and `known` has the facts that
--- go with this verdict; of a rejected program, with its fault, which the log does not have
+-- go with this verdict: of a rejected program for some fault, which the log does not have
 abbrev pub IsLogged : List Insn → List Named → Bool → List KnownFacts → Type 0
 IsLogged code named true known = IsAcceptedWith code named known
 IsLogged code named false known = (fault : VerifyFault) × IsRefusedWith code named known fault

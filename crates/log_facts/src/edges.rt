@@ -42,8 +42,9 @@ impl Edges {
         }
     }
 
-    /// Sets which edges out of an instruction a run may take, by the result of its transfer function, and refines the facts on them. Before
-    /// this, `falling` and `jumping` both are the facts after the instruction, without what only one edge has.
+    /// Sets which edges out of an instruction a run may take, by the result of its transfer function, and refines the facts on them: by a
+    /// comparison the ranges of its operands, by a null test the result of its look-up, null on one edge and not on the other. Before this,
+    /// `falling` and `jumping` both are the facts after the instruction, without what only one edge has.
     fn take(&mut self, flow: &Flow) {
         (self.falls, self.jumps) = match *flow {
             Flow::Ends => (false, false),

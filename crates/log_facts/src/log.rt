@@ -34,8 +34,9 @@ pub struct Log {
 }
 
 impl Judged {
-    /// The log with this text, and with the facts and the verdict of `self`. For each program with this verdict and these
-    /// facts (`IsJudged`), `is_accepted` is whether it is accepted, and the log has its facts; a text that ends in `verdict` has it too.
+    /// The log with this text, and with the facts and the verdict of `self`. For each program with this verdict and these facts
+    /// (`IsJudged`), `is_accepted` is whether the program is accepted, and the log has its facts; if `text` ends in the verdict of `self`,
+    /// the log's text says the program's verdict.
     pub fn into_log(self, text: String) -> Log
         ensures text { result.text ≡ text }
         ensures verdict { (code : List Insn) (named : List Named)

@@ -37,7 +37,7 @@ impl Watcher for Recorder {
     ghost use Rattle.std.specs.Prelude.{Some};
     ghost use Rattle.log_facts.specs.Known.{facts_by_slot};
 
-    // What contracts see of it: the slots and facts that it keeps.
+    // What contracts see of a recorder: the slots and facts that it keeps.
     ghost told = { λ r. Some (facts_by_slot r.known.items) };
 
     /// Appends the facts before the instruction at `slot`.

@@ -11,8 +11,8 @@ pub(crate) struct JumpEdge {
     pub from: usize,
 }
 
-/// The target of the jump at a slot; `None` if no jump begins there, or its target is below slot 0. The test of `MAX_SLOTS` never fails for
-/// an instruction of a program; the contract of `target` needs it.
+/// The target of the jump at a slot, which may be past the end if the program's shape has a fault; `None` if no jump begins there, or its
+/// target is below slot 0. The test of `MAX_SLOTS` never fails for an instruction of a program; the contract of `target` needs it.
 pub(crate) fn target_at(program: &Program, slot: usize) -> Option<usize> {
     let insn = program.get(slot)?;
     if slot > MAX_SLOTS {

@@ -22,7 +22,7 @@ const HEAD: &str =
 enum Edge<'a> {
     /// Nothing: there was no pass, since the program's shape has a fault.
     Untold,
-    /// A run may take it; the text is what is new on it.
+    /// A run may take it; the text is what is new on it, empty if nothing is.
     Taken(&'a str),
     /// No run takes it.
     Dead,
@@ -123,7 +123,7 @@ struct Graph<'a> {
     why: &'a str,
     /// For each slot whether a block begins there.
     starts: &'a [bool],
-    /// The index of the next step.
+    /// The index in the story's steps of the next step.
     next: usize,
     block: Block,
 }

@@ -10,7 +10,8 @@ use std::alloc::AllocError;
 use std::fmt::Write;
 use words::{REGISTERS, STACK_SLOTS};
 
-/// Writes the semicolon that parts a note from the one before it. The first note, with no text from `start` on, has none.
+/// Writes the semicolon between a note and the one before it. The first note has none: no text is yet after the offset `start`, at which
+/// notes begin.
 pub(crate) fn part(text: &mut String, start: usize) -> Result<(), AllocError> {
     if text.len() > start {
         text.push_str("; ")
@@ -19,7 +20,8 @@ pub(crate) fn part(text: &mut String, start: usize) -> Result<(), AllocError> {
     }
 }
 
-/// Writes each register that is readable in `new` and had another kind in `old`, with its kind.
+/// Writes each register that is readable in `new` and had another kind in `old`, with its kind, as a note of its own. Notes begin at offset
+/// `start` of the text.
 fn write_registers(
     text: &mut String,
     start: usize,
@@ -37,7 +39,7 @@ fn write_registers(
     Ok(())
 }
 
-/// Writes the registers that are readable in `old` and not in `new`, as one note.
+/// Writes the registers that are readable in `old` and not in `new`, as one note. Notes begin at offset `start` of the text.
 fn write_lost_registers(
     text: &mut String,
     start: usize,
@@ -83,7 +85,7 @@ fn lost(old: Slot, new: Slot) -> u8 {
     }
 }
 
-/// The offset of a stack slot's lowest byte from the stack's upper end.
+/// The offset of a stack slot's lowest byte from the stack's upper end: -8 for the highest slot. Stack slots are numbered from the lowest.
 fn lowest_byte(index: usize) -> i64
     requires { index < STACK_SLOTS }
 {
@@ -93,7 +95,7 @@ fn lowest_byte(index: usize) -> i64
 /// Consecutive bytes of the stack that are still to be written into the text, by their offsets from the stack's upper end.
 #[derive(Drop)]
 struct Row {
-    /// The offset in the text at which notes begin.
+    /// The offset in the text at which notes begin, the first without a semicolon.
     start: usize,
     /// The first byte.
     first: i64,
@@ -116,8 +118,8 @@ impl Row {
         }
     }
 
-    /// Adds one more byte. If it does not follow the bytes that the row has, these are first written as a note with `what`, and it begins
-    /// a new row.
+    /// Adds one more byte. If it does not follow the bytes that the row has, these are first written as a note with `what`, and the byte
+    /// begins a new row.
     fn take(&mut self, text: &mut String, what: &str, byte: i64) -> Result<(), AllocError> {
         if byte != self.end {
             self.write(text, what)?;
@@ -148,7 +150,7 @@ impl Row {
 }
 
 /// Writes the stack bytes that are newly written, or if `are_lost`, those that are not readable any more, with a note for each row of
-/// consecutive bytes.
+/// consecutive bytes. Notes begin at offset `start` of the text.
 fn write_stack_bytes(
     text: &mut String,
     start: usize,
@@ -176,7 +178,8 @@ fn write_stack_bytes(
     row.write(text, what)
 }
 
-/// Writes each spill of `new` that `old` does not have in this stack slot, with the kind of its pointer.
+/// Writes each spill of `new` that `old` does not have in this stack slot, with the kind of its pointer, as a note of its own. Notes begin
+/// at offset `start` of the text.
 fn write_spills(
     text: &mut String,
     start: usize,
@@ -198,7 +201,7 @@ fn write_spills(
     Ok(())
 }
 
-/// Writes what is known in `new` and was not in `old`, and what is not known any more, after the notes from `start` on.
+/// Writes what is known in `new` and was not in `old`, and what is not known any more, as notes. Notes begin at offset `start` of the text.
 pub(crate) fn write_known(
     text: &mut String,
     start: usize,

@@ -10,29 +10,29 @@ use insn_codec::{Insn, Program, Successors};
 use std::alloc::AllocError;
 use std::fmt::Write;
 
-/// The column at which notes begin, unless the instruction is longer.
+/// The width in bytes to which spaces fill up a line's slot and instruction, so that the notes are aligned. Few instructions are longer.
 const COLUMN: usize = 40;
 
 /// What is to be written of a program.
 #[derive(Clone, Copy)]
 pub(crate) struct Story<'a> {
     pub program: &'a Program,
-    /// The steps of the pass, by slot.
+    /// The steps of the pass: the instructions that it reached, in the order of their slots.
     pub steps: &'a [Step],
-    /// The jumps that a run may take, by their targets.
+    /// The jumps that a run may take, in the order of their targets.
     pub jumps: &'a [JumpEdge],
     /// Whether there was a pass over the program: not if its shape has a fault.
     pub has_pass: bool,
 }
 
-/// How far the lines have been written.
+/// How far the lines have been written: what the next line needs.
 #[derive(Drop)]
 struct Cursor {
-    /// The index of the next step.
+    /// The index in `steps` of the next step.
     step: usize,
-    /// The index of the next jump.
+    /// The index in `jumps` of the next jump.
     jump: usize,
-    /// The slot of the instruction before, if a run may fall through from it.
+    /// The slot of the instruction on the line before, if a run may fall through from it; else `None`.
     falls_from: Option<usize>,
 }
 
@@ -43,7 +43,7 @@ struct Line {
     end: usize,
 }
 
-/// Begins a note: the first one in its column after the instruction, others after a semicolon.
+/// Begins a note: the first one on the line after spaces up to `COLUMN` and ` // `, others after a semicolon.
 fn begin_note(text: &mut String, line: Line) -> Result<(), AllocError> {
     if text.len() > line.end {
         return text.push_str("; ");
@@ -182,7 +182,7 @@ fn write_line(
 }
 
 /// Writes the lines of the instructions from slot 0 to slot `last`, or to the end if `last` is past it. The second slot of a wide
-/// instruction has no line.
+/// instruction has no line. `text` ends with a whole line before, or is empty, as `lines_of` passes it.
 pub(crate) fn write_lines(
     text: &mut String,
     story: &Story<'_>,

@@ -13,9 +13,9 @@ pub(crate) struct Step {
     pub slot: usize,
     /// What is new before it, or all that is known (`is_whole` of `steps_of`).
     pub known: String,
-    /// What is new on the edge to the next instruction, if a run may take it.
+    /// What is new on the edge to the next instruction; `None` if there is none, or no run takes it.
     pub falling: Option<String>,
-    /// What is new on the edge of its jump, if a run may take it.
+    /// What is new on the edge of its jump; `None` if it has none, or no run takes it.
     pub jumping: Option<String>,
 }
 
@@ -46,7 +46,7 @@ impl StepMaker<'_> {
         }
     }
 
-    /// Adds to `step` what is new on the edges of a conditional jump, before which these are the facts.
+    /// Adds to `step` what is new on the edges of a conditional jump `insn`, before which these are the facts. A rejected one has no edges.
     fn branch(&mut self, step: &mut Step, insn: &Insn, facts: &Facts) -> Result<(), AllocError> {
         self.edges.leave(facts, self.named, step.slot, insn);
         let Edges {
@@ -61,7 +61,7 @@ impl StepMaker<'_> {
     }
 
     /// Adds to `step` the edges out of its instruction; an exit has none. Only those of a conditional jump have a text, others the empty
-    /// one: what another instruction changes is new before the next one.
+    /// one, also if the instruction is rejected: what another instruction changes is new before the next one.
     fn leave(&mut self, step: &mut Step, insn: &Insn, facts: &Facts) -> Result<(), AllocError> {
         match insn.profile().successors {
             Successors::Next => step.falling = Some(String::new(self.alloc)),
@@ -89,8 +89,8 @@ impl StepMaker<'_> {
     }
 }
 
-/// The steps of a program, from what is known before its instructions. Each has what is new since the step before it, or if `is_whole`,
-/// all that is known.
+/// The steps of a program, one for each instruction with facts in `known`, if descriptors name the objects of `named`. Each has what is new
+/// since the step before it, or if `is_whole`, all that is known.
 pub(crate) fn steps_of(
     alloc: Global,
     program: &Program,

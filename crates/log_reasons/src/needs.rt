@@ -26,8 +26,9 @@ pub(crate) struct RefusedProgram<'a> {
     pub facts: &'a Facts,
 }
 
-/// Writes what was known at the rejected instruction, against what it needs. Faults of the shape and unreadable registers come first, since
-/// instructions of many kinds can have them. The last arm has the accesses to memory; its other instructions break no rule of safety.
+/// Writes what was known at the rejected instruction `insn`, against what it needs. Faults of the shape and unreadable registers come
+/// first, since instructions of many kinds can have them. The last arm has the accesses to memory; the other instructions that come to it,
+/// as a jump without a condition, break no rule of safety.
 fn write_need(
     text: &mut String,
     refusal: &RefusedProgram<'_>,
@@ -56,8 +57,8 @@ fn write_need(
     }
 }
 
-/// The line with the reason for which a program is rejected: its text, and after `between` what is known and what is required. Each line
-/// has these, since a fault is at a slot at which an instruction begins.
+/// The line on a rejection: the reason in words, and after `between` what is known and what is required. Each line has all of it, since a
+/// fault is at a slot at which an instruction begins.
 fn reason_line(refusal: &RefusedProgram<'_>, between: &str) -> Result<String, AllocError> {
     let mut line = String::from_str(refusal.alloc, reason_words(refusal.fault.reason))?;
     if let Some(insn) = refusal.program.get(refusal.fault.slot) {

@@ -19,7 +19,8 @@ pub(crate) enum Wanted {
     Stack { first: i64, last: i64 },
 }
 
-/// Whether a byte of the stack is written on each path, by its offset from the upper end. False outside the stack.
+/// Whether a byte of the stack is written on each path, by its offset from the upper end; each byte of a spill is. False outside the stack.
+/// In the mask of a stack slot, bit 0 is the lowest byte.
 pub(crate) fn is_written(facts: &Facts, byte: i64) -> bool {
     let Ok(byte_index) = usize::try_from(byte.saturating_add(8 * STACK_SLOTS as i64)) else {
         return false;
@@ -34,7 +35,7 @@ pub(crate) fn is_written(facts: &Facts, byte: i64) -> bool {
 }
 
 impl Wanted {
-    /// Whether the value is readable by these facts.
+    /// Whether the value is readable by these facts: the register, or each of the stack bytes.
     fn is_in(self, facts: &Facts) -> bool {
         match self {
             Wanted::Register(register) => kind_of(facts, register) != Kind::Unreadable,
@@ -50,16 +51,16 @@ impl Wanted {
     }
 }
 
-/// Why the value that the rejected instruction needs is missing before an instruction, this one or an earlier one.
+/// Why the value that the rejected instruction needs is missing before an instruction, the rejected one or an earlier one.
 #[derive(Clone, Copy)]
 enum Cause {
-    /// It was never written.
+    /// The value was never written.
     Never,
-    /// It is missing on the edge from this slot, and present on another edge to the same instruction.
+    /// The value is missing on the edge from this slot, and present on another edge to the same instruction.
     Way(usize),
-    /// The instruction at this slot destroys it.
+    /// The instruction at this slot destroys the value.
     Taken(usize),
-    /// It is present on each edge to this slot, and the join of the edges loses it.
+    /// The value is present on each edge to this slot, and the join of the edges loses it.
     Joined(usize),
 }
 
@@ -72,13 +73,13 @@ struct Arrival {
     lack: Option<(usize, Cause)>,
 }
 
-/// Follows what an instruction needs through a program.
+/// Follows what the rejected instruction needs through a program, from the entry on, one instruction after another by their slots.
 #[derive(Drop)]
 struct Finder<'a> {
     program: &'a Program,
     named: &'a [Named],
     wanted: Wanted,
-    /// By slot, what is known of the edges to it.
+    /// For each slot of the program, what is known of the edges to it that have been followed.
     arrivals: Vec<Arrival>,
     /// Why the value is missing before the last instruction that was followed; `None` if it is present.
     cause: Option<Cause>,
@@ -108,8 +109,9 @@ impl Finder<'_> {
         }
     }
 
-    /// Notes whether the value is present on the edge between two slots, on which these are the facts. If it is missing there and present
-    /// before the instruction at `from`, this one destroys it. Of the edges to a slot without the value, the first one noted is kept.
+    /// Notes whether the value is present on the edge between two slots, on which these are the facts. If it is missing there, the cause is
+    /// why it is missing before the instruction at `from`, or, if it is present before this instruction, that the instruction destroys it.
+    /// Of the edges to a slot without the value, the first one noted is kept.
     fn arrive(&mut self, from: usize, to: usize, facts: &Facts) {
         let is_there = self.wanted.is_in(facts);
         let cause = self.cause.unwrap_or(Cause::Taken(from));
@@ -138,7 +140,8 @@ impl Finder<'_> {
         }
     }
 
-    /// Follows the value through the instruction at `slot`, before which these are the facts. There is one at each slot with facts.
+    /// Follows the value through the instruction at `slot`, before which these are the facts. An instruction begins at each slot with
+    /// facts.
     fn follow(&mut self, slot: usize, facts: &Facts) {
         self.cause = self.cause_at(slot, facts);
         if let Some(insn) = self.program.get(slot) {

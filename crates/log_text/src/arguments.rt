@@ -4,7 +4,7 @@ use clap::{Arg, ArgAction, ArgMatches, Command};
 use log_core::LogStyle;
 use std::alloc::{AllocError, Global};
 
-/// The form of the input's program.
+/// How the program of the input is written.
 #[derive(Clone, Copy)]
 pub(crate) enum ProgramForm {
     /// A slot on each line, as hex digits.
@@ -108,7 +108,8 @@ fn begins_with_hex(input: &[u8]) -> bool {
     true
 }
 
-/// The form of the input's program: the one that an option asks for, or else that of its first line that is not blank.
+/// How the program of the input is written: as an option says, or else as its first line that is not blank shows, hex lines if this has hex
+/// digits only, else text.
 pub(crate) fn form_of(matches: &ArgMatches<'_>, input: &[u8]) -> ProgramForm {
     if matches.get_flag("hex") {
         ProgramForm::Hex

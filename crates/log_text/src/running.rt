@@ -31,7 +31,8 @@ impl Answer {
     }
 }
 
-/// The output for an input: the log of its program, or the refusal of its slots if they are no program, which only hex lines can have.
+/// The output for an input: the log of its program, or the refusal of the slots on hex lines if they are no program. A fault of a
+/// line is a `Failure`, and so has no output.
 fn log_answer<I: Read + Drop>(
     alloc: Global,
     matches: &ArgMatches<'_>,

@@ -26,7 +26,7 @@ abbrev pub following : ℕ → List ℕ → Option ℕ
 following p [] = None
 following p (x ∷ xs) = if nat_eq p x then first_element xs else following p xs
 
--- the list without p; the others keep their order
+-- the list without the first p, if it has p; the other elements keep their order
 abbrev pub taken_out : ℕ → List ℕ → List ℕ
 taken_out p [] = []
 taken_out p (x ∷ xs) = if nat_eq p x then xs else x ∷ taken_out p xs
@@ -42,7 +42,8 @@ pub record BoundedKeys (K : Type 0) : Type 0 where
 abbrev pub bounded_keys : {K : Type 0} → ℕ → List (K × ℕ) → BoundedKeys K
 bounded_keys bound es = record { bound = bound; entries = es }
 
--- the logic's code of `BoundedKeys`, from that of one key: the code of the pair of the fields
+-- the code of `BoundedKeys`, by which proofs distinguish its values (`coded` of a `Model`), from
+-- the code of a key: that of the pair of the fields
 abbrev pub bounded_keys_code : {K : Type 0} → Coded K → Coded (BoundedKeys K)
 bounded_keys_code {K} k =
     code_by (ℕ × List (K × ℕ)) (coded× coded_ℕ (coded_list (coded× k coded_ℕ)))

@@ -7,7 +7,7 @@ ghost use Rattle.ordered_keys.specs.Orders.{occurrences, following, first_elemen
 use std::alloc::{AllocError, Global};
 use std::marker::Model;
 
-/// The neighbours of an element in the ring: the bound is that before the first and after the last.
+/// The neighbours of an element, or of the bound, in the ring. The bound is the neighbour before the first element and after the last.
 #[derive(Clone, Copy, Drop)]
 pub struct Link {
     pub(crate) before: u32,
@@ -18,7 +18,7 @@ pub struct Link {
 /// the bound.
 #[derive(Drop)]
 pub struct ElementOrder {
-    // The link of each element, and of the bound.
+    // By number: the link of each element, and of the bound. The link of any other number means nothing.
     links: Vec<Link>,
     bound: u32,
     // The number of elements.
@@ -38,7 +38,8 @@ impl Model for ElementOrder {
 }
 
 impl ElementOrder {
-    /// An order without elements. Allocates room for all those less than `bound`. `AllocError`: out of memory.
+    /// An order without elements. Allocates a link for each number less than `bound`, and for the bound itself. `AllocError`: out of
+    /// memory.
     pub(crate) fn new(alloc: Global, bound: u32) -> Result<ElementOrder, AllocError>
         ensures bound { IfOk result (λ order. order.bound ≡ bound) }
         ensures elements { IfOk result (λ order. order.elements ≡ []) }
@@ -82,7 +83,7 @@ impl ElementOrder {
         self.unless_end(self.links[element as usize].after)
     }
 
-    /// Puts an element last.
+    /// Puts an element last. It is less than the bound and not in the order, which therefore has fewer elements than the bound.
     pub(crate) fn push(&mut self, element: u32)
         requires within { element < self.old.bound }
         requires new { occurrences element self.old.elements ≡ 0 }
@@ -114,7 +115,7 @@ impl ElementOrder {
         self.count = 0;
     }
 
-    /// Takes an element out. The others keep their order.
+    /// Takes an element out of the order, which has it. The others keep their order.
     pub(crate) fn remove(&mut self, element: u32)
         requires { 0 < occurrences element self.old.elements }
         ensures bound { self.new.bound ≡ self.old.bound }

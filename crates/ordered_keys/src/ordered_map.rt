@@ -1,7 +1,7 @@
 //! A map from keys to elements that keeps its keys in the order in which they were added. A removal costs as much as an insertion.
 //!
-//! The functions after the methods are given its parts: the table of the keys with their elements, and `indices`, by element, with the
-//! index in the table of the element's key.
+//! The functions after the methods are given parts of the map: the table of the keys with their elements, and `indices`, which has for each
+//! element the index in the table of the element's key.
 
 ghost use Rattle.std.specs.Prelude.{◌≡◌, ℕ, ◌+◌, ◌*◌, ◌<◌, ◌≤◌, true, [], ◌∷◌, ◌++◌, length, drop, option_map};
 ghost use Rattle.std.specs.Prelude.{slice_get, None, Some, IfSome, IfOk, vec_len, vec_capacity, swap_remove};
@@ -27,7 +27,7 @@ pub struct OrderedMap<K: Eq + Hash + Copy, S: BuildHasher> {
     // The index in the table of the key of each element.
     indices: Vec<u32>,
     order: ElementOrder,
-    // Empty; room for half of the entries, which `rebuild_without` moves through it.
+    // Empty, with room for half of the entries, rounded up: `rebuild_without` moves them through it.
     rows: Vec<(K, u32)>,
 }
 
@@ -70,7 +70,7 @@ impl<K: Eq + Hash + Copy, S: BuildHasher> OrderedMap<K, S> {
         })
     }
 
-    /// The allocator of the table.
+    /// The allocator with which the map was made.
     pub fn allocator(&self) -> Global {
         *self.table.allocator()
     }
@@ -115,7 +115,8 @@ impl<K: Eq + Hash + Copy, S: BuildHasher> OrderedMap<K, S> {
         Some((key, next))
     }
 
-    /// Adds a new key at the end. It allocates nothing: `new` made room for `bound` keys.
+    /// Adds a key at the end. The caller has found the key absent, and gives it an element less than the bound that no key has. It
+    /// allocates nothing: `new` made room for `bound` keys.
     pub fn insert(&mut self, key: K, element: u32)
         requires absent { lookup (K.eq key) self.old.entries ≡ None }
         requires within { element < self.old.bound }
@@ -139,7 +140,7 @@ impl<K: Eq + Hash + Copy, S: BuildHasher> OrderedMap<K, S> {
         self.order.clear();
     }
 
-    /// Removes a key and returns its element; `None` if the key is absent. The others keep their order.
+    /// Removes a key and returns its element; `None` if the key is absent. The other keys keep their order.
     pub fn remove<Q: Equivalent<K>>(&mut self, key: Q) -> Option<u32>
         ensures element { result ≡ lookup (Q.equivalent key) self.old.entries }
         ensures left { self.new.entries ≡ remove_entry (Q.equivalent key) self.old.entries }
@@ -155,8 +156,8 @@ impl<K: Eq + Hash + Copy, S: BuildHasher> OrderedMap<K, S> {
     }
 }
 
-/// Whether a key of the table has this element: whether the entry at the element's index does. An element out of range has no index, and 0
-/// is taken: in an `OrderedMap` the element of that entry is in range.
+/// Whether a key of the table has this element: whether the entry at the element's index does. An element out of range has no index; the
+/// result is then false, by index 0, since in an `OrderedMap` the element of the entry there is in range.
 fn has_element<K: Eq + Hash, S: BuildHasher>(
     table: &IndexMap<K, u32, S>,
     indices: &[u32],
@@ -193,7 +194,8 @@ fn next_element<K: Eq + Hash, S: BuildHasher>(
     }
 }
 
-/// The key of an element, by its index in the table; `None` if no element is given, or the table has no entry at the index.
+/// The key of an element, by its index in the table; `None` if no element is given, or the table has no entry at the index. The element is
+/// in range: `indices` has an index for it.
 fn key_at<'a, K: Eq + Hash, S: BuildHasher>(
     table: &'a IndexMap<K, u32, S>,
     indices: &[u32],
@@ -236,8 +238,8 @@ fn put_last<K: Eq + Hash + Copy, S: BuildHasher>(
     let Ok(_) = added else { unreachable!() };
 }
 
-/// Takes out the entry at an index, which the last entry gets. The table keeps room for `bound` entries: if a removal might lose
-/// some of it, the table is filled anew, through `rows`.
+/// Takes out the entry at an index, and returns it; the last entry gets the index. The table keeps room for `bound` entries: if a removal
+/// might lose some of it, the table is filled anew, through `rows`, which is empty before and after.
 fn take_out<K: Eq + Hash + Copy, S: BuildHasher>(
     table: &mut IndexMap<K, u32, S>,
     rows: &mut Vec<(K, u32)>,
@@ -262,7 +264,8 @@ fn take_out<K: Eq + Hash + Copy, S: BuildHasher>(
     }
 }
 
-/// Takes out the entry at an index, which the last entry gets. The table may lose room for one entry.
+/// Takes out the entry at an index, and returns it; the last entry gets the index. The table, which has an entry there, may lose room for
+/// one entry.
 #[inline(always)]
 fn take_at<K: Eq + Hash + Copy, S: BuildHasher>(
     table: &mut IndexMap<K, u32, S>,
@@ -280,8 +283,9 @@ fn take_at<K: Eq + Hash + Copy, S: BuildHasher>(
     entry
 }
 
-/// Takes out the entry at an index, which the last entry gets, in as many steps as there are entries: the second half of them is taken out,
-/// which gives the table its full room again, and put back without the entry.
+/// Takes out the entry at an index, and returns it; the last entry gets the index. It takes as many steps as there are entries: the second
+/// half of them is taken out, which gives the table its full room again, and put back without the entry. They are moved through `rows`,
+/// which is empty before and after. It is rare, and so out of line.
 #[cold]
 #[inline(never)]
 fn rebuild_without<K: Eq + Hash + Copy, S: BuildHasher>(
@@ -313,7 +317,7 @@ fn rebuild_without<K: Eq + Hash + Copy, S: BuildHasher>(
     taken
 }
 
-/// Copies the entries from an index on to `rows`, which has none, and room for these.
+/// Copies the entries from index `start` on to `rows`, which is empty and has room for them.
 fn copy_entries<K: Eq + Hash + Copy, S: BuildHasher>(
     table: &IndexMap<K, u32, S>,
     start: usize,
@@ -333,7 +337,7 @@ fn copy_entries<K: Eq + Hash + Copy, S: BuildHasher>(
     }
 }
 
-/// Adds these entries at the end of the table, which has room for them.
+/// Adds these entries at the end of the table, which has room for them. No two keys of the table and of the entries are equal.
 fn put_all<K: Eq + Hash + Copy, S: BuildHasher>(table: &mut IndexMap<K, u32, S>, rows: &[(K, u32)])
     requires room { length rows.now ≤ spare table.old }
     requires apart { AreApart K.eq (table.old.entries ++ rows.now) }

@@ -9,7 +9,7 @@ use Rattle.reg_kinds.specs.declared.kind.Slot.{Slot}
 use Rattle.reg_kinds.specs.declared.kind.Slot.TheVariants.{Bytes}
 use Rattle.reg_kinds.specs.declared.facts.Facts.{Facts}
 
--- values of the kind are maps, or pointers, possibly null
+-- whether values of the kind are pointers, possibly null, or maps, which count as pointers here
 abbrev pub is_pointer : Kind → Bool
 is_pointer Unreadable = false
 is_pointer (Scalar r) = false
@@ -25,11 +25,11 @@ kind_at f r = slice_index_or f.registers r Unreadable
 abbrev pub slot_at : Facts → ℕ → Slot
 slot_at f i = slice_index_or f.slots i (Bytes 0)
 
--- the facts with kind k for register r
+-- the facts with kind k for register r, all else as in f
 abbrev pub with_kind : Facts → ℕ → Kind → Facts
 with_kind f r k = record { registers = slice_set f.registers r k; slots = f.slots }
 
--- the facts with s for stack slot i
+-- the facts with s for stack slot i, all else as in f
 abbrev pub with_slot : Facts → ℕ → Slot → Facts
 with_slot f i s = record { registers = f.registers; slots = slice_set f.slots i s }
 
@@ -37,11 +37,11 @@ with_slot f i s = record { registers = f.registers; slots = slice_set f.slots i 
 unfoldable pub tabulate : {X : Type 0} → ℕ → (ℕ → X) → List X
 tabulate n f = map f (range_with_len 0 n)
 
--- the facts with kind k r for each register r
+-- the facts with kind k r for each register r, and the stack of f
 abbrev pub with_registers : Facts → (ℕ → Kind) → Facts
 with_registers f k = record { registers = tabulate 11 k; slots = f.slots }
 
--- the facts with s i for each stack slot i
+-- the facts with s i for each stack slot i, and the registers of f
 abbrev pub with_slots : Facts → (ℕ → Slot) → Facts
 with_slots f s = record { registers = f.registers; slots = tabulate stack_slots s }
 
@@ -50,10 +50,10 @@ abbrev pub facts_of : (ℕ → Kind) → (ℕ → Slot) → Facts
 facts_of k s = record { registers = tabulate 11 k; slots = tabulate stack_slots s }
 
 -- the kind of register r at program entry: register 1 holds the context, register 10 the frame
--- pointer
+-- pointer, and no other is readable
 abbrev pub entry_kind : ℕ → Kind
 entry_kind r = if r == 1 then Ctx else (if r == 10 then Stack (pos 0) else Unreadable)
 
--- the facts at program entry: no stack byte is written
+-- the facts at program entry: registers of the kinds `entry_kind`, and no stack byte is written
 abbrev pub entry : Facts
 entry = facts_of entry_kind (λ i. Bytes 0)

@@ -13,29 +13,29 @@ use Rattle.reg_kinds.specs.declared.reason.Reason.TheVariants.{OutsideStack, Unw
 use Rattle.reg_kinds.specs.Kinds.{kind_at, slot_at, with_registers, with_slots}
 use Rattle.reg_kinds.specs.Stack.{bytes_over}
 
--- the mask of those of n bytes at start p that lie in slot i; a difference of natural numbers is 0
--- if the second is greater
+-- the mask of those of n bytes from byte index p on that lie in stack slot i; 0 if none does. A
+-- difference of natural numbers is 0 if the second is greater
 abbrev pub bits_in : ℕ → ℕ → ℕ → ℕ
 bits_in p n i = (2 ^ (min 8 (p + n - 8 * i) - (p - 8 * i)) - 1) * 2 ^ (p - 8 * i)
 
--- the test holds of some number below n
+-- whether the test holds of some number below n
 unfoldable pub any_below : ℕ → (ℕ → Bool) → Bool
 any_below zero test = false
 any_below (suc n) test = test n || any_below n test
 
--- the slot is a spill, and the bytes of an access touch it (`touched`)
+-- whether the slot is a spill, and the bytes of an access touch it (`touched`)
 abbrev pub is_touched_spill : Slot → Bool → Bool
 is_touched_spill (Bytes mask) touched = false
 is_touched_spill (Spill k) touched = touched
 
--- a byte of the slot, of those of the mask `bits`, may be unwritten; all bytes of a spill are
--- written
+-- whether a byte of the slot, of those of the mask `bits`, may be unwritten; all bytes of a spill
+-- are written
 abbrev pub lacks : Slot → ℕ → Bool
 lacks (Bytes mask) bits = not (bit_and mask bits == bits)
 lacks (Spill k) bits = false
 
--- a read of n bytes at offset x from the stack's upper end may be done: all lie in the stack, none
--- in a spill, none may be unwritten; or the first reason against it
+-- a helper may read n bytes at offset x from the stack's upper end (Ok): all lie in the stack, none
+-- in a spill, and each is written; or the first of these conditions that fails, as a reason
 abbrev pub stack_input : Facts → ℤ → ℕ → Result (Unit {0}) Reason
 stack_input f x n =
     if not (is_in_stack x n) then Err OutsideStack else
@@ -45,7 +45,8 @@ stack_input f x n =
     (λ i. lacks (slot_at f i) (bits_in (byte_index x) n i)) then Err UnwrittenStack else Ok tt))
 
 -- the facts after a write of lo to hi bytes at offset x from the stack's upper end: the first lo
--- count as written, and of a spill that may be touched no other byte does
+-- count as written, and of a spill that hi bytes touch no other byte does. If lo is above hi, no
+-- write has such a length, and the facts describe no run
 abbrev pub filled : Facts → ℤ → ℕ → ℕ → Facts
 filled f x lo hi =
     with_slots f
@@ -64,6 +65,6 @@ stack_filled f x lo hi = if is_in_stack x hi then Ok (filled f x lo hi) else Err
 abbrev pub call_kind : Facts → Kind → ℕ → Kind
 call_kind f k r = if r == 0 then k else (if nat_le r 5 then Unreadable else kind_at f r)
 
--- the facts after a call with a result of kind k
+-- the facts after a call with a result of kind k: the registers by `call_kind`, the stack as in f
 abbrev pub called_facts : Facts → Kind → Facts
 called_facts f k = with_registers f (call_kind f k)

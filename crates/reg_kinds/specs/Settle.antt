@@ -9,8 +9,8 @@ use Rattle.reg_kinds.specs.declared.facts.Facts.{Facts}
 use Rattle.reg_kinds.specs.Kinds.{kind_at, slot_at, facts_of}
 use Rattle.reg_kinds.specs.Pointers.{value_span}
 
--- the kind of a register with the look-up's result after the test: the number 0 if it is null
--- (true), else a pointer to the start of a value of map m
+-- the kind of a register that has the result of a look-up in map m, after a null test found it null
+-- (true) or not: the number 0, or a pointer to the start of a value
 abbrev pub settled_value : Bool → ℕ → Kind
 settled_value true m = Scalar (constant 0)
 settled_value false m = Value (value_span m (pos 0) (pos 0))
@@ -21,8 +21,8 @@ abbrev pub kind_settled : ℕ → Bool → Kind → Kind
 kind_settled site null (MaybeValue m s) = if s == site then settled_value null m else MaybeValue m s
 kind_settled site null k = k
 
--- the stack slot of a spilled result after the test: eight written bytes if it is null (true), else
--- a pointer to the start of a value of map m
+-- the stack slot with the spilled result of a look-up in map m, after a null test found it null
+-- (true) or not: eight written bytes, or a pointer to the start of a value
 abbrev pub settled_spill : Bool → ℕ → Slot
 settled_spill true m = Bytes 0xff
 settled_spill false m = Spill (Value (value_span m (pos 0) (pos 0)))

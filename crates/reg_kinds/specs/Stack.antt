@@ -15,7 +15,7 @@ use Rattle.reg_kinds.specs.declared.reason.Reason.TheVariants.{UnreadableRegiste
 use Rattle.reg_kinds.specs.Reason.{and_then_ok}
 use Rattle.reg_kinds.specs.Kinds.{is_pointer, slot_at, with_slot}
 
--- the mask of n bytes from byte index `at` on, within their slot: bit k for byte k
+-- the mask of n bytes of one stack slot, from byte index `at` on: bit k for byte k of the slot
 abbrev pub byte_bits : ℕ → ℕ → ℕ
 byte_bits at n = (2 ^ n - 1) * 2 ^ (at % 8)
 
@@ -50,21 +50,23 @@ stack_read f offset size signed =
 
 -- ---- stores
 
--- the slot after a write of its bytes of mask `bits`: other written bytes stay written, a spill is
--- lost
+-- the slot after a write of its bytes of mask `bits`: other written bytes stay written; a spill is
+-- lost, and its other bytes count as unwritten
 abbrev pub bytes_over : Slot → ℕ → Slot
 bytes_over (Bytes mask) bits = Bytes (bit_or mask bits)
 bytes_over (Spill k) bits = Bytes bits
 
--- slot s after a store of a value of kind k to its bytes of mask `bits`; a pointer is spilled
--- whole, or the store is rejected
+-- slot s after a store of a value of kind k to its bytes of mask `bits`: a pointer is spilled
+-- whole, or the store is rejected; a number makes these bytes written. An unreadable value is
+-- rejected before, by `stack_write`
 abbrev pub slot_written : Slot → ℕ → AccessSize → Kind → Result Slot Reason
 slot_written s bits size k =
     if is_pointer k
     then (if is_double size then Ok (Spill k) else Err PartOfSpill)
     else Ok (bytes_over s bits)
 
--- the facts after a store of a value of kind k to slot t.0, to the bytes of mask t.1 there
+-- the facts after a store of a value of kind k to slot t.0, to the bytes of mask t.1 there; or the
+-- reason of `slot_written` against it
 abbrev pub facts_written : Facts → AccessSize → Kind → ℕ × ℕ → Result Facts Reason
 facts_written f size k t =
     and_then_ok (slot_written (slot_at f t.0) t.1 size k) (λ s. Ok (with_slot f t.0 s))
@@ -76,7 +78,7 @@ stack_write f offset size Unreadable = Err UnreadableRegister
 stack_write f offset size k = and_then_ok (touched offset size) (facts_written f size k)
 
 -- the stack of facts g, after a change, is that of facts f, before it: in all slots (None), or in
--- all except stack slot i
+-- all except stack slot i, which is one of the 64
 abbrev pub ChangesAtMost : Option ℕ → Facts → Facts → Type 0
 ChangesAtMost None f g = g.slots ≡ f.slots
 ChangesAtMost (Some i) f g = (i < stack_slots) × ((k : ℕ) → k ≢ i → slot_at g k ≡ slot_at f k)

@@ -45,7 +45,7 @@ impl Facts {
         self.registers[usize::from(reg.number())] = kind;
     }
 
-    /// What is known of stack slot `index`.
+    /// What is known of stack slot `index`, 0 to 63.
     pub(crate) fn slot(&self, index: usize) -> Slot
         requires { index < STACK_SLOTS }
         ensures { result ≡ slot_at self.now index }
@@ -53,7 +53,7 @@ impl Facts {
         self.slots[index]
     }
 
-    /// Sets what is known of stack slot `number`.
+    /// Sets what is known of stack slot `number`, 0 to 63.
     pub(crate) fn set_slot(&mut self, number: usize, slot: Slot)
         requires { number < STACK_SLOTS }
         ensures { self.new ≡ with_slot self.old number slot }

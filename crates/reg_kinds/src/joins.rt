@@ -12,13 +12,14 @@ use crate::kind::{Kind, Slot, ValuePointer};
 use interval::{Range, hull};
 use words::{REGISTERS, STACK_SLOTS};
 
-/// The number of slots in a part of the stack.
+/// The number of slots in a part of the stack. Parts are joined one by one (`join_part`): the verifier numbers them, and skips a part whose
+/// join is known to change nothing.
 pub const PART_SLOTS: usize = 8;
 
 /// The number of parts of the stack.
 pub const STACK_PARTS: usize = STACK_SLOTS / PART_SLOTS;
 
-/// A part of the stack: the slots from `PART_SLOTS * number` on.
+/// A part of the stack: the eight slots from `PART_SLOTS * number` on.
 #[derive(Clone, Copy, Debug, PartialEq, Eq)]
 pub struct StackPart {
     pub number: usize,
@@ -59,7 +60,7 @@ impl Slot {
     }
 }
 
-/// The join of two pointers into values of one map: the least range of offsets that includes both.
+/// The join of two pointers into values of one map, as callers have checked: the least range of offsets that includes both.
 fn offsets_hull(p: ValuePointer, q: ValuePointer) -> ValuePointer
     ensures { result ≡ offsets_hull p q }
 {
@@ -115,7 +116,7 @@ fn join_other_kind(known: &mut Kind, edge: &Kind)
     }
 }
 
-/// Joins the kind `edge` into `known`. It is out of line, so that `join_other_kind` saves no registers.
+/// Joins the kind `edge` into `known`. It is out of line, so that `join_other_kind` saves no machine registers.
 #[inline(never)]
 fn join_any_kinds(known: &mut Kind, edge: &Kind)
     ensures { known.new ≡ kind_join known.old edge.now }
@@ -246,7 +247,7 @@ fn join_other_slots(known: &mut Slot, edge: &Slot)
     }
 }
 
-/// Joins the stack slot `edge` into `known`. It is out of line, so that `join_other_slots` saves no registers.
+/// Joins the stack slot `edge` into `known`. It is out of line, so that `join_other_slots` saves no machine registers.
 #[inline(never)]
 fn join_any_slots(known: &mut Slot, edge: &Slot)
     ensures { known.new ≡ slot_join known.old edge.now }

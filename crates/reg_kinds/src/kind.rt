@@ -9,7 +9,7 @@ use interval::Range;
 pub struct ValuePointer {
     /// The descriptor of the map.
     pub map: u32,
-    /// The least offset, in bytes from the start of the value.
+    /// The least offset, in bytes from the start of the value. Offsets may lie outside the value: each access is checked.
     pub lo: i32,
     /// The greatest offset, included.
     pub hi: i32,
@@ -21,7 +21,7 @@ impl ValuePointer {
     ghost use Rattle.std.specs.Prelude.{◌≡◌, ◌≤ℤ◌};
     ghost use Rattle.reg_kinds.specs.Pointers.{value_span};
 
-    /// A pointer into a value of a map, at an offset from `lo` to `hi`.
+    /// A pointer into a value of the map with descriptor `map`, at an offset from `lo` to `hi`. Callers pass the ends of a range, in order.
     pub fn new(map: u32, lo: i32, hi: i32) -> ValuePointer
         requires { lo ≤ℤ hi }
         ensures { result ≡ value_span map lo hi }
@@ -45,7 +45,7 @@ pub enum Kind {
     Ctx,
     /// A pointer into a value of a map.
     Value(ValuePointer),
-    /// The result of a look-up before its null test: 0, or a pointer to the start of a value.
+    /// The result of a look-up before its null test: 0, or a pointer to the start of a value of the map.
     MaybeValue {
         /// The descriptor of the map.
         map: u32,
@@ -67,7 +67,8 @@ impl Kind {
     ghost use Rattle.std.specs.Prelude.{◌≡◌};
     ghost use Rattle.reg_kinds.specs.Kinds.{is_pointer};
 
-    /// Whether values of the kind are map references, or pointers, possibly null: a store puts them into the stack whole or not at all.
+    /// Whether values of the kind are pointers, possibly null, or map references, which count as pointers here: a store puts them into the
+    /// stack whole or not at all.
     pub fn is_pointer(self) -> bool
         ensures { result ≡ is_pointer self }
     {

@@ -7,7 +7,7 @@ use interval::Range;
 use std::mem::size_of;
 use words::AccessSize;
 
-/// Facts are copied for the first jump to a target and for a null test, so they have at most 3,072 bytes.
+/// Facts take at most 3,072 bytes, a bound with some room: they are copied for the first jump to a target and for a null test.
 const _: () = prove!(size_of::<Facts>() <= 3072);
 
 /// At program entry register 1 holds the context.

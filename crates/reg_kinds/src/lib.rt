@@ -23,10 +23,10 @@
 //! - `join_registers` has a call for each register. A join that changes nothing is found inline; only other kinds are joined out of
 //!   line. As a loop, which the compiler does not unroll, it takes 50 machine instructions more.
 //! - Joins that extend a pointer's range of offsets, or replace a spill by bytes, are done in place, and the general join is out of line.
-//!   A program can force such a join in all slots of the stack at most jumps. One takes 59 machine instructions, and took 93 before.
+//!   A program can force such a join in all slots of the stack at most of its jumps. One takes 59 machine instructions, and took 93 before.
 //! - `settle_both` copies the facts and finds the copies of a look-up's result once for both edges of a null test.
-//! - Alignment is that of a byte's offset in the stack; 512 is a multiple of each size, so it is that of the offset from the
-//!   frame pointer.
+//! - Alignment is that of a byte index; the offset from the frame pointer differs from it by 512, a multiple of each size, so it
+//!   has the same alignment.
 #![tactic(auto)]
 
 mod facts;

@@ -1,5 +1,5 @@
-//! Byte ranges of the stack that may span many slots, and the facts after a call. A start is an offset from the stack's lower
-//! end; a mask has bit k for byte k of a slot.
+//! Byte ranges of the stack that may span many slots, and the facts after a call. A start is a byte index, which counts from the
+//! stack's lowest byte; a mask has bit k for byte k of a slot. `start_of` checks that the bytes lie in the stack.
 
 ghost use Rattle.std.specs.Prelude.{◌≡◌, ◌+◌, ◌-◌, ◌*◌, ◌^◌, ◌<◌, ◌≤◌, ◌==◌, nat_le};
 ghost use Rattle.std.specs.Prelude.{if◌then◌else◌, IfSome, MatchResult, Ok, Err, Some, None};
@@ -15,8 +15,8 @@ use crate::reason::Reason;
 use crate::stack::{LOWEST, bytes_over};
 use words::{REGISTERS, STACK_SLOTS};
 
-/// Whether `count` bytes, from byte index `start` on, touch stack slot `index`: one of them lies there. No bytes (0) touch the slot of
-/// `start`, unless that is its first byte.
+/// Whether `count` bytes of the stack, from byte index `start` on, touch stack slot `index`: one of them lies there. With `count` 0 it is
+/// true of the slot with byte `start`, unless this is the slot's first byte.
 fn touches(start: usize, count: usize, index: usize) -> bool
     requires within { start + count ≤ stack_size }
     requires slot { index < stack_slots }
@@ -25,7 +25,8 @@ fn touches(start: usize, count: usize, index: usize) -> bool
     start < 8 * index + 8 && 8 * index < start + count
 }
 
-/// The mask in which `count` bits are 1, from bit `from` on. A `u16` has room for a 1 at bit 8, from which 1 is subtracted.
+/// The mask in which `count` bits are 1, from bit `from` on, all among the eight bits of a slot's mask. A `u16` has room for a 1 at bit 8,
+/// from which 1 is subtracted.
 fn ones(count: usize, from: usize) -> u8
     requires { count + from ≤ 8 }
     ensures { result ≡ (2 ^ count - 1) * 2 ^ from }
@@ -33,7 +34,8 @@ fn ones(count: usize, from: usize) -> u8
     (((1_u16 << count) - 1) << from) as u8
 }
 
-/// The mask of those of `count` bytes, from byte index `start` on, that lie in stack slot `index`; 0 if none does.
+/// The mask of those of `count` bytes, from byte index `start` on, that lie in stack slot `index`; 0 if none does. The bytes may end past
+/// the stack; the bound of `count`, which comes from a `u32`, keeps their end from overflowing.
 fn bits_in(start: usize, count: usize, index: usize) -> u8
     requires start { start ≤ stack_size }
     requires count { count < 2 ^ 32 }
@@ -77,7 +79,8 @@ fn lacks(slot: Slot, bits: u8) -> bool
     }
 }
 
-/// How many stack slots, from the lowest on, there are up to the end of `count` bytes at `start`. The bytes touch none above these.
+/// How many stack slots, from the lowest on, there are up to the end of `count` bytes of the stack from byte index `start` on. The bytes
+/// touch none above these.
 fn past_touched(start: usize, count: usize) -> usize
     requires { start + count ≤ stack_size }
     ensures bytes { start + count ≤ 8 * result }
@@ -86,7 +89,8 @@ fn past_touched(start: usize, count: usize) -> usize
     (start + count).div_ceil(8)
 }
 
-/// Whether `count` bytes at `start` touch a spill. The slots below and above those of the loop are not touched.
+/// Whether `count` bytes of the stack, from byte index `start` on, touch a spill. The slots below and above those of the loop are not
+/// touched.
 fn touch_a_spill(facts: &Facts, start: usize, count: usize) -> bool
     requires { start + count ≤ stack_size }
     ensures { result ≡ any_below stack_slots
@@ -100,7 +104,8 @@ fn touch_a_spill(facts: &Facts, start: usize, count: usize) -> bool
     false
 }
 
-/// Whether one of `count` bytes at `start` may be unwritten. The slots below and above those of the loop have none of them.
+/// Whether one of `count` bytes of the stack, from byte index `start` on, may be unwritten. The slots below and above those of the loop
+/// have none of these bytes.
 fn are_missing(facts: &Facts, start: usize, count: usize) -> bool
     requires { start + count ≤ stack_size }
     ensures { result ≡ any_below stack_slots
@@ -144,8 +149,9 @@ pub fn fill_stack(facts: &mut Facts, offset: i32, least: u32, most: u32) -> Resu
     Ok(())
 }
 
-/// What is known of stack slot `index`, which was `slot`, after a write of `least` to `most` bytes at `start`: the first `least` count as
-/// written, and of a spill that may be touched no other byte does. A slot that none of `most` bytes touches is unchanged.
+/// What is known of stack slot `index`, which was `slot` before, after a write of `least` to `most` bytes from byte index `start` on: the
+/// first `least` count as written, and of a spill that may be touched no other byte does. A slot that no byte can touch is unchanged.
+/// `most` bytes lie in the stack; `least` may be above `most`, and comes from a `u32`, so its sum with `start` can't overflow.
 fn filled_slot(slot: Slot, start: usize, least: usize, most: usize, index: usize) -> Slot
     requires least { least < 2 ^ 32 }
     requires within { start + most ≤ stack_size }
@@ -160,7 +166,9 @@ fn filled_slot(slot: Slot, start: usize, least: usize, most: usize, index: usize
     }
 }
 
-/// Changes each stack slot to what is known of it after a write of `least` to `most` bytes at `start`: see `filled_slot`.
+/// Changes each stack slot to what is known of it after a write of `least` to `most` bytes from byte index `start` on, as `filled_slot` has
+/// it: the first `least` count as written, and of a spill that may be touched no other byte does. `start_of` has checked that `most` bytes
+/// lie in the stack; `least` comes from a `u32`.
 fn fill_slots(facts: &mut Facts, start: usize, least: usize, most: usize)
     requires least { least < 2 ^ 32 }
     requires within { start + most ≤ stack_size }
@@ -173,8 +181,8 @@ fn fill_slots(facts: &mut Facts, start: usize, least: usize, most: usize)
     }
 }
 
-/// The kind of `register`, which was `kind`, after a call whose result is of the kind `result_kind`: register 0 has the result, and a call
-/// clobbers registers 1 to 5.
+/// The kind of `register`, which was `kind`, after a call whose result is of the kind `result_kind`: register 0 has the result, and
+/// registers 1 to 5, which a call clobbers, are unreadable.
 fn called_kind(kind: Kind, result_kind: Kind, register: usize) -> Kind
     ensures { result ≡ (if register == 0 then result_kind
         else (if nat_le register 5 then Unreadable else kind)) }
@@ -189,7 +197,7 @@ fn called_kind(kind: Kind, result_kind: Kind, register: usize) -> Kind
 }
 
 /// Changes the facts to those after a call whose result is of the kind `given`: register 0 has it, and registers 1 to 5, which a call
-/// clobbers, are unreadable. The stack is unchanged: what a helper writes there is a matter of `fill_stack`.
+/// clobbers, are unreadable. The stack is unchanged: if a helper writes there, the caller calls `fill_stack` before.
 pub fn facts_after_call(facts: &mut Facts, given: Kind)
     ensures { facts.new ≡ called_facts facts.old given }
 {

@@ -84,7 +84,8 @@ fn touched(offset: i32, size: AccessSize) -> Result<(usize, u8), Reason>
     Ok((start / 8, byte_bits(start, size)))
 }
 
-/// The mask, within their slot, of `size` aligned bytes from byte index `start` on.
+/// The mask, within their slot, of the bytes of an access of `size` from byte index `start` on, which `touched` has found aligned: so they
+/// lie in one slot.
 fn byte_bits(start: usize, size: AccessSize) -> u8
     requires { start % bytes_of size ≡ 0 }
     ensures { result ≡ byte_bits start (bytes_of size) }
@@ -97,8 +98,8 @@ fn byte_bits(start: usize, size: AccessSize) -> u8
     }
 }
 
-/// The kind of a load of bytes that are no spill: a number of `size` bytes, or, if sign-extended (`signed`), any 64-bit number: as words
-/// the negative numbers are the greatest, so the least range with them and 0 has all.
+/// The kind of a load of bytes that are no spill: any number of `size` bytes, or, if it extends the sign (`signed`), any 64-bit number. As
+/// words the negative numbers are the greatest, so the least range with them and 0 has all.
 pub fn loaded(size: AccessSize, signed: bool) -> Kind
     ensures { result ≡ loaded size signed }
 {
@@ -122,7 +123,7 @@ fn zero_extended(size: AccessSize) -> Range
 }
 
 /// What is known of `slot` after a store of a value of kind `value` to its bytes of the mask `bits`. A number makes them written, a pointer
-/// is spilled whole; `PartOfSpill` if only a part of a pointer is stored.
+/// is spilled whole; `PartOfSpill` if only a part of a pointer is stored. `write_stack` has rejected an unreadable value before.
 fn slot_written(slot: Slot, bits: u8, size: AccessSize, value: Kind) -> Result<Slot, Reason>
     ensures { result ≡ slot_written slot bits size value }
 {
@@ -135,7 +136,8 @@ fn slot_written(slot: Slot, bits: u8, size: AccessSize, value: Kind) -> Result<S
     }
 }
 
-/// What is known of `slot` after a write of its bytes of the mask `bits`: other written bytes stay written, a spill is lost.
+/// What is known of `slot` after a write of its bytes of the mask `bits`: other written bytes stay written; a spill is lost, and its other
+/// bytes count as unwritten.
 pub(crate) fn bytes_over(slot: Slot, bits: u8) -> Slot
     ensures { result ≡ bytes_over slot bits }
 {

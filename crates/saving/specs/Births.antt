@@ -91,7 +91,8 @@ abbrev pub lives : TenantState → Birth → Bool
 lives s (OfMap handle fd) = is_some (live s handle)
 lives s (OfProgram fd) = is_open_program (named s.objects fd)
 
--- the births after `births`: if fd names an object, its birth is added in front, as the latest
+-- the births, with that of an object at descriptor fd in front, as the latest; unchanged if there
+-- is no object (None)
 abbrev pub with_birth : ℕ → Option OpenObject → List Birth → List Birth
 with_birth fd None births = births
 with_birth fd (Some o) births = birth_of fd o ∷ births

@@ -18,7 +18,7 @@ use Rattle.saving.specs.Frames.{AreGood}
 use Rattle.saving.specs.Restorable.{IsRestorable}
 
 -- exactly the maps that an open object names are live (`HoldsItsMaps`): in a new tenant, and after
--- each command if before it, whether memory is refused to it (`refused`) or not
+-- each command before which that is so, whether memory is refused to the command (`refused`) or not
 pub record MapsAreHeld : Type 0 where
   pub new : HoldsItsMaps new_tenant
   pub kept : (refused : Bool) (s : TenantState) (command : Command) (a : Answer)
@@ -34,8 +34,8 @@ AlikeIsBisimulation =
     → (b : Answer) × Answers refused t command b × IsAlikeAnswer a b
 
 -- if s and t are alike, t can give a list of frames each list of replies that s can give: if no
--- memory is refused (the first law), and if it may be (`refused`). If none is refused, t can give
--- no other replies (`same`)
+-- memory is refused (`alone`), and if it may be (`refused`). If none is refused, t can give no
+-- other replies (`same`)
 pub record AlikeStatesReplyAlike : Type 0 where
   pub alone : (s t : TenantState) (frames replies : List (List ℕ)) (after : Option TenantState)
       → HoldsItsMaps s
@@ -71,8 +71,9 @@ pub record BirthsAreKept : Type 0 where
       → AreBirths s births
       → length births ≤ most + most_maps
 
--- a new tenant to which no memory is refused succeeds at each of the commands that restore a state
--- s, and the state t after them is alike to s
+-- if a state s can be restored (`IsRestorable`), and `births` are its births: a new tenant to which
+-- no memory is refused succeeds at each of the commands that restore s, and the state t after them
+-- is alike to s
 abbrev pub RestoredIsAlike : Type 0
 RestoredIsAlike =
     (s : TenantState) (births : List Birth)
@@ -98,8 +99,9 @@ TestRunsHaveFrames =
     (tenant fd : ℕ) (inputs : List BatchInput) → fd < 2 ^ 32 → AllByRecursion FitsFrame inputs
     → AreTestRuns fd (map (test_run_frame tenant fd) inputs) inputs
 
--- a new tenant to which no memory is refused succeeds at each of the frames that restore a state s,
--- and the state t after them is alike to s
+-- if a state s can be restored (`IsRestorable`), and `births` are its births: a new tenant to which
+-- no memory is refused succeeds at each of the frames that restore s, and the state t after them is
+-- alike to s
 abbrev pub RestoredByFrames : Type 0
 RestoredByFrames =
     (tenant : ℕ) (s : TenantState) (births : List Birth) → IsRestorable s → AreBirths s births

@@ -13,7 +13,8 @@ use Rattle.saving.specs.Restored.{create_of, put_of, made_program, filled, closi
 use Rattle.command_frames.specs.Encoded.{frame_of}
 use Rattle.saving.specs.Pieces.{pieces}
 
--- the command that creates a map of the shape of this one, without its keys; none if it is not live
+-- the command that creates a map of the shape of this one, without its keys; none if the map is not
+-- live (None)
 abbrev pub made_empty : Option Map → List Command
 made_empty None = []
 made_empty (Some t) = create_of t.shape ∷ []
@@ -39,7 +40,7 @@ abbrev pub birth_parts : TenantState → Birth → List (List Command)
 birth_parts s b = creation s b ∷ pieces KEYS_OF_PART (key_commands s b)
 
 -- all parts of a save: the loads that open all descriptors, the parts of each birth, the oldest
--- first, and the closes of free descriptors; `births` has the latest first
+-- first, and the closes of the descriptors that are not open in s; `births` has the latest first
 abbrev pub parts : TenantState → List Birth → List (List Command)
 parts s births =
     filled most

@@ -77,7 +77,7 @@ impl Births {
     }
 
     /// Adds the birth of the object that a command opened, if its reply has the new descriptor; after any other reply or an error, none.
-    /// There is room for it. `tenant` is the tenant after the command.
+    /// `tenant` is the tenant after the command. By the law `births_are_kept` there are at most `MOST_BIRTHS` then, so there is room.
     pub(crate) fn note(&mut self, tenant: &Tenant, answer: &Result<Reply<'_>, Errno>)
         requires { length (births_after_reply answer.now tenant.now.objects self.old) ≤ MOST_BIRTHS }
         ensures { self.new ≡ births_after_reply answer.now tenant.now.objects self.old }
@@ -92,7 +92,7 @@ impl Births {
         }
     }
 
-    /// Removes the births of objects that are no longer live, after a close.
+    /// Removes the births of objects that are no longer live, after a close. `tenant` is the tenant after it.
     pub(crate) fn keep_living(&mut self, tenant: &Tenant)
         ensures { (part : List ℕ)
             → self.new ≡ filter (lives_in (state_in part tenant.now)) self.old }

@@ -41,7 +41,8 @@ pub(crate) struct FrameWriter {
     pub(crate) number: u16,
 }
 
-/// Appends a frame with its length before it, in four bytes, little-endian. `AllocError`: out of memory.
+/// Appends a frame with its length before it, in four bytes, little-endian (the low four of the number's eight). `AllocError`: out of
+/// memory.
 fn append_framed(frames: &mut Vec<u8>, frame: &[u8]) -> Result<(), AllocError>
     ensures { OnOk result (frames.new.items ≡ frames.old.items ++ framed frame.now) }
 {
@@ -66,7 +67,7 @@ fn bytes_of_puts(shape: MapShape, keys: usize) -> usize {
 }
 
 /// The element after which the keys from index `count` on follow, in the order of a map: that of key `count` - 1, or of the last key if the
-/// map has fewer. `None` if `count` is 0 or the map has no key: then all keys follow. The part has `PART` bytes.
+/// map has fewer. `None` if `count` is 0 or the map has no key: then all keys follow. `part` has the tenant's `PART` bytes of the arena.
 fn element_before(tenant: &Tenant, map: MapKey, count: usize, part: &[u8]) -> Option<u32>
     requires whole { length part.now ≡ PART }
     ensures { rest_after result (numbered_entries part.now tenant.now.live map)
@@ -122,7 +123,8 @@ impl FrameWriter {
         append_framed(&mut self.frames, &self.frame)
     }
 
-    /// Appends the frame that puts a key and its value into the map at a descriptor.
+    /// Appends the frame that puts a key and its value into the map at a descriptor. The flags are 0 (BPF_ANY): a new array has the key
+    /// already, a new hash map has not.
     fn append_update(&mut self, fd: u32, key: &[u8], value: &[u8]) -> Result<(), AllocError>
         ensures written { OnOk result (self.new.frames.items
             ≡ self.old.frames.items
@@ -196,8 +198,8 @@ impl FrameWriter {
     }
 
     /// Appends the frames that put keys of a map, with their values, into the map at descriptor `fd`: in their order, those after the key
-    /// of element `before`, or from the first on if it is `None`; at most `KEYS_OF_PART`, fewer if no more follow. The part has `PART`
-    /// bytes.
+    /// of element `before`, or from the first on if it is `None`; at most `KEYS_OF_PART`, fewer if no more follow. `part` has the tenant's
+    /// `PART` bytes of the arena.
     fn append_updates_after(
         &mut self,
         tenant: &Tenant,
@@ -224,7 +226,8 @@ impl FrameWriter {
     }
 
     /// Appends the frames that put the keys of a map from index `first` on, with their values, into the map at descriptor `fd`, in their
-    /// order and at most `KEYS_OF_PART`; none if the map is not live, of which there is no birth. The part has `PART` bytes.
+    /// order and at most `KEYS_OF_PART`; none if the map is not live, of which there is no birth. `part` has the tenant's `PART` bytes of
+    /// the arena.
     fn append_keys(
         &mut self,
         tenant: &Tenant,

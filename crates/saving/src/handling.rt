@@ -40,7 +40,8 @@ struct HeadedCommand<'a> {
 
 /// Executes the command of a frame and writes the reply. `number` is that of the tenant's part in the arena. MAP_CREATE and PROG_LOAD add
 /// the birth of the object that they open, CLOSE removes the births of objects that are no longer live, and the other commands change no
-/// births. A load is verified in `working`.
+/// births. A load is verified in `working`. The bytes of the command are those of a parsed frame, so they are at most `LONGEST_FRAME`
+/// (`short`).
 fn reply_to_command(
     tenant: &mut Tenant,
     births: &mut Births,
@@ -58,6 +59,7 @@ fn reply_to_command(
         (state_in (part_bytes arena.new number) tenant.new) births.old births.new }
     ensures changes { ChangesPart number arena.old arena.new }
 {
+    // For the proof: laws, which do nothing.
     arena.memory_is_its_parts();
     laws::parts_are_apart();
     maps_are_held();
@@ -115,8 +117,8 @@ fn reply_to_command(
 
 impl SavableTenant {
     /// Executes the command of a frame of this tenant, and writes the reply to `reply`; a frame without a command gets an error and changes
-    /// nothing. `frame` is what follows the length field, and `head` its head. `tenant` is the number of the tenant's part in the arena. A
-    /// load is verified in `working`, the memory for the loads of all tenants, whose contents mean nothing.
+    /// nothing. `frame` is what follows the length field, and `head` its head, which the host has read. `tenant` is the number of the
+    /// tenant's part in the arena. A load is verified in `working`, the memory for the loads of all tenants, whose contents mean nothing.
     pub fn handle(
         &mut self,
         head: Head,
@@ -141,6 +143,7 @@ impl SavableTenant {
         ensures others { (other : ℕ) → other ≢ tenant
             → part_bytes arena.new other ≡ part_bytes arena.old other }
     {
+        // For the proof: laws, which do nothing.
         maps_are_held();
         births_are_kept();
         match parse(frame) {

@@ -23,6 +23,7 @@ impl SavableTenant {
     }
 
     /// What a descriptor names at this moment: nothing, a map with its shape and its number of keys, or a program with its number of slots.
+    /// It does not depend on the bytes of the tenant's part.
     pub fn describe(&self, fd: u32) -> Described
         ensures { (part : List ℕ) → result ≡ described (tenant_state part self.now) fd }
     {
@@ -36,7 +37,8 @@ impl SavableTenant {
         self.tenant.program_cost(fd)
     }
 
-    /// The open descriptors and their objects, as the verifier sees them: a map by its shape, or a program. `AllocError`: out of memory.
+    /// The open descriptors and their objects, as the verifier sees them: a map by its shape, or a program. They do not depend on the bytes
+    /// of the tenant's part. `AllocError`: out of memory.
     pub fn targets(&self, alloc: Global) -> Result<Vec<Named>, AllocError>
         ensures { IfOk result (λ found. (part : List ℕ) →
             found.items ≡ targets (tenant_state part self.now)) }

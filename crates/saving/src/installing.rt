@@ -17,8 +17,8 @@ use crate::savable::SavableTenant;
 use std::alloc::Global;
 use tenant::{Errno, Reply, Verified};
 
-/// The status of the reply to a command: a new descriptor, the negated number of an error, else 0. By the precondition a descriptor is at
-/// most 66. The status does not depend on the state `s` of the contract.
+/// The status of the reply to a command: a new descriptor, the negated number of an error, else 0. A descriptor is at most 66, by the
+/// precondition, so the cast keeps it. The status does not depend on the state `s` of the contract.
 fn status_of(reply: &Result<Reply<'_>, Errno>) -> i32
     requires { IsWritable reply.now }
     ensures { (s : TenantState) → result ≡ (shown_answer reply.now s).status }
@@ -32,8 +32,9 @@ fn status_of(reply: &Result<Reply<'_>, Errno>) -> i32
 }
 
 impl SavableTenant {
-    /// Opens a program that was verified elsewhere, as the frame that loads it does. Returns the status of the reply to that frame, which
-    /// has no payload: the new descriptor, or a negative one if no descriptor is free or memory is refused.
+    /// Opens a program that was verified elsewhere, as the frame that loads it does, whatever number the tenant has. Returns the status of
+    /// the reply to that frame, which has no payload: the new descriptor, or a negative number if no descriptor is free or memory is
+    /// refused.
     ///
     /// # Errors
     ///
@@ -54,6 +55,7 @@ impl SavableTenant {
         ensures stale { IfErr result (λ kept. (kept.value ≡ program.value) × (self.new ≡ self.old)
             × ((part : List ℕ) → ¬ Fits program.value (targets (tenant_state part self.old)))) }
     {
+        // For the proof: laws, which do nothing.
         command_frames::laws::encoding_inverts_parsing();
         maps_are_held();
         births_are_kept();

@@ -47,6 +47,7 @@ impl SavableTenant {
             tenant_state part tenant ≡ new_tenant) }
         ensures births { IfOk result (λ tenant. tenant.births ≡ []) }
     {
+        // For the proof of the invariant: laws, which do nothing.
         maps_are_held();
         births_are_kept();
         Ok(SavableTenant {
@@ -65,10 +66,10 @@ impl SavableTenant {
     /// The frames of part `index` of a save, from 0: frames of tenant `number`, each with its length before it. `None` after the last
     /// part, and if `part`, the bytes of the tenant in the arena, are not `PART` bytes.
     ///
-    /// A new tenant that is given the frames of all parts in their order then replies as this one does. Between two parts nothing may
-    /// change in this tenant, but other tenants may be served. Part 0 opens a program at each descriptor. For each object, in the order of
-    /// their births, one part creates the map or loads the program, and the parts after it put the keys of the map, at most 1,024 each. The
-    /// last part closes the descriptors that are not open.
+    /// A new tenant that is given the frames of all parts in their order, and to which no memory is refused, then replies as this one does.
+    /// Between two parts nothing may change in this tenant, but other tenants may be served. Part 0 opens a program at each descriptor. For
+    /// each birth, the oldest first, one part creates the map or loads the program, and the parts after it put the keys of the map, at most
+    /// 1,024 each. The last part closes the descriptors that are not open.
     ///
     /// # Errors
     ///
@@ -106,7 +107,7 @@ impl SavableTenant {
     }
 
     /// Runs the program at a descriptor on the packets of a batch, one after another, and writes the results to the front of `results`,
-    /// whose rest is unchanged. `tenant` is the number of the tenant's part in the arena.
+    /// whose rest is unchanged. `tenant` is the number of the tenant's part in the arena, which the host has made for it.
     ///
     /// # Errors
     ///
@@ -136,6 +137,7 @@ impl SavableTenant {
         ensures others { (other : ℕ) → other ≢ tenant
             → part_bytes arena.new other ≡ part_bytes arena.old other }
     {
+        // For the proof of the invariant: laws, which do nothing.
         maps_are_held();
         births_are_kept();
         self.tenant.run_packets(fd, batch, results, tenant, arena)

@@ -9,7 +9,8 @@ use crate::birth::Birth;
 use bpf_maps::MapKey;
 use tenant::Tenant;
 
-/// The most keys that one part of a save puts into a map, so that a part takes less time than a frame may.
+/// The most keys that one part of a save puts into a map, so that a part takes less time than the slowest frame: with 4,096 keys of 512
+/// bytes it took more than a millisecond.
 pub(crate) const KEYS_OF_PART: usize = 1_024;
 
 /// What the frames of a part of a save do.
@@ -19,9 +20,10 @@ pub(crate) enum SavePart {
     Filling,
     /// Closes the descriptor of a birth and creates its object there: a program, or a map, whose keys are put by other parts.
     Creation(Birth),
-    /// Puts keys of this map into the map at this descriptor: at most `KEYS_OF_PART`, from the key with this index on.
+    /// Puts keys of this map of the saved tenant into the map at this descriptor of the new one: at most `KEYS_OF_PART`, from the key with
+    /// this index on.
     Keys(MapKey, u32, usize),
-    /// Closes the descriptors that are not open.
+    /// Closes the descriptors that are not open in the saved tenant.
     Closing,
 }
 
@@ -69,7 +71,7 @@ fn part_of_birth(tenant: &Tenant, birth: Birth, index: usize) -> Option<SavePart
 }
 
 /// The part of a save at an index, of a tenant with these births, the oldest first: part 0 opens all descriptors, then each birth has its
-/// parts, and the last one closes free descriptors; `None` after it.
+/// parts, and the last one closes the descriptors that are not open in the tenant; `None` after the last one.
 pub(crate) fn part_at(tenant: &Tenant, births: &[Birth], index: usize) -> Option<SavePart>
     ensures { (part : List ℕ) → option_map (part_commands (state_in part tenant.now)) result
         ≡ slice_get (ordered_parts (state_in part tenant.now) births.now) index }

@@ -46,19 +46,21 @@ short_word bs =
     (shifted (slice_index bs (n - 1)) 16)
     else 0)
 
--- the state after the words of eight bytes at i and at j
+-- the state after the words of eight bytes at i and at j of the bytes, by one product: the first
+-- word is joined to the state before, the second to the seed's factor, by exclusive or
 abbrev pub mixed : ℕ → List ℕ → ℕ → ℕ → ℕ → ℕ
 mixed factor bs state i j =
     folded_product (bit_xor (word_at bs i) state) (bit_xor (word_at bs j) factor)
 
--- the state after the first n blocks of sixteen bytes
+-- the state after the first n blocks of sixteen of the bytes, from the state before them
 unfoldable pub blocks_mixed : ℕ → List ℕ → ℕ → ℕ → ℕ
 blocks_mixed factor bs state zero = state
 blocks_mixed factor bs state (suc n) =
     mixed factor bs (blocks_mixed factor bs state n) (16 * n) (16 * n + 8)
 
--- the hasher after a write: of at most eight bytes by one product, of more by blocks of sixteen,
--- the last sixteen bytes, and one product more
+-- the hasher after a write, with the length added to the state: of at most eight bytes by one
+-- product; of more by blocks of sixteen, then by the last sixteen bytes (of fewer, the first eight
+-- and the last eight), and by one product more
 unfoldable pub written : SeededHasher → List ℕ → SeededHasher
 written h bs =
     let n = length bs in
@@ -72,6 +74,6 @@ written h bs =
     (n - 8)) h.factor in
     record { state = if nat_le n 8 then short else long; factor = h.factor }
 
--- the hash at the end
+-- the hash of all bytes written: the state of the hasher
 abbrev pub finished : SeededHasher → ℕ
 finished h = h.state

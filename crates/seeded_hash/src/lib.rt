@@ -21,8 +21,8 @@
 //!   cryptographic: the README of foldhash (https://github.com/orlp/foldhash) says that such a function resists an attacker who
 //!   sees no hash values, but not one who does. Here nobody sees one. SipHash (Aumasson and Bernstein, "SipHash: a fast
 //!   short-input PRF", 2012) resists both, and would take some 75 machine instructions more for a key of four bytes; a
-//!   whole look-up by the helper takes 103. `OrderedMap` of `ordered_keys` accepts any hash function, so one place would
-//!   change.
+//!   whole look-up by the helper takes 103. `OrderedMap` of `ordered_keys` accepts any hash function, so only this crate
+//!   would change.
 //! - A short key is in both factors, and a longer one has a second product, since one product is linear in the key and so has
 //!   weak seeds: keys that differ by equal steps are a line modulo 2^64, which some factors map into few groups of the table.
 //!   Depending on the family of keys, 0.1 to 3.5% of 2,000 seeds put more than 30 keys into one of 512 groups, the worst 300 to
@@ -114,6 +114,7 @@ impl Hasher for SeededHasher {
         self.state
     }
 
+    // The length is added to the state first: the reads below overlap, so bytes of two lengths may be read as the same words.
     #[inline(always)]
     fn write(&mut self, bytes: &[u8]) {
         let len = bytes.len();
@@ -132,6 +133,7 @@ impl Hasher for SeededHasher {
             at += 16;
         }
         // The last sixteen bytes, or of fewer the first eight and the last eight: they may overlap what was read before.
+        // `len` is at least nine here.
         let last = folded_product(
             word_at(bytes, len.saturating_sub(16)) ^ state,
             word_at(bytes, len - 8) ^ self.factor,
@@ -140,7 +142,7 @@ impl Hasher for SeededHasher {
     }
 }
 
-/// The two halves of a product of 128 bits, joined by exclusive or.
+/// The two halves of the 128-bit product of `a` and `b`, joined by exclusive or.
 #[inline(always)]
 fn folded_product(a: u64, b: u64) -> u64
     ensures { result ≡ hashing.folded_product a b }
@@ -149,7 +151,7 @@ fn folded_product(a: u64, b: u64) -> u64
     (product & 0xFFFF_FFFF_FFFF_FFFF) as u64 ^ (product >> 64) as u64
 }
 
-/// The four bytes from offset `at` on as a number, little-endian.
+/// The four bytes from offset `at` on, which are there, as a number, little-endian.
 #[inline(always)]
 fn half_at(bytes: &[u8], at: usize) -> u64
     requires { at + 4 ≤ length bytes.now }
@@ -158,7 +160,7 @@ fn half_at(bytes: &[u8], at: usize) -> u64
     u32::from_le_bytes([bytes[at], bytes[at + 1], bytes[at + 2], bytes[at + 3]]) as u64
 }
 
-/// The eight bytes from offset `at` on as a number, little-endian.
+/// The eight bytes from offset `at` on, which are there, as a number, little-endian.
 #[inline(always)]
 fn word_at(bytes: &[u8], at: usize) -> u64
     requires { at + 8 ≤ length bytes.now }

@@ -25,7 +25,7 @@ abbrev pub byte_at : Cell → ℕ → Option ℕ
 byte_at (holds v) j = None
 byte_at (bytes b) j = b j
 
--- the n bytes at index p, if none of them is absent
+-- the n bytes from index p on, each given by `byte`; None if one of them is absent
 unfoldable pub gathered : (ℕ → Option ℕ) → ℕ → ℕ → Option (List ℕ)
 gathered byte p zero = Some []
 gathered byte p (suc n) =

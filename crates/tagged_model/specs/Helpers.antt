@@ -35,7 +35,8 @@ helper_of id = find (λ h. int_eq id (pos (id_of h))) known_helpers
 
 -- ---- results
 
--- the number of each error of bpf(2), which a helper returns negated, modulo 2 ^ 64
+-- the kernel's number of each error, which a helper returns negated, modulo 2 ^ 64; no helper
+-- returns those of `Memory` and `NoSpace`, which only the creation of a map has
 abbrev pub errno : MapFault → ℕ
 errno NoEntry = 2
 errno TooBig = 7
@@ -177,7 +178,9 @@ abbrev pub replies : RunState → ℕ → MapReply → RunState
 replies s m reply = returns (with_map s m reply.map) (Scalar reply.answer)
 
 -- the state after a call of a helper; None, a fault, if an argument is not of the required kind, or
--- the bytes at a pointer do not all lie in its object or, to be read, are not all present
+-- the bytes at a pointer do not all lie in its object or, to be read, are not all present. The
+-- arguments, from register 1 on: a map, a key, and for an update a value and the flags; for a load
+-- of bytes the context, an offset in the packet, a pointer to write to, and a length
 abbrev pub called : Helper → RunState → Option RunState
 called LookUp s =
     and_then (map_argument s 1) (λ g.

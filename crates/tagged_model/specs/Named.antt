@@ -5,7 +5,7 @@ use Rattle.tagged_model.specs.declared.shape.Target.{Target}
 use Rattle.tagged_model.specs.declared.shape.Target.TheVariants as target
 use Rattle.tagged_model.specs.declared.shape.Named.{Named}
 
--- the object of the first entry with the descriptor
+-- the object that the first entry with descriptor `fd` names; None if no entry has it
 unfoldable pub target_of : List Named → ℕ → Option Target
 target_of [] fd = None
 target_of (n ∷ ns) fd = if n.fd == fd then Some n.target else target_of ns fd

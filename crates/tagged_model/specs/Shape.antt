@@ -22,11 +22,11 @@ most_entries = 4096
 abbrev pub largest_area : ℕ
 largest_area = 65536
 
--- n is from low to high, both included
+-- whether n is from low to high, both included
 abbrev pub is_from_to : ℕ → ℕ → ℕ → Bool
 is_from_to low high n = nat_le low n && nat_le n high
 
--- a map of this kind may have keys of so many bytes; those of an array have four
+-- whether a map of this kind may have keys of so many bytes; those of an array have four
 abbrev pub has_key : MapKind → ℕ → Bool
 has_key Array key = key == 4
 has_key Hash key = is_from_to 1 longest_key key
@@ -35,21 +35,21 @@ has_key Hash key = is_from_to 1 longest_key key
 abbrev pub area : ℕ → ℕ → ℕ
 area value max = max * ((value + 7) / 8 * 8)
 
--- each field is within its limits, and no flag is set
+-- whether each field is within its limits and no flag is set; `key` and `value` are sizes in bytes
 abbrev pub is_valid : MapKind → ℕ → ℕ → ℕ → ℕ → Bool
 is_valid kind key value max flags =
     has_key kind key && is_from_to 1 longest_value value && is_from_to 1 most_entries max
     && (flags == 0)
 
--- `max` values of `value` bytes fit into the largest area
+-- whether `max` values of `value` bytes fit into the largest area
 abbrev pub fits : ℕ → ℕ → Bool
 fits value max = nat_le (area value max) largest_area
 
--- a map may have this kind, these sizes of keys and values in bytes, and so many entries
+-- whether a map may have this kind, these sizes of keys and values in bytes, and so many entries
 abbrev pub is_shape : MapKind → ℕ → ℕ → ℕ → Bool
 is_shape kind key value max = is_valid kind key value max 0 && fits value max
 
--- why no map may have these fields and flags, Invalid before TooBig; None if a map may have them
+-- why no map may have these fields and flags: Invalid, or else TooBig; None if a map may have them
 abbrev pub shape_fault : MapKind → ℕ → ℕ → ℕ → ℕ → Option ShapeFault
 shape_fault kind key value max flags =
     if is_valid kind key value max flags

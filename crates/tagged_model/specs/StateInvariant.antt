@@ -24,7 +24,7 @@ pub record IsInRange (s : RunState) : Type 0 where
 
 -- ---- maps
 
--- the objects of all keys are numbered below count
+-- the object of each key has a number below `count`
 abbrev pub KeysHaveObjects : ℕ → List (List ℕ × ℕ) → Type 0
 KeysHaveObjects count [] = Unit {0}
 KeysHaveObjects count (e ∷ es) = (e.1 < count) × KeysHaveObjects count es

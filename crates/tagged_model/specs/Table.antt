@@ -108,7 +108,7 @@ module _ {A : Type 0} where
   of_absent Hash full flags =
       if flags == exist then Refused NoEntry else (if full then Refused TooBig else New)
 
-  -- the verdict on an update, from the look-up of its key
+  -- the verdict on an update with these flags, from the look-up of its key
   abbrev pub of_found : Table A → ℕ → Option A → Verdict A
   of_found t flags None = of_absent t.shape.kind (is_full t) flags
   of_found t flags (Some a) = of_present flags a
@@ -134,7 +134,8 @@ module _ {A : Type 0} where
     deleted = t.deleted;
   }
 
-  -- the object to delete, from the look-up of its key; no index of an array can be deleted
+  -- the object to delete, from the look-up of its key, or why none is: an absent key, or an array,
+  -- of which no index can be deleted
   abbrev pub removal_of : MapKind → Option A → Result A MapFault
   removal_of Array o = Err Invalid
   removal_of Hash None = Err NoEntry
@@ -144,7 +145,7 @@ module _ {A : Type 0} where
   abbrev pub removal : Table A → List ℕ → Result A MapFault
   removal t key = removal_of t.shape.kind (look_up t key)
 
-  -- the map without the key; its object counts among the entries until the run ends (`is_full`)
+  -- the map without a key, which was present; its object counts until the run ends (`is_full`)
   abbrev pub with_deleted : Table A → List ℕ → Table A
   with_deleted t key = record {
     shape = t.shape;
@@ -152,7 +153,8 @@ module _ {A : Type 0} where
     deleted = t.deleted + 1;
   }
 
-  -- BPF_MAP_GET_NEXT_KEY: None after the last key, and in a map without keys
+  -- BPF_MAP_GET_NEXT_KEY: the key after `key`, or the first if `key` is empty or absent; None after
+  -- the last key, and in a map without keys
   abbrev pub next_of : Table A → List ℕ → Option (List ℕ)
   next_of t key = key_after key t.entries
 
@@ -177,12 +179,12 @@ abbrev pub is_array : MapKind → Bool
 is_array Array = true
 is_array Hash = false
 
--- a map of this shape has a direct value, and the offset lies in it
+-- whether a map of this shape has a direct value, and the offset, in bytes, lies in it
 abbrev pub has_direct_value : MapShape → ℕ → Bool
 has_direct_value shape offset =
     is_array shape.kind && (shape.max_entries == 1) && nat_lt offset shape.value_size
 
--- the object of the direct value, that of index 0; None if the offset lies in none
+-- the object of the direct value, that of index 0; None if the offset lies in no direct value
 abbrev pub direct_object : {A : Type 0} → Table A → ℕ → Option A
 direct_object t offset = if has_direct_value t.shape offset then look_up t (index_key 0) else None
 

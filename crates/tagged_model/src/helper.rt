@@ -8,11 +8,11 @@ ghost use Rattle.tagged_model.specs.Helpers.{helper_of};
 pub enum Helper {
     /// 1, bpf_map_lookup_elem: returns a pointer to the value of a key, or null.
     LookUp,
-    /// 2, bpf_map_update_elem: stores a value under a key.
+    /// 2, bpf_map_update_elem: stores a value under a key, and returns 0 or a negated error.
     Update,
-    /// 3, bpf_map_delete_elem: deletes a key.
+    /// 3, bpf_map_delete_elem: deletes a key, and returns 0 or a negated error.
     Delete,
-    /// 26, bpf_skb_load_bytes: copies bytes of the packet.
+    /// 26, bpf_skb_load_bytes: copies bytes of the packet to the stack or a value, and returns 0 or a negated error.
     LoadBytes,
 }
 

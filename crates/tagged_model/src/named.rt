@@ -5,7 +5,8 @@ ghost use Rattle.tagged_model.specs.Named.{target_of, shapes_named};
 
 use crate::shape::{MapShape, Named, Target};
 
-/// The object that a descriptor names, if it is open: that of the first entry with this descriptor.
+/// The object that a descriptor names: that of the first entry of `named`, the open descriptors, with this descriptor. `None` if none has
+/// it.
 pub fn target_of(named: &[Named], fd: u32) -> Option<Target>
     ensures { result ≡ target_of named.now fd }
 {
@@ -17,7 +18,7 @@ pub fn target_of(named: &[Named], fd: u32) -> Option<Target>
     None
 }
 
-/// The shape of the map that a descriptor names; `None` if it names no map.
+/// The shape of the map that a descriptor names, by `named`, the open descriptors; `None` if it is not open, or names a program.
 pub fn shape_of(named: &[Named], fd: u32) -> Option<MapShape>
     ensures { result ≡ shapes_named named.now fd }
 {

@@ -18,7 +18,7 @@ pub const LARGEST_AREA: u32 = 65_536;
 /// How a map finds the value of a key.
 #[derive(Clone, Copy, Debug, PartialEq, Eq)]
 pub enum MapKind {
-    /// By keys of any bytes: a hash map.
+    /// By a key of any bytes: a hash map.
     Hash,
     /// By an index: an array.
     Array,
@@ -66,7 +66,7 @@ pub struct Named {
 impl MapShape {
     ghost use Rattle.tagged_model.specs.Table.{has_direct_value};
 
-    /// Makes the shape with these fields, which are those of bpf(2), BPF_MAP_CREATE. The sizes are in bytes.
+    /// Makes the shape with these fields, which are those of bpf(2), BPF_MAP_CREATE. The sizes are in bytes; `flags` has to be 0.
     ///
     /// # Errors
     ///

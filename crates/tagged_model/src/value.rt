@@ -6,17 +6,18 @@ use words::GIVEN_WORDS;
 /// caller gives.
 pub const CONTEXT_WORDS: usize = 1 + GIVEN_WORDS;
 
-/// The farthest that a pointer may be moved from the start of its object's offsets, in bytes, in either direction: 2^29.
+/// The largest offset of a pointer in its object, in bytes, and minus the smallest: 2^29. A step that moves a pointer farther is a fault. A
+/// limit of this project.
 pub const FARTHEST_OFFSET: i64 = 0x2000_0000;
 
 /// The object that a pointer points into.
 #[derive(Clone, Copy, Debug, PartialEq, Eq)]
 pub enum Object {
-    /// The bytes of the stack. Offsets count from its upper end.
+    /// The stack. Its bytes have the offsets -512 to -1, counted from its upper end.
     Stack,
-    /// The context of the run.
+    /// The context of the run. Offsets count from its start.
     Context,
-    /// A value of a map, by the map's descriptor and a number that is never given twice in a run.
+    /// A value of a map, by the map's descriptor and a number in that map that is never given twice in a run. Offsets count from its start.
     Value { map: u32, number: u64 },
 }
 
@@ -27,7 +28,7 @@ pub enum Tagged {
     Scalar(u64),
     /// A map, by its descriptor.
     Map(u32),
-    /// A pointer, by its object and its distance in bytes from the start of the object's offsets.
+    /// A pointer, by its object and its offset in it, in bytes; it may point outside the object.
     Pointer { object: Object, offset: i64 },
 }
 

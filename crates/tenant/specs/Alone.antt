@@ -19,7 +19,8 @@ frame_errno bad.TooLong = TooBig
 frame_errno bad.Unknown = Invalid
 frame_errno bad.Body = Invalid
 
--- the result of a frame, which carries a command or is rejected
+-- the result of a frame in the state s: that of the command that it carries, by whether memory is
+-- refused to it; if it carries none, the error for the fault, and nothing changes
 abbrev pub AnswersFrame : Bool → TenantState → Result Command BadFrame → Answer → Type 0
 AnswersFrame refused s (Err fault) a = a ≡ refuses (frame_errno fault) s
 AnswersFrame refused s (Ok command) a = Answers refused s command a

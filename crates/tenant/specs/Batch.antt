@@ -23,8 +23,8 @@ use Rattle.tenant.specs.State.{TenantState}
 
 -- ---- the runs
 
--- The test runs of a program on these inputs, one after another, succeed with these results, one
--- for each input, and lead from the state `before` to the state `after`.
+-- The test runs of the program at descriptor fd on these inputs, one after another, succeed with
+-- these results, one for each input, and lead from the state `before` to the state `after`.
 unfoldable pub RunsInOrder : ℕ → TenantState → List BatchInput → List ℕ → TenantState → Type 0
 RunsInOrder fd before [] [] after = after ≡ before
 RunsInOrder fd before (input ∷ inputs) (result ∷ results) after =
@@ -96,26 +96,29 @@ abbrev pub run_weight : Cost → ℕ
 run_weight cost = cost.instructions + CALL_WEIGHT * cost.calls
 
 -- The number of packets that a bound other than 0 allows a batch of so many, if a run counts for
--- `cost`: as many runs as fit, but at least one.
+-- `cost`: as many runs as fit, at least one, but no more than there are packets.
 abbrev pub allowed : ℕ → ℕ → ℕ → ℕ
 allowed bound cost packets = min packets (max 1 (bound / cost))
 
--- n packets of a batch are within a bound other than 0, by what a descriptor names: a run of a
--- program counts for its cost; of anything else all are, since such a batch is rejected as a whole
+-- n is the number of packets that a bound other than 0 allows a batch of so many, by what a
+-- descriptor names: a run of a program counts for its cost; if it names no program all are allowed,
+-- since such a batch is rejected as a whole
 abbrev pub IsAllowedBy : Option OpenObject → ℕ → ℕ → ℕ → Type 0
 IsAllowedBy None bound packets n = n ≡ packets
 IsAllowedBy (Some (object.Map handle)) bound packets n = n ≡ packets
 IsAllowedBy (Some (object.Program l)) bound packets n =
     (cost : Cost) × IsCostOf cost l.insns × (n ≡ allowed bound (run_weight cost) packets)
 
--- n packets of a batch, of what a descriptor names, are allowed by a bound; all if the bound is 0
+-- n is the number of packets that a bound allows a batch of so many, by what a descriptor names;
+-- all if the bound is 0
 abbrev pub IsAllowed : Option OpenObject → ℕ → ℕ → ℕ → Type 0
 IsAllowed o bound packets n =
     (bound ≡ 0 → n ≡ packets) × (bound ≢ 0 → IsAllowedBy o bound packets n)
 
 -- ---- laws
 
--- these frames are the test runs of a program on these inputs
+-- each of these frames carries the test run of the program at descriptor fd on the input at its
+-- index, and there are as many frames as inputs
 abbrev pub AreTestRuns : ℕ → List (List ℕ) → List BatchInput → Type 0
 AreTestRuns fd [] [] = Unit {0}
 AreTestRuns fd (frame ∷ frames) (input ∷ inputs) =

@@ -77,8 +77,9 @@ pub record AreHeld (t : LiveMaps) : Type 0 where
   pub some : (handle : ℕ) → IsSome (live_at t handle) → 1 ≤ holds_at t handle
   pub ended : (handle : ℕ) → (keys_at t handle).kept ≡ []
 
--- a program has a handle for each map that it loads, and no handle twice; the maps of these handles
--- are live and have the shapes with which the program was verified
+-- a program has a handle for each descriptor of a map in its text, in the order of first use, and
+-- no handle twice; the maps of these handles are live and have the shapes with which the program
+-- was verified
 pub record IsBound (t : LiveMaps) (l : LoadedProgram) : Type 0 where
   pub each : keys_of l.maps ≡ maps_of l.insns
   pub once : (handle : ℕ) → times_listed handle (map_handles l) ≤ 1

@@ -25,7 +25,7 @@ at-within f i lt = get_or-map-range_with_len f 0 most_maps i i None lt (omega ar
 pub at-past : (f : ℕ → Option Map) (i : ℕ) → most_maps ≤ i → get_or (at_handles f) i None ≡ None
 at-past f i past = let long = length-at f in get_or_past (at_handles f) i None (omega arith)
 
--- whether something is present does not change if a function is applied to it
+-- whether an option has something does not change if a function is applied to it
 pub is_some-mapped : {A B : Type 0} (f : A → B) (o : Option A)
     → is_some (option_map f o) ≡ is_some o
 is_some-mapped f None = refl

@@ -45,13 +45,15 @@ ClearFlagMeansAlone =
 
 -- ---- the status of refused memory
 
--- whether a command takes memory, which may be refused: a creation of a map and a load of a program
+-- whether memory may be refused to a command: to the creation of a map, of either kind, and to the
+-- load of a program
 abbrev pub takes_memory : Command → Bool
 takes_memory (map_create kind key value max flags) = true
 takes_memory (prog_load kind slots) = true
 takes_memory other = false
 
--- a result in the state s: its status is not that memory was refused, and the flag is that of s
+-- a result of a command in the state s: its status is not that memory was refused, and the flag
+-- after it is that of s
 abbrev pub IsNoRefusal : TenantState → Answer → Type 0
 IsNoRefusal s a = (a.status ≢ status_of NoMemory) × (a.after.refused ≡ s.refused)
 

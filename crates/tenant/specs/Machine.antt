@@ -76,8 +76,8 @@ opens fd s = record { status = pos fd; payload = []; after = s }
 abbrev pub kind_of : ℕ → Option MapKind
 kind_of n = if n == 1 then Some Hash else (if n == 2 then Some Array else None)
 
--- the shape that fields within their limits have, by a proof that the area fits; or the error if
--- the area is too large
+-- the shape that `shape` makes of a proof that the area fits, since each `MapShape` has such a
+-- proof; the error TooBig if the area does not fit (`fits` is false)
 abbrev pub shape_where : (fits : Bool) → (fits ≡ true → MapShape) → Result MapShape Errno
 shape_where true shape = Ok (shape refl)
 shape_where false shape = Err TooBig
@@ -144,13 +144,15 @@ abbrev pub of_handle : TenantState → ℕ → (ℕ → Map → Answer) → Opti
 of_handle s handle f None = refuses BadDescriptor s
 of_handle s handle f (Some t) = f handle t
 
--- the result of a command on what a descriptor names: f gives it for a map; all else is an error
+-- the result of a command on what a descriptor names, given that: f gives it for the handle and the
+-- map; an error for a program, or if the descriptor is not open
 abbrev pub of_object : TenantState → (ℕ → Map → Answer) → Option OpenObject → Answer
 of_object s f None = refuses BadDescriptor s
 of_object s f (Some (object.Program l)) = refuses Invalid s
 of_object s f (Some (object.Map handle)) = of_handle s handle f (live s handle)
 
--- the result of a command on the map that a descriptor names: f has it by handle and map
+-- the result of a command on the map that a descriptor names, which f gives for its handle and the
+-- map; an error if the descriptor is not open or names a program
 abbrev pub on_map : TenantState → ℕ → (ℕ → Map → Answer) → Answer
 on_map s fd f = of_object s f (table.named s.objects fd)
 
@@ -168,7 +170,8 @@ element_looked_up s fd key =
     then gives_or_no_entry s (look_up t key)
     else refuses Invalid s)
 
--- an update, by the verdict on it: a present key keeps its position, and a new one goes to the end
+-- the result of an update, by the verdict on it: a refusal; the value of a present key, which keeps
+-- its position; or a new key, which goes to the end
 abbrev pub element_put : TenantState → ℕ → Map → List ℕ → List ℕ → call.Verdict (List ℕ) → Answer
 element_put s handle t key value (call.Refused fault) = refuses (map_errno fault) s
 element_put s handle t key value (call.Present old) =
@@ -210,8 +213,8 @@ given_next s fd key =
 
 -- ---- PROG_LOAD
 
--- the error of slots that are no program: TooBig if there are none or too many, Invalid for another
--- fault. No slots have the fault Memory
+-- the error of slots that are no program: TooBig if there are none or too many, as in the kernel,
+-- Invalid for another fault. No slots have the fault Memory
 abbrev pub codec_errno : FaultKind → Errno
 codec_errno kind.Opcode = Invalid
 codec_errno kind.Reserved = Invalid
@@ -280,7 +283,8 @@ abbrev pub entry_of : ℕ → Option Target → List Named
 entry_of fd None = []
 entry_of fd (Some t) = record { fd = fd; target = t } ∷ []
 
--- the open descriptors from fd on, with their objects
+-- the open descriptors from fd on, with their objects as the verifier sees them; the list begins
+-- with what fd names
 unfoldable pub targets_from : TenantState → ℕ → List (Option OpenObject) → List Named
 targets_from s fd [] = []
 targets_from s fd (o ∷ os) =
@@ -290,7 +294,7 @@ targets_from s fd (o ∷ os) =
 abbrev pub targets : TenantState → List Named
 targets s = targets_from s table.first_descriptor s.objects
 
--- the handle of the map that a descriptor names, if it names one
+-- the handle of the map that a descriptor names; None if it names a program or is not open
 abbrev pub named_handle : Option OpenObject → Option ℕ
 named_handle (Some (object.Map handle)) = Some handle
 named_handle (Some (object.Program l)) = None
@@ -344,7 +348,7 @@ Loads refused s kind slots answer =
 
 -- ---- PROG_TEST_RUN
 
--- the maps of a program, by the descriptors in its text
+-- the maps of a program, by the descriptors in its text; None for any other descriptor
 abbrev pub maps_given : TenantState → LoadedProgram → MapsByDescriptor
 maps_given s l fd = and_then (lookup (λ m. m == fd) l.maps) (λ handle. live s handle)
 
@@ -386,8 +390,8 @@ closed s fd (Some o) = gives [] (with_objects s (table.with_closed s.objects fd)
 
 -- ---- every command
 
--- The answer of a command, whether memory is refused to it or not. Only MAP_CREATE and PROG_LOAD
--- take memory.
+-- The result of a command; `refused` is whether memory is refused to it. Only MAP_CREATE and
+-- PROG_LOAD take memory.
 abbrev pub Answers : Bool → TenantState → Command → Answer → Type 0
 Answers refused s (map_create kind key value max flags) a =
     a ≡ created refused s (asked_shape (kind_of kind) key value max flags)

@@ -34,7 +34,7 @@ new_tenant = record { objects = nothing_open; maps = replicate most_maps None; r
 abbrev pub live : TenantState → ℕ → Option Map
 live s handle = slice_index_or s.maps handle None
 
--- the lowest handle without a map
+-- the lowest handle without a map; None if each handle has one
 abbrev pub free_handle : TenantState → Option ℕ
 free_handle s = position is_none s.maps
 

@@ -39,8 +39,8 @@ fn run_weight(cost: Cost) -> u64
     u64::from(cost.instructions) + u64::from(CALL_WEIGHT) * u64::from(cost.calls)
 }
 
-/// The number of packets that a bound other than 0 allows a batch of `packets`, if a run counts for `cost` instructions: as many runs as
-/// fit, but at least one. `cost` is not 0, since each run executes its exit.
+/// The number of packets that a bound other than 0 allows a batch of `packets` packets, if a run counts for `cost` instructions: as many
+/// runs as fit, at least one, but no more than there are packets. `cost` is not 0, since each run executes its exit.
 fn allowed(bound: u64, cost: u64, packets: usize) -> usize
     requires { 1 ≤ cost }
     ensures allowed { result ≡ allowed bound cost packets }
@@ -114,10 +114,12 @@ impl Tenant {
             return Err(Errno::Invalid);
         }
         match Packets::new(contexts, bytes, ends) {
-            // Without packets there is nothing to run.
+            // Without packets there is nothing to run, so the program's maps are not entered into the table.
             Ok(_) if ends.is_empty() => Ok(()),
             Ok(packets) => {
+                // For the proof: a law, by which no packet is too long.
                 packets.packets_are_short();
+                // For the contract of the runs only; it takes no space.
                 let mut trace = Trace::new();
                 let bound = BoundProgram {
                     program: program.program(),

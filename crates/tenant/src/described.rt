@@ -95,7 +95,7 @@ impl Tenant {
         }
     }
 
-    /// What a descriptor names at this moment.
+    /// What a descriptor names at this moment; its `kind` is `NOTHING_THERE` if the descriptor is not open.
     pub fn describe(&self, fd: u32) -> Described
         ensures { (part : List ℕ) → result ≡ described (state_in part self.now) fd }
     {

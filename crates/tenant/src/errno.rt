@@ -36,8 +36,8 @@ pub enum Errno {
     NoSpace,
 }
 
-/// The error of a load whose slots are no program: `TooBig` if there are none or too many of them. No slots have the fault `Memory`: a load
-/// that is out of memory is not rejected for its slots.
+/// The error of a load whose slots are no program: `TooBig` if there are none or too many of them, as in the kernel. No slots have the
+/// fault `Memory`: a load that is out of memory is not rejected for its slots.
 fn errno_of_codec(kind: FaultKind) -> Errno
     ensures { result ≡ codec_errno kind }
 {
@@ -106,7 +106,7 @@ impl Errno {
         }
     }
 
-    /// The error of a batch whose packets are refused.
+    /// The error of a batch whose packets are refused for this fault.
     pub(crate) fn of_packet(fault: PacketFault) -> Errno
         ensures { result ≡ packet_errno fault }
     {

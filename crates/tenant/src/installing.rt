@@ -21,7 +21,7 @@ use tagged_model::{MapShape, Target};
 use verifier::{ReplaceFault, Verified};
 
 impl Tenant {
-    /// The shape of the map that a descriptor names; `None` if it names none.
+    /// The shape of the map that a descriptor names; `None` if the descriptor is not open or names a program.
     fn shape_at(&self, fd: u32) -> Option<MapShape>
         ensures { (part : List ℕ) →
             result ≡ shapes_named (targets (state_in part self.now)) fd }
@@ -47,8 +47,8 @@ impl Tenant {
         true
     }
 
-    /// The program as it is accepted with the open descriptors, with the handles of its maps. It fits, so `OtherShapes` can't
-    /// occur. `AllocError`: out of memory.
+    /// The loaded program that `program` becomes: the objects with which it was accepted are replaced by those that are open here, and it
+    /// gets the handles of its maps. The caller has seen that it fits, so `OtherShapes` can't occur. `AllocError`: out of memory.
     fn program_here(
         &self,
         alloc: Global,
@@ -74,12 +74,13 @@ impl Tenant {
     /// accepted does not matter, if each descriptor of its maps names a map of the same shape here. It is neither copied nor verified
     /// again.
     ///
-    /// If it does not fit, it is given back, and nothing has changed. Else the result is that of `load`; with an error the program is
-    /// dropped.
+    /// `Err` gives back a program that does not fit; then nothing has changed. `Ok` has the result of `load` for its slots; if that is an
+    /// error, the program is dropped.
     ///
     /// # Errors
     ///
-    /// The first that applies: `TooManyOpen` if no descriptor is free; `NoMemory` if out of memory, which sets the tenant's flag.
+    /// Those in `Ok`, the first that applies: `TooManyOpen` if no descriptor is free; `NoMemory` if out of memory, which sets the tenant's
+    /// flag of refused memory.
     pub fn install(
         &mut self,
         alloc: Global,

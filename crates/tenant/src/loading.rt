@@ -24,7 +24,8 @@ use verifier::{Refusal, Verified, WorkingMemory, laws, verify_slots};
 /// The type of socket filters, the only one that can be loaded (BPF_PROG_TYPE_SOCKET_FILTER).
 const SOCKET_FILTER: u32 = 1;
 
-/// Adds one reference to the map of each handle in `held`.
+/// Adds one reference to the map of each handle in `held`, the live maps of a program that is opened. References are counted in 32 bits
+/// (`few`); a map has few, since at most 64 objects are open and each names it at most once.
 fn hold_all(maps: &mut Maps, held: &[MapKey])
     requires live { AreHeld maps.old }
     requires there { AreLive maps.old held.now }
@@ -38,7 +39,7 @@ fn hold_all(maps: &mut Maps, held: &[MapKey])
     }
 }
 
-/// The handle of the map that a descriptor names; `None` if it names none.
+/// The handle of the map that a descriptor names; `None` if the descriptor is not open or names a program.
 fn map_named(objects: &FdTable<OpenObject>, fd: u32) -> Option<MapKey>
     ensures { result ≡ named_handle (named objects.now fd) }
 {
@@ -48,7 +49,8 @@ fn map_named(objects: &FdTable<OpenObject>, fd: u32) -> Option<MapKey>
     }
 }
 
-/// The handles of the maps that descriptors name. Descriptors that name no map are left out.
+/// The handles of the maps that descriptors name, in the order of `fds`. Descriptors that name no map are left out. `AllocError`: out of
+/// memory.
 fn maps_named(
     alloc: Global,
     objects: &FdTable<OpenObject>,
@@ -67,7 +69,8 @@ fn maps_named(
 }
 
 impl Tenant {
-    /// A program that was accepted with the open descriptors, with the handles of its maps. `AllocError`: out of memory.
+    /// The loaded program that `program` becomes, with the handles of its maps. It was accepted with the objects that are open now
+    /// (`accepted`, `entries`), so each descriptor of its maps names a live map. `AllocError`: out of memory.
     pub(crate) fn with_maps(
         &self,
         alloc: Global,
@@ -89,8 +92,8 @@ impl Tenant {
         Ok(LoadedProgram::new(program, maps))
     }
 
-    /// The program that the slots spell, with the handles of its maps, if it is accepted; or why the slots are rejected. `AllocError`: out
-    /// of memory. `slot` bounds the slot of a refusal, which a reply has in four bytes.
+    /// Verifies the program that the slots spell, in the memory `working`, and returns it with the handles of its maps if it is accepted,
+    /// or why the slots are rejected. `AllocError`: out of memory. `slot` bounds the slot of a refusal, which a reply has in four bytes.
     fn program_of(
         &self,
         slots: &[u8],
@@ -116,8 +119,8 @@ impl Tenant {
         }
     }
 
-    /// Opens a program at the lowest free descriptor, of which there is at least one, and returns it. The program then has a reference to
-    /// each of its maps.
+    /// Opens a program at the lowest free descriptor, and returns this descriptor; the caller has seen that one is free. The program gets a
+    /// reference to each of its maps, which are live (`there`) and have the shapes with which it was accepted (`bound`).
     pub(crate) fn open_program(&mut self, program: LoadedProgram) -> u32
         requires free { is_none (lowest self.old.objects) ≡ false }
         requires bound { IsBound self.old.live program }
@@ -131,16 +134,16 @@ impl Tenant {
         open(&mut self.objects, OpenObject::Program(program))
     }
 
-    /// PROG_LOAD: opens the program that the slots spell, if it is accepted with the open descriptors. It keeps its maps
-    /// when their descriptors are closed.
+    /// PROG_LOAD: opens the program that the slots spell, if it is accepted with the open descriptors. It keeps its maps when their
+    /// descriptors are closed.
     ///
-    /// Slots that are no program, or whose program is not accepted, are rejected with the slot and the number of the cause. `working` is
-    /// memory to work in, which the next load of any tenant can use again; its contents mean nothing.
+    /// Slots that are no program, or whose program is not accepted, are no error here: the result is `Reply::Refused`, which has the slot
+    /// and the cause. `working` is memory to work in, which the next load of any tenant can use again; its contents mean nothing.
     ///
     /// # Errors
     ///
-    /// The first that applies: `Invalid` if `kind` is not the type of socket filters; `TooManyOpen` if no descriptor is free;
-    /// `NoMemory` if out of memory, which sets the tenant's flag.
+    /// The first that applies: `Invalid` if `kind` is not the type of socket filters; `TooManyOpen` if no descriptor is free; `NoMemory` if
+    /// out of memory, which sets the tenant's flag of refused memory.
     pub fn load(
         &mut self,
         kind: u32,

@@ -19,7 +19,7 @@ use bpf_maps::{KeyRef, MapKey, PART};
 use tagged_model::MapShape;
 use verifier::Cost;
 
-/// A key of a map, its value, and the element of the value in the map.
+/// An entry of a live map: a key, the bytes of its value, and the number of the value's element.
 #[derive(Drop)]
 pub struct MapEntry<'a> {
     pub key: KeyRef<'a>,
@@ -50,6 +50,7 @@ impl Tenant {
     pub fn is_live(&self, map: MapKey) -> bool
         ensures { (part : List ℕ) → result ≡ is_some (live (state_in part self.now) map) }
     {
+        // For the proof: a law of the live maps, which does nothing.
         self.maps.maps_are_laid();
         self.maps.is_live(map)
     }
@@ -61,6 +62,7 @@ impl Tenant {
         ensures state { (part : List ℕ) → live (state_in part self.now) map
             ≡ option_map (λ shape. map_in part self.now.live map) result }
     {
+        // For the proof: a law of the live maps, which does nothing.
         self.maps.maps_are_laid();
         if self.maps.is_live(map) {
             Some(self.maps.shape(map))
@@ -69,7 +71,7 @@ impl Tenant {
         }
     }
 
-    /// How many keys a map has; none if it is not live.
+    /// How many keys a map has; 0 if it is not live.
     pub fn key_count(&self, map: MapKey) -> u32
         ensures { result ≡ length (keys_at self.now.live map).entries }
     {
@@ -90,6 +92,7 @@ impl Tenant {
         ensures once { (p : ℕ) →
             occurrences p (values_of (numbered_entries part.now self.now.live map)) ≤ 1 }
     {
+        // For the proof: a law of the live maps, which does nothing.
         self.maps.maps_are_laid();
         if part.len() != PART {
             return None;

@@ -15,18 +15,20 @@ pub enum Reply<'a> {
     Done,
     /// The status is a new descriptor; there is no payload.
     Opened(u32),
-    /// The payload is a value, borrowed from the tenant's part.
+    /// Status 0; the payload is a value, borrowed from the tenant's part.
     Value(&'a [u8]),
-    /// The payload is a key.
+    /// Status 0; the payload is a key.
     Key(KeyRef<'a>),
-    /// The payload is the result of a test run.
+    /// Status 0; the payload is the result of a test run, in four bytes.
     Number(u32),
-    /// The payload is the slot of a load that is rejected, and the number of the cause.
+    /// The status is the error of the cause for which a load is rejected. The payload is the slot, in four bytes, and the number of the
+    /// cause, in two.
     Refused(Refusal),
 }
 
 /// Writes the reply to a command, or to one that fails with an error, to `reply`. It repeats the tenant and the command number of `head`,
-/// the head of the command's frame. The contract holds for each state after the command, since no reply has a state in it.
+/// the head of the command's frame. Each command promises that its result can be written (`IsWritable`), so no cast loses anything. The
+/// contract holds for each state after the command, since no reply has a state in it.
 #[inline(always)]
 pub fn write_answer(head: Head, answer: Result<Reply<'_>, Errno>, reply: &mut ReplyBuf)
     requires { IsWritable answer }

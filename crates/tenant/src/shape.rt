@@ -22,7 +22,8 @@ fn map_kind(number: u32) -> Option<MapKind>
 ///
 /// # Errors
 ///
-/// `Invalid` if a field is outside its limits or a flag is set, else `TooBig` if the values take too many bytes.
+/// `Invalid` if a field is outside its limits or a flag is set, else `TooBig` if the values take too many bytes. `no_fault`: never
+/// `BadAddress`, the error of a run that faults.
 pub fn asked_shape(
     kind: u32,
     key_size: u32,

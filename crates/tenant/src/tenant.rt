@@ -34,7 +34,7 @@ pub struct Tenant {
     pub(crate) maps: Maps,
     /// Whether memory was ever refused to a load; for new maps, `maps` has this.
     pub(crate) refused: bool,
-    /// Room for what a run enters about its maps; it means nothing between runs.
+    /// Room for the table by which a run finds its maps. Each run enters its program's maps, so the contents mean nothing between runs.
     pub(crate) table_room: TableRoom,
 }
 
@@ -57,7 +57,8 @@ fn write_at(part: &mut [u8], start: usize, bytes: &[u8])
     part[start..start + bytes.len()].copy_from_slice(bytes);
 }
 
-/// Opens an object at the lowest free descriptor, which it returns. At least one is free, so the table cannot be full.
+/// Opens an object at the lowest free descriptor, 3 to 66, and returns this descriptor. The caller has seen that one is free, so the table
+/// does not give the object back.
 pub(crate) fn open(objects: &mut FdTable<OpenObject>, object: OpenObject) -> u32
     requires { is_none (lowest objects.old) ≡ false }
     ensures lowest { lowest objects.old ≡ Some result }
@@ -70,7 +71,8 @@ pub(crate) fn open(objects: &mut FdTable<OpenObject>, object: OpenObject) -> u32
     }
 }
 
-/// Drops one reference to the map of each handle in `held`. A map without references is freed, with its handle.
+/// Drops one reference to the map of each handle in `held`, the maps of a program that was closed: its references are still counted, so
+/// there are as many. A map without references is freed, and the areas after its own move down in `part`, the tenant's part.
 fn release_all(maps: &mut Maps, held: &[MapKey], part: &mut [u8])
     requires live { AreHeld maps.old }
     requires held { (handle : ℕ) → times_listed handle held.now ≤ holds_at maps.old handle }
@@ -100,6 +102,7 @@ impl Tenant {
     }
 
     /// The handle of the map that a descriptor names. `BadDescriptor` if the descriptor is not open, `Invalid` if it names a program.
+    /// `no_fault`: never `BadAddress`, the error of a run that faults.
     fn map_named(&self, fd: u32) -> Result<MapKey, Errno>
         ensures found { IfOk result (IsMapOf self.now fd) }
         ensures live { IfOk result (λ map. IsSome (live_at self.now.live map)) }
@@ -114,7 +117,8 @@ impl Tenant {
         }
     }
 
-    /// The object that a descriptor names, as the verifier sees it; `None` if the descriptor is not open.
+    /// The object that a descriptor names, as the verifier sees it: the shape of a map, or only that it is a program. `None` if the
+    /// descriptor is not open.
     pub(crate) fn target(&self, fd: u32) -> Option<Target>
         ensures { (part : List ℕ) →
             result ≡ and_then (named self.now.objects fd) (object_target (state_in part self.now)) }
@@ -171,9 +175,9 @@ impl Tenant {
     ///
     /// # Errors
     ///
-    /// Those of the shape, `Invalid` and `TooBig`; `TooManyOpen` if no descriptor is free, `NoSpace` if there are too many maps or
-    /// their values take too many bytes, else `NoMemory` if out of memory for a hash map, which sets the tenant's flag. Then no map has
-    /// changed.
+    /// The first that applies: `Invalid` if a field is outside its limits or a flag is set; `TooBig` if the values of this map take too
+    /// many bytes; `TooManyOpen` if no descriptor is free; `NoSpace` if no handle is free, or if the values of all maps would take too many
+    /// bytes; `NoMemory` if out of memory for a hash map, which sets the tenant's flag of refused memory. Then no map has changed.
     pub fn create(
         &mut self,
         kind: u32,
@@ -195,6 +199,7 @@ impl Tenant {
         if self.objects.is_full() {
             return Err(Errno::TooManyOpen);
         }
+        // For the proof: a law of the live maps, which does nothing.
         self.maps.maps_are_laid();
         match self.maps.create(shape, part) {
             Ok(map) => Ok(Reply::Opened(open(&mut self.objects, OpenObject::Map(map)))),
@@ -240,6 +245,7 @@ impl Tenant {
             Ok(element) => element,
             Err(fault) => return Err(Errno::of_map(fault)),
         };
+        // For the proof: a law of the live maps, which does nothing.
         self.maps.maps_are_laid();
         let start = self.maps.value_at(map, element);
         write_at(part, start, value);
@@ -293,8 +299,8 @@ impl Tenant {
         }
     }
 
-    /// CLOSE: closes a descriptor. A map that no other descriptor and no program names is freed, and the areas after its own move down in
-    /// `part`, the tenant's part of `PART` bytes.
+    /// CLOSE: closes a descriptor, which drops its reference to a map, or those of its program to their maps. A map without references is
+    /// freed, and the areas after its own move down in `part`, the tenant's part of `PART` bytes.
     ///
     /// # Errors
     ///

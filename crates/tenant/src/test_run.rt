@@ -50,6 +50,7 @@ impl Tenant {
             return Err(Errno::TooBig);
         }
         let context = context_words(packet.len() as u32, words);
+        // For the contract of the run only; it takes no space.
         let mut trace = Trace::new();
         let bound = BoundProgram {
             program: program.program(),

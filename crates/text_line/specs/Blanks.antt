@@ -5,11 +5,11 @@ use Rattle.std.specs.Prelude.{ℕ, Bool, ◌||◌, ◌==◌, List, [], ◌∷◌
 abbrev pub is_blank : ℕ → Bool
 is_blank b = b == 32 || b == 9 || b == 13
 
--- without the blanks at the front
+-- the bytes without the blanks at their front
 abbrev pub skip_blanks : List ℕ → List ℕ
 skip_blanks [] = []
 skip_blanks (b ∷ bs) = if is_blank b then skip_blanks bs else b ∷ bs
 
--- without the blanks at both ends
+-- the bytes without the blanks at both ends; none if they are only blanks
 abbrev pub stripped : List ℕ → List ℕ
 stripped line = reverse (skip_blanks (reverse (skip_blanks line)))

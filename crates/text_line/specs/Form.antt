@@ -25,8 +25,8 @@ use Rattle.text_line.specs.declared.form.Form.TheVariants as form
 use Rattle.text_line.specs.Token.{Token, name, number, symbol}
 use Rattle.text_line.specs.Names.{register_name, sign_name, jump_name}
 
--- A line is laid out as tokens and single spaces (`None`). On reading, any blanks may be between
--- tokens.
+-- A line is laid out as tokens and single spaces (`None`), as it is printed. On reading, any blanks
+-- may be between tokens.
 abbrev pub TokenLayout : Type 0
 TokenLayout = List (Option Token)
 
@@ -75,7 +75,7 @@ address size at rest =
     ∷ Some (number at.offset.magnitude) ∷ sign (codes ")") ∷ rest
 
 -- what follows the destination register `dst` of an operation; a negation and a byte-order
--- conversion name it again
+-- conversion name it again. Registers are of 64 bits (r) if wide, else their low half (w).
 abbrev pub operation_layout : Bool → ℕ → Operation → TokenLayout
 operation_layout wide dst (operation.Binary op src) =
     sign (alu_symbol op) ∷ space ∷ operand_layout wide src []

@@ -6,7 +6,7 @@ abbrev pub register_letter : Bool → ℕ
 register_letter true = 114
 register_letter false = 119
 
--- the letter, and the number, 0 to 10, in decimal, as r0 or w10
+-- the name of register r: its letter, and its number, 0 to 10, in decimal, as r0 or w10
 abbrev pub register_name : Bool → ℕ → List ℕ
 register_name wide r = register_letter wide ∷ (if r == 10 then 49 ∷ 48 ∷ [] else (48 + r) ∷ [])
 

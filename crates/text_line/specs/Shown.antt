@@ -10,10 +10,10 @@ seen_line written.Blank = blank
 seen_line (written.Label n) = label n.now
 seen_line (written.Code f n) = instruction f n.now
 
--- the reading that one of the code represents; `None` of a line that has none of the forms
+-- the reading that a result of the code represents; `None` of a line that has none of the forms
 abbrev pub seen_option : Option CodeLine → Option Line
 seen_option line = option_map seen_line line
 
--- the readings that those of the code represent, line by line
+-- the readings that the results of the code represent, one for each line, in order
 abbrev pub seen_lines : List (Option CodeLine) → List (Option Line)
 seen_lines lines = map seen_option lines

@@ -35,7 +35,7 @@ is_name_byte b = is_name_start b || is_ascii_digit b
 abbrev pub is_hex_digit : ℕ → Bool
 is_hex_digit b = is_ascii_digit b || (nat_lt 64 b && nat_lt b 71) || (nat_lt 96 b && nat_lt b 103)
 
--- a number's value, `None` from 2 ^ 64 on
+-- the value of a number's digits; `None` from 2 ^ 64 on, which no field can hold
 abbrev pub value_of : ℕ → Option ℕ
 value_of n = if nat_lt n (2 ^ 64) then Some n else None
 
@@ -43,7 +43,7 @@ value_of n = if nat_lt n (2 ^ 64) then Some n else None
 abbrev pub is_name : List ℕ → Bool
 is_name bytes = is_name_start (slice_index bytes 0) && list_all is_name_byte bytes
 
--- the bytes are digits of this class, at least one
+-- the bytes are digits by this test, at least one
 abbrev pub are_digits : (ℕ → Bool) → List ℕ → Bool
 are_digits is_digit bytes = nat_lt 0 (length bytes) && list_all is_digit bytes
 
@@ -76,12 +76,12 @@ pub record BeginsWith (text : List ℕ) (token : Token) (rest : List ℕ) : Type
       → IsToken front other
       → length front ≤ length bytes
 
--- the text is empty or a comment
+-- the text, without blanks at its front, is empty or a comment: the line has no more tokens
 abbrev pub is_over : List ℕ → Bool
 is_over text = length text == 0 || starts_with nat_eq text (codes "//")
 
--- The text from here on has these tokens: after spaces, tabs and carriage returns comes the first
--- of them, and then the others.
+-- The text has these tokens and no others: after spaces, tabs and carriage returns comes the first
+-- of them, and then the others; after the last, at most blanks and a comment.
 abbrev pub HasTokens : List ℕ → List Token → Type 0
 HasTokens text [] = IsTrue (is_over (skip_blanks text))
 HasTokens text (t ∷ ts) = (rest : List ℕ) × BeginsWith (skip_blanks text) t rest × HasTokens rest ts

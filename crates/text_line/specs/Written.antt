@@ -24,7 +24,7 @@ abbrev pub number_of : ℤ → Number
 number_of (pos n) = record { negative = false; magnitude = Some n }
 number_of (negsuc n) = record { negative = true; magnitude = Some (suc n) }
 
--- an operand as it is written
+-- an operand, a constant or a register, as it is written
 abbrev pub source_of : Operand → SourceOperand
 source_of (Imm z) = source.Number (number_of z)
 source_of (Reg r) = source.Reg r

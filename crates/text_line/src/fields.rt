@@ -15,7 +15,7 @@ use insn_set::{ExtendedBits, Insn, Load, Movsx, Operand, Reg};
 
 impl Number {
     /// The number as a signed 32-bit field, in which -0 is 0 (`normal`). `None` if it is out of range, also if its digits are 2 ^ 64 or
-    /// more, so that it has no `magnitude`.
+    /// more, so that it has no `magnitude`. It is negated as an `i64`, since 2 ^ 31 is no `i32`.
     fn imm(self) -> Option<i32>
         ensures found { IfSome result (λ n. number_of n ≡ normal self) }
         ensures fits { IfSome result (λ _. imm_fits self ≡ true) }
@@ -36,7 +36,7 @@ impl Number {
     }
 
     /// The number as a signed 16-bit field, in which -0 is 0 (`normal`). `None` if it is out of range, also if its digits are 2 ^ 64 or
-    /// more, so that it has no `magnitude`.
+    /// more, so that it has no `magnitude`. It is negated as an `i64`, since 2 ^ 15 is no `i16`.
     fn offset(self) -> Option<i16>
         ensures found { IfSome result (λ n. number_of n ≡ normal self) }
         ensures fits { IfSome result (λ _. offset_fits self ≡ true) }
@@ -123,6 +123,7 @@ impl JumpTarget {
 
 impl Operation {
     /// The instruction of this operation on `dst`, of 64 bits if `wide`, else of the low 32; `None` if its number is out of range.
+    /// `Form::insn` has checked that a line can have the form: else a byte-order conversion could be of a `w` register.
     fn insn(self, wide: bool, dst: Reg) -> Option<Insn>
         requires { IsForm (form.Operation wide dst self) }
         ensures found { IfSome result (λ insn. written insn
@@ -151,6 +152,7 @@ impl Operation {
 
 impl Access {
     /// The instruction of this access at an address; `None` if the address's offset or the constant of a store is out of range.
+    /// `Form::insn` has checked that a line can have the form: else a load could sign-extend a double word.
     fn insn(self, address: Address) -> Option<Insn>
         requires { IsForm (form.Access self address) }
         ensures found { IfSome result (λ insn. written insn
@@ -230,8 +232,8 @@ fn is_short(bits: ExtendedBits) -> bool
 
 impl Form {
     /// Whether a line can have this form: a sign extension is from fewer bits than the register has, a byte-order conversion is of an `r`
-    /// register, and no double word is loaded with sign extension. The calls of `number` and `in_range` only show that registers are 0
-    /// to 10.
+    /// register, and no double word is loaded with sign extension. The calls of `number` and `in_range` only give the proof that registers
+    /// are 0 to 10.
     fn is_listed(&self) -> bool
         ensures yes { result ≡ true → IsForm self.now }
         ensures no { result ≡ false → IsForm self.now → ⊥ }
@@ -297,8 +299,8 @@ impl Form {
         }
     }
 
-    /// The instruction of a form that a line can have; `None` if a number is out of range. A label that a jump names is `distance` slots
-    /// from the next slot.
+    /// The instruction of a form that a line can have, as `insn` has checked; `None` if a number is out of range. A label that a jump names
+    /// is `distance` slots from the next slot.
     fn listed_insn(self, distance: i16) -> Option<Insn>
         requires { IsForm self }
         ensures found { IfSome result (λ insn. written insn ≡ resolved distance self) }

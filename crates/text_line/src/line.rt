@@ -23,7 +23,8 @@ use insn_set::{
 
 // ---- operations
 
-/// The operation `op`, an operator of two operands or a move, whose source is what the tokens spell: a constant or a register.
+/// The operation `op`, an operator of two operands or a move, with the source that the tokens spell: a constant, or a register, `r` if
+/// `wide`, else `w`. `None` if they are anything else.
 #[tactic(auto, unfolding(crate::specs::inside::Reading::parsed_binary))]
 fn binary(wide: bool, op: AluOp, tokens: &[Token<'_>]) -> Option<Operation>
     ensures { result ≡ parsed_binary wide op (shown_tokens tokens.now) }
@@ -34,7 +35,8 @@ fn binary(wide: bool, op: AluOp, tokens: &[Token<'_>]) -> Option<Operation>
     at_end(Operation::Binary { op, src }, rest)
 }
 
-/// A move with sign extension, from the tokens after `(`, as `s16)r2`. A `w` register has none from 32 bits, which are all of its bits.
+/// A move with sign extension, from the tokens after `(`, as `s16)r2`, of an `r` register if `wide`, else of a `w` register. `None` if they
+/// are anything else, also `s32` with a `w` register: 32 bits are all that it has.
 #[tactic(auto, unfolding(crate::specs::inside::Reading::parsed_sign_extension))]
 fn sign_extension(wide: bool, tokens: &[Token<'_>]) -> Option<Operation>
     ensures { result ≡ parsed_sign_extension wide (shown_tokens tokens.now) }
@@ -51,7 +53,8 @@ fn sign_extension(wide: bool, tokens: &[Token<'_>]) -> Option<Operation>
     at_end(Operation::SignExtend { from, src }, rest)
 }
 
-/// The operation `found`, which names its destination `dst` on both sides of `=`: the tokens have to be this register again.
+/// `found`, an operation that names its destination `dst` on both sides of `=`, if the tokens are this register again, as `r` if `wide`,
+/// else as `w`. `None` if they are anything else.
 #[tactic(auto, unfolding(crate::specs::inside::Reading::parsed_in_place))]
 fn in_place(wide: bool, dst: Reg, found: Operation, tokens: &[Token<'_>]) -> Option<Operation>
     ensures { result ≡ parsed_in_place wide dst found (shown_tokens tokens.now) }
@@ -65,8 +68,8 @@ fn in_place(wide: bool, dst: Reg, found: Operation, tokens: &[Token<'_>]) -> Opt
     at_end(found, rest)
 }
 
-/// An operation of one operand, from the tokens after `=`: a move with sign extension, a negation, or a byte-order conversion,
-/// which only an `r` register has.
+/// An operation of one operand with the destination `dst`, from the tokens after `=`: a move with sign extension, a negation, or a
+/// byte-order conversion, which only an `r` register (`wide`) has. `None` if they are none of these.
 #[tactic(auto, unfolding(crate::specs::inside::Reading::parsed_unary))]
 fn unary(wide: bool, dst: Reg, tokens: &[Token<'_>]) -> Option<Operation>
     ensures { result ≡ parsed_unary wide dst (shown_tokens tokens.now) }
@@ -85,8 +88,8 @@ fn unary(wide: bool, dst: Reg, tokens: &[Token<'_>]) -> Option<Operation>
     in_place(true, dst, Operation::End { how, bits }, rest)
 }
 
-/// The operation on `dst` with the symbol of `op`, from the tokens after this symbol. The operations of one operand (`unary`) are written
-/// with `=`, the symbol of a move (`Mov`).
+/// The operation with the symbol of `op` on `dst`, an `r` register if `wide`, else `w`, from the tokens after this symbol; `None` if they
+/// spell none. The operations of one operand (`unary`) are written with `=`, the symbol of a move (`Mov`).
 #[tactic(auto, unfolding(crate::specs::inside::Reading::parsed_operation))]
 fn operation(wide: bool, op: AluOp, dst: Reg, tokens: &[Token<'_>]) -> Option<Operation>
     ensures { result ≡ parsed_operation wide op dst (shown_tokens tokens.now) }
@@ -103,7 +106,7 @@ fn operation(wide: bool, op: AluOp, dst: Reg, tokens: &[Token<'_>]) -> Option<Op
 
 // ---- forms
 
-/// A load into `dst`, from the tokens after `=`.
+/// A load into `dst`, from the tokens after `=`: a memory operand, as `*(u32 *)(r6 + 0)`. `None` if they are anything else.
 #[tactic(auto, unfolding(crate::specs::inside::Reading::parsed_load))]
 fn load(dst: Reg, tokens: &[Token<'_>]) -> Option<Form>
     ensures { result ≡ parsed_load dst (shown_tokens tokens.now) }
@@ -115,7 +118,7 @@ fn load(dst: Reg, tokens: &[Token<'_>]) -> Option<Form>
     at_end(Form::Access { access, address }, rest)
 }
 
-/// A store: a memory operand whose size is not signed, `=`, and a constant or an `r` register.
+/// A store: a memory operand whose size is not signed, `=`, and a constant or an `r` register. `None` if the tokens are anything else.
 #[tactic(auto, unfolding(crate::specs::inside::Reading::parsed_store))]
 fn store(tokens: &[Token<'_>]) -> Option<Form>
     ensures { result ≡ parsed_store (shown_tokens tokens.now) }
@@ -134,7 +137,8 @@ fn store(tokens: &[Token<'_>]) -> Option<Form>
     at_end(Form::Access { access, address }, rest)
 }
 
-/// An atomic operation, from the tokens after `lock`. Its size is 4 or 8 bytes, not signed.
+/// An atomic operation, from the tokens after `lock`: a memory operand of 4 or 8 bytes, not signed, the symbol of the operation, and an `r`
+/// register. `None` if they are anything else.
 #[tactic(auto, unfolding(crate::specs::inside::Reading::parsed_atomic))]
 fn atomic(tokens: &[Token<'_>]) -> Option<Form>
     ensures { result ≡ parsed_atomic (shown_tokens tokens.now) }
@@ -152,7 +156,7 @@ fn atomic(tokens: &[Token<'_>]) -> Option<Form>
     at_end(Form::Access { access, address }, rest)
 }
 
-/// A load of a 64-bit value into `dst`, from the tokens after `=`: the value, and `ll`.
+/// A load of a 64-bit value into `dst`, from the tokens after `=`: the value, and `ll`. `None` if they are anything else.
 #[tactic(auto, unfolding(crate::specs::inside::Reading::parsed_wide_load))]
 fn wide_load(dst: Reg, tokens: &[Token<'_>]) -> Option<Form>
     ensures { result ≡ parsed_wide_load dst (shown_tokens tokens.now) }
@@ -163,7 +167,7 @@ fn wide_load(dst: Reg, tokens: &[Token<'_>]) -> Option<Form>
 }
 
 /// A line that begins with its destination register: an operation on it; or, with `=` (the symbol of `Mov`) and an `r` register, a wide
-/// load or a load into it.
+/// load or a load into it. `None` if the tokens are none of these.
 #[tactic(auto, unfolding(crate::specs::inside::Reading::parsed_assigned))]
 fn assigned(tokens: &[Token<'_>]) -> Option<Form>
     ensures { result ≡ parsed_assigned (shown_tokens tokens.now) }
@@ -184,7 +188,8 @@ fn assigned(tokens: &[Token<'_>]) -> Option<Form>
     }
 }
 
-/// A conditional jump, from the tokens after `if`, and the label that it names: the empty text if it names none.
+/// A conditional jump, from the tokens after `if`, and the label that it names: the empty text if it names none. `None` if the tokens are
+/// anything else.
 #[tactic(auto, unfolding(crate::specs::inside::Reading::parsed_branch))]
 fn branch<'a>(tokens: &[Token<'a>]) -> Option<(Form, &'a str)>
     ensures { seen_destination result ≡ parsed_branch (shown_tokens tokens.now) }
@@ -211,7 +216,7 @@ fn branch<'a>(tokens: &[Token<'a>]) -> Option<(Form, &'a str)>
 }
 
 /// An instruction, and the label that its jump names: the empty text if it names none. A line that begins with none of the six words
-/// (`if` to `lock`) begins with its destination register (`assigned`), or is a store.
+/// (`if` to `lock`) begins with its destination register (`assigned`), or is a store. `None` if the tokens are no instruction.
 #[tactic(auto, unfolding(crate::specs::inside::Reading::parsed_form))]
 fn form<'a>(tokens: &[Token<'a>]) -> Option<(Form, &'a str)>
     ensures { seen_destination result ≡ parsed_form (shown_tokens tokens.now) }
@@ -249,7 +254,7 @@ fn form<'a>(tokens: &[Token<'a>]) -> Option<(Form, &'a str)>
 
 // ---- lines
 
-/// The name of the label that the line defines, if it is a name and `:`.
+/// The name of the label that the line defines, if it is a name and `:`, and nothing more; `None` of any other line.
 #[tactic(auto, unfolding(crate::specs::inside::Reading::parsed_label))]
 fn label<'a>(tokens: &[Token<'a>]) -> Option<&'a str>
     ensures { option_map (λ n. n.now) result ≡ parsed_label (shown_tokens tokens.now) }

@@ -68,7 +68,8 @@ pub(crate) fn after_word<'t, 'a>(tokens: &'t [Token<'a>], expected: &str) -> Opt
 
 // ---- parts of a line
 
-/// A register, and the tokens after it: `r` (64 bits) if `wide`, else `w` (the low 32).
+/// A register, `r` (64 bits) if `wide`, else `w` (the low 32), and the tokens after it; `None` if the tokens begin with another token, also
+/// with a register of the other width.
 #[tactic(auto, unfolding(crate::specs::inside::Reading::leading_register))]
 pub(crate) fn register<'t, 'a>(
     wide: bool,
@@ -85,7 +86,8 @@ pub(crate) fn register<'t, 'a>(
     }
 }
 
-/// The number of the first token, and the tokens after it. The token has no sign: whether a minus was read before it is `negative`.
+/// The number of the first token, and the tokens after it; `None` if this token is no number. `negative` is whether the caller has read a
+/// minus before it, which is a token of its own.
 fn number_from<'t, 'a>(negative: bool, tokens: &'t [Token<'a>]) -> Option<(Number, &'t [Token<'a>])>
     ensures { seen_pair result ≡ number_from negative (leading_number (shown_tokens tokens.now)) }
 {
@@ -99,7 +101,7 @@ fn number_from<'t, 'a>(negative: bool, tokens: &'t [Token<'a>]) -> Option<(Numbe
     ))
 }
 
-/// A number, after a minus or without a sign, and the tokens after it.
+/// A number, after a minus or without a sign, and the tokens after it; `None` if the tokens begin with none.
 #[tactic(auto, unfolding(crate::specs::inside::Reading::leading_constant))]
 pub(crate) fn constant<'t, 'a>(tokens: &'t [Token<'a>]) -> Option<(Number, &'t [Token<'a>])>
     ensures { seen_pair result ≡ leading_constant (shown_tokens tokens.now) }
@@ -110,7 +112,7 @@ pub(crate) fn constant<'t, 'a>(tokens: &'t [Token<'a>]) -> Option<(Number, &'t [
     }
 }
 
-/// A number after its sign, `+` or `-`, without which there is none, and the tokens after it.
+/// A number after its sign, `+` or `-`, and the tokens after it; `None` if the tokens begin with none, or with one without a sign.
 #[tactic(auto, unfolding(crate::specs::inside::Reading::leading_signed_number))]
 pub(crate) fn signed<'t, 'a>(tokens: &'t [Token<'a>]) -> Option<(Number, &'t [Token<'a>])>
     ensures { seen_pair result ≡ leading_signed_number (shown_tokens tokens.now) }
@@ -121,7 +123,7 @@ pub(crate) fn signed<'t, 'a>(tokens: &'t [Token<'a>]) -> Option<(Number, &'t [To
     }
 }
 
-/// A register, `r` if `wide`, else `w`, or a constant, and the tokens after it.
+/// A register, `r` if `wide`, else `w`, or a constant, and the tokens after it; `None` if the tokens begin with neither.
 #[tactic(auto, unfolding(crate::specs::inside::Reading::leading_operand))]
 pub(crate) fn operand<'t, 'a>(
     wide: bool,
@@ -155,7 +157,8 @@ pub(crate) fn at_end<T: Copy>(found: T, tokens: &[Token<'_>]) -> Option<T>
     if ended(tokens) { Some(found) } else { None }
 }
 
-/// The target of a jump, and the label's name, empty if it names no label. No token may follow.
+/// The target of a jump, a number with its sign or a label, and the label's name, empty for a number. `None` if the tokens are anything
+/// else, or more tokens follow.
 #[tactic(auto, unfolding(crate::specs::inside::Reading::parsed_destination))]
 pub(crate) fn destination<'a>(tokens: &[Token<'a>]) -> Option<(JumpTarget, &'a str)>
     ensures { seen_destination result ≡ parsed_destination (shown_tokens tokens.now) }
@@ -170,7 +173,7 @@ pub(crate) fn destination<'a>(tokens: &[Token<'a>]) -> Option<(JumpTarget, &'a s
 }
 
 /// A memory operand, as `*(u32 *)(r6 + 0)`, and the tokens after it: whether its size is written as signed (as `s32`), the size, and
-/// the address.
+/// the address. `None` if the tokens begin with none.
 #[tactic(auto, unfolding(crate::specs::inside::Reading::leading_address))]
 pub(crate) fn address<'t, 'a>(
     tokens: &'t [Token<'a>],
@@ -193,7 +196,7 @@ pub(crate) fn address<'t, 'a>(
 }
 
 /// The value of a wide load without its `ll`, and the tokens after it: `map_fd` and a descriptor; `map_value`, a descriptor, `+` and an
-/// offset; or a number.
+/// offset; or a number. `None` if the tokens begin with none of these.
 #[tactic(auto, unfolding(crate::specs::inside::Reading::leading_wide_value))]
 pub(crate) fn wide_value<'t, 'a>(tokens: &'t [Token<'a>]) -> Option<(WideValue, &'t [Token<'a>])>
     ensures { seen_pair result ≡ leading_wide_value (shown_tokens tokens.now) }

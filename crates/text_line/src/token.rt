@@ -33,7 +33,7 @@ const SYMBOLS: [&str; 31] = [
     "&=", "%=", "^=", "==", ">=", "!=", "<=", "=", ">", "<", "&", "+", "-", "*", "(", ")", ":",
 ];
 
-/// The length of the longest symbol at the front, or 0.
+/// The length of the longest symbol with which the text begins; 0 if it begins with none (no symbol is empty).
 #[tactic(auto, unfolding(crate::specs::inside::Tokens::symbol_at))]
 fn symbol_len(text: &[u8]) -> usize
     ensures bound { result ≤ length text.now }
@@ -42,7 +42,7 @@ fn symbol_len(text: &[u8]) -> usize
     first_len(text, &SYMBOLS)
 }
 
-/// The length of the first of `symbols` with which `text` begins, or 0.
+/// The length of the first of `symbols` with which `text` begins; 0 if it begins with none of them.
 fn first_len(text: &[u8], symbols: &[&str]) -> usize
     ensures bound { result ≤ length text.now }
     ensures value { result ≡ option_map_or length
@@ -114,7 +114,7 @@ fn byte_at(text: &[u8], index: usize) -> u8
     if index < text.len() { text[index] } else { 0 }
 }
 
-/// The text after the blanks at its front.
+/// The text after the blanks at its front. The text is ASCII, as `tokens` has checked, so it can be split at any byte.
 fn after_blanks(text: &str) -> &str
     requires { IsAscii text.now }
     ensures value { result.now ≡ skip_blanks text.now }
@@ -125,7 +125,8 @@ fn after_blanks(text: &str) -> &str
     rest
 }
 
-/// The symbol at the front, and the text after it; `None` if there is none.
+/// The symbol at the front, the longest, and the text after it; `None` if there is none. The text is ASCII, as `tokens` has checked, so it
+/// can be split at any byte.
 fn symbol(text: &str) -> Option<(Token<'_>, &str)>
     requires { IsAscii text.now }
     ensures value { shown_front result ≡ option_map
@@ -141,7 +142,8 @@ fn symbol(text: &str) -> Option<(Token<'_>, &str)>
     Some((Token::Symbol(symbol), rest))
 }
 
-/// The name at the front, and the text after it; `None` if there is none.
+/// The name at the front, and the text after it; `None` if there is none. The text is ASCII, as `tokens` has checked, so it can be split at
+/// any byte.
 #[tactic(auto, unfolding(crate::specs::inside::Tokens::name_at))]
 fn name(text: &str) -> Option<(Token<'_>, &str)>
     requires { IsAscii text.now }
@@ -158,7 +160,7 @@ fn name(text: &str) -> Option<(Token<'_>, &str)>
 }
 
 /// The number at the front, decimal, or hexadecimal after `0x`, and the text after it; `None` if no digit is at the front. If no
-/// hexadecimal digit follows `0x`, the number is its 0.
+/// hexadecimal digit follows `0x`, the number is its 0. The text is ASCII, as `tokens` has checked, so it can be split at any byte.
 #[tactic(auto, unfolding(crate::specs::inside::Tokens::number_at))]
 fn number(text: &str) -> Option<(Token<'_>, &str)>
     requires { IsAscii text.now }
@@ -178,7 +180,8 @@ fn number(text: &str) -> Option<(Token<'_>, &str)>
     None
 }
 
-/// The number at the front, whose digits are of this class and radix, and the text after it. Its value is `None` from 2 ^ 64 on.
+/// The number at the front, whose digits are of this class and radix, and the text after it. Its value is `None` from 2 ^ 64 on. The caller
+/// has seen its first digit. The text is ASCII, as `tokens` has checked, so it can be split at any byte.
 fn value(text: &str, class: ByteClass, radix: u32) -> (Token<'_>, &str)
     requires ascii { IsAscii text.now }
     requires digits { IsDigits class radix }
@@ -194,7 +197,8 @@ fn value(text: &str, class: ByteClass, radix: u32) -> (Token<'_>, &str)
 }
 
 /// The longest token at the front of the text, and the text after it; `None` if no token begins there. Blanks are not skipped.
-/// Symbols are tried first: a text that begins with `s>=` also begins with the name `s`, which is shorter.
+/// Symbols are tried first: a text that begins with `s>=` also begins with the name `s`, which is shorter. The text is ASCII, as `tokens`
+/// has checked.
 #[tactic(auto, unfolding(crate::specs::inside::Tokens::token_at))]
 fn first_token(text: &str) -> Option<(Token<'_>, &str)>
     requires { IsAscii text.now }
@@ -211,7 +215,7 @@ fn first_token(text: &str) -> Option<(Token<'_>, &str)>
     number(text)
 }
 
-/// Whether the rest of the line is empty or a comment.
+/// Whether the rest of a line, without blanks at its front, is empty or a comment.
 fn is_over(text: &[u8]) -> bool
     ensures { result ≡ is_over text.now }
 {

@@ -30,11 +30,11 @@ check_readable k = Ok k
 -- ---- the distance by which a number moves a pointer: its range, read as signed; None unless all
 -- of it has one sign
 
--- the least and the greatest of numbers that are read as signed
+-- the least and the greatest number of a range, read as signed: by so many bytes it moves a pointer
 abbrev pub Distance : Type 0
 Distance = ℤ × ℤ
 
--- the least and the greatest number of a range, read as signed, if all have one sign
+-- the least and the greatest number of a range, read as signed; None unless all have one sign
 abbrev pub distance : Range → Option Distance
 distance r =
     if nat_lt r.hi (2 ^ 63) then Some (pos r.lo, pos r.hi) else
@@ -58,7 +58,8 @@ abbrev pub near : {A : Type 0} → Option A → Result A Reason
 near None = Err OffsetTooLarge
 near (Some x) = Ok x
 
--- the kind of the stack pointer at offset x, moved by the one number of a range
+-- the kind of the stack pointer at offset x, moved by the one number of a range; an error if it is
+-- too far then
 abbrev pub stack_moved : Direction → ℤ → Range → Result Kind Reason
 stack_moved way x r =
     and_then_ok (near (and_then (distance r) (λ d. moved_offset way x d.0))) (λ y. Ok (Stack y))
@@ -67,20 +68,22 @@ stack_moved way x r =
 abbrev pub spanned : ℕ → Option ℤ → Option ℤ → Option ValuePointer
 spanned map low high = and_then low (λ lo. and_then high (λ hi. Some (value_span map lo hi)))
 
--- a pointer into a value, moved by a number of a distance, if it can't be too far then; backwards
--- the greatest number leads to the least offset
+-- a pointer into a value, moved by a number of a distance; None if it may be too far then.
+-- Backwards the greatest number leads to the least offset
 abbrev pub value_by : Direction → ValuePointer → Distance → Option ValuePointer
 value_by Forwards p d =
     spanned p.map (moved_offset Forwards p.lo d.0) (moved_offset Forwards p.hi d.1)
 value_by Backwards p d =
     spanned p.map (moved_offset Backwards p.lo d.1) (moved_offset Backwards p.hi d.0)
 
--- the kind of a pointer into a value, moved by a number of a range
+-- the kind of a pointer into a value, moved by a number of a range; an error if it may be too far
+-- then, or if the range has numbers of both signs
 abbrev pub value_moved : Direction → ValuePointer → Range → Result Kind Reason
 value_moved way p r =
     and_then_ok (near (and_then (distance r) (value_by way p))) (λ q. Ok (Value q))
 
--- a stack pointer is moved by a constant, a pointer into a value by any number, no other pointer
+-- the kind of a pointer that is moved by a number of a range: a stack pointer by a constant, a
+-- pointer into a value by any number. An error for any other kind, or if it may be too far then
 abbrev pub pointer_moved : Direction → Kind → Range → Result Kind Reason
 pointer_moved way (Stack x) r = if is_constant r then stack_moved way x r else Err PointerArithmetic
 pointer_moved way (Value p) r = value_moved way p r
@@ -93,19 +96,22 @@ abbrev pub is_maybe : Kind → Bool
 is_maybe (MaybeValue m site) = true
 is_maybe k = false
 
--- the kind of an operator's result on two numbers, of 64 bits (true) or 32
+-- the kind of an operator's result on two numbers, of 64 bits (true) or 32; an error if one of them
+-- is no number
 abbrev pub of_scalars : Bool → Operator → Kind → Kind → Result Kind Reason
 of_scalars wide op (Scalar a) (Scalar b) = Ok (Scalar (range_of (width wide) op a b))
 of_scalars wide op a b = Err PointerArithmetic
 
--- the kind of a 64-bit sum: of two numbers, or of a pointer and a number in either order
+-- the kind of a 64-bit sum: of two numbers, or of a pointer and a number in either order; an error
+-- for other operands, or if the pointer may not be moved so
 abbrev pub sum_kind : Kind → Kind → Result Kind Reason
 sum_kind (Scalar a) (Scalar b) = of_scalars true (Binary alu.Add) (Scalar a) (Scalar b)
 sum_kind (Scalar a) b = pointer_moved Forwards b a
 sum_kind a (Scalar b) = pointer_moved Forwards a b
 sum_kind a b = Err PointerArithmetic
 
--- the kind of a 64-bit difference: of two numbers, or a pointer minus a number
+-- the kind of a 64-bit difference: of two numbers, or a pointer minus a number; an error for other
+-- operands, or if the pointer may not be moved so
 abbrev pub difference_kind : Kind → Kind → Result Kind Reason
 difference_kind (Scalar a) (Scalar b) = of_scalars true (Binary alu.Sub) (Scalar a) (Scalar b)
 difference_kind (Scalar a) b = Err PointerArithmetic
@@ -125,6 +131,6 @@ arithmetic_kind true alu.Sub a b = unless_maybe a b (difference_kind a b)
 arithmetic_kind wide op a b = of_scalars wide (Binary op) a b
 
 -- the kind of an operator's result on one number, of 64 bits (true) or 32; the operator has one
--- operand, which takes both places
+-- operand, which is passed as the first and as the second
 abbrev pub of_scalar : Bool → Operator → Kind → Result Kind Reason
 of_scalar wide op k = of_scalars wide op k k

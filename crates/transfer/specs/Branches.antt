@@ -41,7 +41,7 @@ with_source f (Reg n) r = with_kind f n (Scalar r)
 abbrev pub with_pair : Facts → ℕ → Operand → RangePair → Facts
 with_pair f dst src p = with_source (with_kind f dst (Scalar p.0)) src p.1
 
--- a register is compared with itself, which refines nothing
+-- a register is compared with itself: then the comparison refines nothing
 abbrev pub is_same : ℕ → Operand → Bool
 is_same dst (Imm z) = false
 is_same dst (Reg n) = n == dst
@@ -78,8 +78,8 @@ pointer_edges cond f k = null_edges (not (holds_of_pointers cond)) None (Some f)
 
 -- ---- numbers and pointers
 
--- the edges of a conditional jump on operands of these kinds, a comparison of 64 bits (true) or 32:
--- of two numbers, or a null test
+-- the edges of a conditional jump on operands of these kinds, which may be read (`effect_of`), a
+-- comparison of 64 bits (true) or 32: of two numbers, or a null test; an error for any other
 abbrev pub branch_edges : Bool → Condition → Facts → ℕ → Operand → Kind → Kind → Result Edges Reason
 branch_edges wide cond f dst src (Scalar a) (Scalar b) = Ok (number_edges wide cond f dst src a b)
 branch_edges wide cond f dst src (Scalar a) k = Err PointerComparison

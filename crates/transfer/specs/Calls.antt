@@ -46,8 +46,8 @@ input_kind shapes f n (kind.Value p) = room_of p (pos 0) n (shapes p.map)
 input_kind shapes f n (kind.MaybeValue m site) = Err MaybeNull
 input_kind shapes f n k = Err HelperArgument
 
--- the facts after a write of r.lo to r.hi bytes at an argument of this kind; a write into the value
--- of a map changes no fact
+-- the facts after a write of r.lo to r.hi bytes at an argument of this kind, or the first reason
+-- against it; a write into the value of a map changes no fact
 abbrev pub output_facts : Shapes → Facts → Range → Kind → Result Facts Reason
 output_facts shapes f r (kind.Stack x) = stack_filled f x r.lo r.hi
 output_facts shapes f r (kind.Value p) =
@@ -60,11 +60,12 @@ abbrev pub number_kind : Kind → Result Range Reason
 number_kind (kind.Scalar r) = Ok r
 number_kind k = Err HelperArgument
 
--- a length that is passed to a helper is below this, in bytes
+-- a length that is passed to a helper is below this, in bytes; the stack and values are much
+-- shorter
 abbrev pub lengths_end : ℕ
 lengths_end = 2 ^ 29
 
--- the range of an argument that has to be a length: above 0, and below `lengths_end`
+-- the range of an argument that has to be a length: all of it is above 0, and below `lengths_end`
 abbrev pub length_kind : Kind → Result Range Reason
 length_kind (kind.Scalar r) =
     if r.lo == 0 || nat_le lengths_end r.hi then Err LengthUnbounded else Ok r
@@ -75,13 +76,13 @@ abbrev pub context_kind : Kind → Result (Unit {0}) Reason
 context_kind kind.Ctx = Ok tt
 context_kind k = Err HelperArgument
 
--- what `go` gives for the kinds of registers 1 and 2, if both may be read
+-- what `go` gives for the kinds of registers 1 and 2; an error if one of them may not be read
 abbrev pub readable_two : Facts → (Kind → Kind → Result Facts Reason) → Result Facts Reason
 readable_two f go =
     and_then_ok (check_readable (kind_at f 1))
     (λ a. and_then_ok (check_readable (kind_at f 2)) (λ b. go a b))
 
--- what `go` gives for the kinds of registers 1 to 4, if all may be read
+-- what `go` gives for the kinds of registers 1 to 4; an error if one of them may not be read
 abbrev pub readable_four : Facts → (Kind → Kind → Kind → Kind → Result Facts Reason)
     → Result Facts Reason
 readable_four f go =
@@ -94,8 +95,10 @@ readable_four f go =
 abbrev pub any_number : Kind
 any_number = kind.Scalar (full 64)
 
--- the facts after a call at slot `at`, or the first condition that fails; the slot is the site of a
--- look-up
+-- the facts after a call at slot `at`, which is the site of a look-up, or the first condition that
+-- fails. The arguments a to d, in registers 1 to 4, are a map, a key, and for Update a value and
+-- flags; for LoadBytes the context, an offset in the packet, which may be any number, the target
+-- and the length
 abbrev pub call_facts : Shapes → ℕ → Helper → Facts → Result Facts Reason
 call_facts shapes at LookUp f =
     readable_two f (λ a b.

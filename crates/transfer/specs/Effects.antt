@@ -41,7 +41,8 @@ use Rattle.transfer.specs.Calls.{room_of, any_number, call_facts}
 
 -- ---- operands
 
--- the kind of the second operand: a constant, modulo 2 ^ 64 (true) or 2 ^ 32, or a register
+-- the kind of the second operand, of 64 bits (true) or 32: a constant modulo 2 ^ 64 or 2 ^ 32, or
+-- what the register has
 abbrev pub source_kind : Facts → Bool → Operand → Kind
 source_kind f wide (Imm z) = kind.Scalar (constant (unsigned (width wide) z))
 source_kind f wide (Reg r) = kind_at f r
@@ -69,8 +70,8 @@ abbrev pub context_read : ℤ → AccessSize → Bool → Result Kind Reason
 context_read y Word false = if is_word y then Ok (kind.Scalar (full 32)) else Err ContextAccess
 context_read y size signed = Err ContextAccess
 
--- the kind of a load, sign-extended (true) or not, `off` bytes from an address of this kind; or the
--- first reason against it
+-- the kind of a load, sign-extended (true) or not, `off` bytes from an address of this kind, which
+-- may be read (`effect_of`); or the first reason against it
 abbrev pub load_kind : Shapes → Facts → AccessSize → Bool → ℤ → Kind → Result Kind Reason
 load_kind shapes f size signed off (kind.Stack x) = stack_read f (x +ℤ off) size signed
 load_kind shapes f size signed off kind.Ctx = context_read off size signed
@@ -79,13 +80,13 @@ load_kind shapes f size signed off (kind.Value p) =
 load_kind shapes f size signed off (kind.MaybeValue m site) = Err MaybeNull
 load_kind shapes f size signed off k = Err NotPointer
 
--- the facts after a store of a value of kind v outside the stack: only numbers may be stored there,
--- and no fact changes
+-- the facts after a store of a value of kind v into the value of a map: a pointer or a map may not
+-- be stored there, and no fact changes. That v may be read is checked before (`access_edges`)
 abbrev pub stored_outside : Facts → Kind → Result Facts Reason
 stored_outside f v = if is_pointer v then Err PointerStored else Ok f
 
--- the facts after a store of a value of kind v, `off` bytes from an address of this kind; or the
--- first reason against it
+-- the facts after a store of a value of kind v, `off` bytes from an address of this kind, both of
+-- which may be read (`access_edges`, `effect_of`); or the first reason against it
 abbrev pub store_facts : Shapes → Facts → AccessSize → ℤ → Kind → Kind → Result Facts Reason
 store_facts shapes f size off (kind.Stack x) v = stack_write f (x +ℤ off) size v
 store_facts shapes f size off kind.Ctx v = Err ContextAccess
@@ -102,7 +103,7 @@ number_or reason (kind.Scalar r) = Ok tt
 number_or reason k = Err reason
 
 -- the facts after an atomic operation at offset y of the stack: it loads a number, and stores a
--- number that may be any
+-- number that may be any; an error also if a whole spill is there
 abbrev pub stack_changed : Facts → ℤ → AccessSize → Result Facts Reason
 stack_changed f y size =
     and_then_ok (stack_read f y size false)
@@ -113,7 +114,8 @@ abbrev pub is_known_multiple : ValuePointer → ℤ → AccessSize → Bool
 is_known_multiple p off size = int_eq p.lo p.hi && is_multiple (p.lo +ℤ off) (bytes_of size)
 
 -- the facts after an atomic operation `off` bytes from a pointer into a value of a map with this
--- shape: they are unchanged
+-- shape: they are unchanged. An error if the map has no shape (None), the bytes are not all in the
+-- value, or the offset is not known to be a multiple of the size
 abbrev pub value_changed : Facts → ValuePointer → ℤ → AccessSize → Option MapShape
     → Result Facts Reason
 value_changed f p off size o =
@@ -121,7 +123,8 @@ value_changed f p off size o =
     (λ _. if is_known_multiple p off size then Ok f else Err UnalignedAtomic)
 
 -- the facts after an atomic operation with an operand of kind v, `off` bytes from an address of
--- this kind; or the first reason against it
+-- this kind, both of which may be read (`access_edges`, `effect_of`); or the first reason against
+-- it
 abbrev pub atomic_facts : Shapes → Facts → AccessSize → ℤ → Kind → Kind → Result Facts Reason
 atomic_facts shapes f size off (kind.Stack x) v =
     and_then_ok (number_or PointerArithmetic v) (λ _. stack_changed f (x +ℤ off) size)
@@ -134,12 +137,13 @@ atomic_facts shapes f size off k v = Err NotPointer
 -- ---- maps and calls: it is a fault of the program's shape if a descriptor names no map, or one
 -- without this direct value, or if a helper is unknown
 
--- the kind of the map with descriptor m, if it names one
+-- the kind of the map with descriptor m, whose shape is given; an error if it names none (None)
 abbrev pub map_of : ℕ → Option MapShape → Result Kind Reason
 map_of m None = Err DescriptorNotMap
 map_of m (Some shape) = Ok (kind.MapRef m)
 
--- a pointer to a direct value of a map, at an offset in it
+-- a pointer to the direct value of the map with descriptor m, whose shape is given, at an offset in
+-- it; an error if there is no map (None), or it has no direct value there
 unfoldable pub value_of : ℕ → ℕ → Option MapShape → Result Kind Reason
 value_of m offset None = Err DescriptorNotMap
 value_of m offset (Some shape) =
@@ -147,7 +151,7 @@ value_of m offset (Some shape) =
     then Ok (kind.Value (value_span m (pos offset) (pos offset)))
     else Err NoDirectValue
 
--- the helper, if it is known
+-- the helper; an error if it is unknown (None)
 abbrev pub known : Option Helper → Result Helper Reason
 known None = Err UnknownHelper
 known (Some h) = Ok h
@@ -165,7 +169,8 @@ exit_edges f = and_then_ok (check_readable (kind_at f 0)) exits_with
 
 -- ---- operators
 
--- the edge after an operator of two operands, of 64 bits (true) or 32, whose result goes to dst
+-- the edge after an operator of two operands, of 64 bits (true) or 32, whose result goes to dst, or
+-- the first reason against it
 abbrev pub operator_edges : Bool → AluOp → ℕ → Operand → Facts → Result Edges Reason
 operator_edges wide op dst src f =
     and_then_ok (first_kind op (kind_at f dst))
@@ -173,14 +178,16 @@ operator_edges wide op dst src f =
     and_then_ok (check_readable (source_kind f wide src))
     (λ b. assigns f dst (arithmetic_kind wide op a b)))
 
--- the edge after an operator of one operand, of 64 bits (true) or 32, whose result goes to dst
+-- the edge after an operator of one operand, src, of 64 bits (true) or 32, whose result goes to
+-- dst, or the first reason against it
 abbrev pub unary_edges : Bool → Operator → ℕ → ℕ → Facts → Result Edges Reason
 unary_edges wide op dst src f =
     and_then_ok (check_readable (kind_at f src)) (λ k. assigns f dst (of_scalar wide op k))
 
 -- ---- accesses and wide loads
 
--- the edge after an access, `off` bytes from an address of kind k
+-- the edge after an access, `off` bytes from an address of kind k, which may be read (`effect_of`);
+-- or the first reason against it
 abbrev pub access_edges : Shapes → Facts → Access → ℤ → Kind → Result Edges Reason
 access_edges shapes f (loads size signed dst) off k =
     assigns f dst (load_kind shapes f size signed off k)
@@ -191,7 +198,8 @@ access_edges shapes f (changes size op src) off k =
     and_then_ok (check_readable (kind_at f src))
     (λ v. and_then_ok (atomic_facts shapes f (access_size size) off k v) falls)
 
--- the kind of what a wide load, an instruction of two slots, puts into its register
+-- the kind of what a wide load, an instruction of two slots, puts into its register, or why it may
+-- not be run
 abbrev pub wide_kind : Shapes → WideValue → Result Kind Reason
 wide_kind shapes (immediate n) = Ok (kind.Scalar (constant n))
 wide_kind shapes (map_ref m) = map_of m (shapes m)

@@ -27,18 +27,21 @@ use Rattle.insn_set.specs.Flow.{falls_to, jumps_to}
 -- ---- facts well formed at slot n: a range ends below 2 ^ 64, a mask has eight bits, and a look-up
 -- was at a slot below
 
--- a kind in facts that are well formed at slot n
+-- the kind may be in facts that are well formed at slot n: a range ends below 2 ^ 64, and the site
+-- of a look-up is a slot below n
 abbrev pub IsKindAt : ℕ → Kind → Type 0
 IsKindAt n (Scalar r) = r.hi < 2 ^ 64
 IsKindAt n (MaybeValue m site) = site < n
 IsKindAt n k = Unit {0}
 
--- a stack slot in facts that are well formed at slot n
+-- the stack slot may be in facts that are well formed at slot n: a mask has eight bits, and a spill
+-- has such a kind
 abbrev pub IsSlotAt : ℕ → Slot → Type 0
 IsSlotAt n (Bytes mask) = mask < 256
 IsSlotAt n (Spill k) = IsKindAt n k
 
--- the facts are well formed at slot n
+-- the facts are well formed at slot n: ranges end below 2 ^ 64, masks have eight bits, and look-ups
+-- were at slots below n
 pub record AreWellFormedAt (n : ℕ) (f : Facts) : Type 0 where
   pub registers : (r : ℕ) → IsKindAt n (kind_at f r)
   pub slots : (i : ℕ) → IsSlotAt n (slot_at f i)

@@ -30,7 +30,8 @@ pub(crate) fn check_readable(kind: Kind) -> Result<Kind, Reason>
     }
 }
 
-/// The least and the greatest number of a range, read as signed; `None` unless all its numbers have the same sign.
+/// The least and the greatest number of a range, read as signed, by which it moves a pointer; `None` unless all its numbers have one sign:
+/// numbers from 2^63 on are negative.
 fn distance(range: Range) -> Option<(i64, i64)>
     ensures value { result ≡ distance range }
     ensures ordered { IfSome result (λ d. d.0 ≤ℤ d.1) }
@@ -160,7 +161,7 @@ fn of_scalars(wide: bool, op: Operator, a: Kind, b: Kind) -> Result<Kind, Reason
 }
 
 /// The kind of an operator's result on one number, of 64 bits (`wide`) or 32. `PointerArithmetic` if it is no number. The operator has one
-/// operand, which takes both places.
+/// operand, which is passed as the first and as the second.
 pub(crate) fn of_scalar(wide: bool, op: Operator, kind: Kind) -> Result<Kind, Reason>
     ensures { result ≡ of_scalar wide op kind }
 {
@@ -200,9 +201,9 @@ fn is_maybe(kind: Kind) -> bool
     matches!(kind, Kind::MaybeValue { .. })
 }
 
-/// The kind of an operator's result on two operands, of 64 bits (`wide`) or 32. A 64-bit move copies any value, 64-bit sums and differences
-/// move pointers, and everything else is for numbers. `MaybeNull` if a look-up that may be null is moved, `OffsetTooLarge` if a pointer may
-/// be too far then, `PointerArithmetic` for all else that is not allowed.
+/// The kind of an operator's result on two operands, of 64 bits (`wide`) or 32, which the caller has found readable. A 64-bit move copies
+/// any value, 64-bit sums and differences move pointers, and everything else is for numbers. `MaybeNull` if a look-up that may be null is
+/// moved, `OffsetTooLarge` if a pointer may be too far then, `PointerArithmetic` for all else that is not allowed.
 pub(crate) fn arithmetic(wide: bool, op: AluOp, a: Kind, b: Kind) -> Result<Kind, Reason>
     ensures { result ≡ arithmetic_kind wide op a b }
 {

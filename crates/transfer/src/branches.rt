@@ -104,8 +104,9 @@ fn compare_numbers(
     compared(dst, &src, where_not, where_taken)
 }
 
-/// The edges of a test whether a pointer or a map is null; `condition` is equality or difference. A look-up may be null, and is settled on
-/// both edges. Anything else is not null: then a test for equality never jumps, and one for difference always does.
+/// The edges of a test whether a pointer or a map is null; `condition` is equality or difference, as the caller has tested. A look-up may
+/// be null, and is settled on both edges. Anything else is not null: then a test for equality never jumps, and one for difference always
+/// does.
 fn test_pointer(condition: Condition, pointer: Kind) -> Flow
     ensures edges { (f : AnyFacts) → edges_of result f ≡ pointer_edges condition f pointer }
     ensures stack { (f : AnyFacts) → KeepsStack result f f }
@@ -131,8 +132,8 @@ fn is_null_test(wide: bool, condition: Condition, src: Operand) -> bool
     wide && tests_equality && src == Operand::Imm(0)
 }
 
-/// The edges of a conditional jump on operands of the kinds `a` and `b`, which compares 64 bits (`wide`) or 32. `PointerComparison` unless
-/// both are numbers, or it is a null test of the first.
+/// The edges of a conditional jump on the operands `dst` and `src`, of the kinds `a` and `b`, which compares 64 bits (`wide`) or 32.
+/// `PointerComparison` unless both are numbers, or it is a null test of the first. The caller has rejected operands that may not be read.
 #[inline(always)]
 pub(crate) fn branch(
     wide: bool,

@@ -12,7 +12,7 @@ use interval::Range;
 use reg_kinds::{Facts, Kind, Reason, ValuePointer, facts_after_call, fill_stack, read_many};
 use tagged_model::{Helper, MapShape, Named, shape_of};
 
-/// A length that is passed to a helper is below this, in bytes: 2^29.
+/// A length that is passed to a helper is below this, in bytes: 2^29. So it fits in 32 bits; the stack and values are much shorter.
 pub const LENGTHS_END: u64 = 0x2000_0000;
 
 /// The shape of a map, and its descriptor.
@@ -74,8 +74,9 @@ pub(crate) fn room_of(
     room_in(low, last, count, shape.value_size)
 }
 
-/// Checks that an argument points to `count` bytes that may be read. The error is that of the read; `MaybeNull` for a look-up that may be
-/// null, `HelperArgument` if it is no pointer to the stack or to a value.
+/// Checks that an argument of this kind points to `count` bytes that a helper may read. The error is `OutsideStack`, `PartOfSpill` or
+/// `UnwrittenStack` in the stack, `OutsideValue` in a value, `MaybeNull` for a look-up that may be null, and `HelperArgument` for anything
+/// else.
 fn input(named: &[Named], facts: &Facts, count: u32, kind: Kind) -> Result<(), Reason>
     ensures { result ≡ input_kind (shapes_named named.now) facts.now count kind }
 {
@@ -87,8 +88,9 @@ fn input(named: &[Named], facts: &Facts, count: u32, kind: Kind) -> Result<(), R
     }
 }
 
-/// Updates the facts for a write, at an argument's address, of `length.lo` to `length.hi` bytes; in the value of a map no fact changes. The
-/// errors are `OutsideStack`, `OutsideValue`, `MaybeNull` for a look-up that may be null, else `HelperArgument`.
+/// Updates the facts for a write, at an address of this kind, of `length.lo` to `length.hi` bytes, as `check_length` has bounded it; in the
+/// value of a map no fact changes. The errors are `OutsideStack`, `OutsideValue`, `MaybeNull` for a look-up that may be null, else
+/// `HelperArgument`.
 fn output(facts: &mut Facts, named: &[Named], length: Range, kind: Kind) -> Result<(), Reason>
     requires { length.hi < lengths_end }
     ensures ok { OnOk result (output_facts (shapes_named named.now) facts.old length kind
@@ -115,7 +117,8 @@ fn check_number(kind: Kind) -> Result<Range, Reason>
     }
 }
 
-/// The range of a length argument. `LengthUnbounded` unless it is above 0 and below `LENGTHS_END`; `HelperArgument` if it is no number.
+/// The range of a length argument. `LengthUnbounded` unless all of it is above 0 and below `LENGTHS_END`; `HelperArgument` if it is no
+/// number.
 fn check_length(kind: Kind) -> Result<Range, Reason>
     ensures value { result ≡ length_kind kind }
     ensures bound { IfOk result (λ r. r.hi < lengths_end) }
@@ -147,8 +150,10 @@ fn any_number() -> Kind
     Kind::Scalar(Range::full(true))
 }
 
-/// Updates the facts for a call at `slot`, which becomes the site of a look-up; the result of any other helper is any number. Or returns
-/// the first of the conditions that fails, and the facts are unchanged.
+/// Updates the facts for a call of `helper` at `slot`, which becomes the site of a look-up; the result of any other helper is any number.
+/// Or returns the first of the conditions that fails, and the facts are unchanged. The arguments, in registers 1 to 4, are a map, a key,
+/// and for `Update` a value and flags; for `LoadBytes` the context, an offset in the packet, which may be any number, the target and the
+/// length.
 pub(crate) fn call(
     facts: &mut Facts,
     named: &[Named],

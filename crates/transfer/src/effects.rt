@@ -95,8 +95,8 @@ fn stack_offset(from: i32, offset: i16) -> Result<i32, Reason>
         .ok_or(Reason::OutsideStack)
 }
 
-/// The kind of a value that is loaded `offset` bytes from an address of the kind `base`, sign-extended (`signed`) or zero-extended; or the
-/// first reason against the load.
+/// The kind of a value that is loaded `offset` bytes from an address of the kind `base`, which the caller has found readable. A number is
+/// sign-extended (`signed`) or zero-extended. The error is the first reason against the load. `named` lists the objects of descriptors.
 #[inline(always)]
 fn load(
     facts: &Facts,
@@ -124,7 +124,8 @@ fn load(
     }
 }
 
-/// Checks that a value may be stored outside the stack. `PointerStored` if it may not.
+/// Checks that a value may be stored in a map's value. `PointerStored` for a pointer or a map, which only the stack keeps whole. Unreadable
+/// values are accepted here, but the caller of `store` has rejected them.
 fn store_outside(value: Kind) -> Result<(), Reason>
     ensures { result ≡ (if is_pointer value then Err PointerStored else Ok tt) }
 {
@@ -136,8 +137,8 @@ fn store_outside(value: Kind) -> Result<(), Reason>
 }
 
 /// Updates the facts for a store of a value of the kind `value`, `offset` bytes from an address of the kind `base`, or returns the first
-/// reason against it. Returns the one stack slot that it may change; `None` for a store into the value of a map, which changes no fact. Its
-/// caller has checked that both kinds may be read.
+/// reason against it. Returns the one stack slot that it may change; `None` for a store into the value of a map, which changes no fact. The
+/// caller has rejected a value and an address that may not be read. `named` lists the objects of descriptors.
 #[inline(always)]
 fn store(
     facts: &mut Facts,
@@ -156,8 +157,8 @@ fn store(
 {
     match base {
         Kind::Stack(from) => {
-            // For the contract with any kind, also one that no caller passes: a write to the stack has this reason before that of an offset
-            // which does not fit.
+            // No caller passes this kind, but the contract is about it too: for it, a write to the stack fails for this reason even if the
+            // offset does not fit.
             if let Kind::Unreadable = value {
                 return Err(Reason::UnreadableRegister);
             }
@@ -186,7 +187,7 @@ fn number_or(reason: Reason, value: Kind) -> Result<(), Reason>
 }
 
 /// Updates the facts for an atomic operation at `offset` from the stack's upper end. It loads a number, and stores a number that may be
-/// any. Returns the stack slot. `PartOfSpill` if a pointer is there, else the errors of a load and a store.
+/// any. Returns the stack slot. The errors are those of a load from the stack, and `PartOfSpill` also if a whole spill is there.
 fn change_stack(facts: &mut Facts, offset: i32, size: AccessSize) -> Result<usize, Reason>
     ensures ok { OnOk result (stack_changed facts.old offset size ≡ Ok facts.new) }
     ensures stack { IfOk result (λ slot. ChangesAtMost (Some slot) facts.old facts.new) }
@@ -213,7 +214,8 @@ fn is_known_multiple(pointer: ValuePointer, offset: i16, size: AccessSize) -> bo
 }
 
 /// Updates the facts for an atomic operation with an operand of the kind `value`, `offset` bytes from an address of the kind `base`, or
-/// returns the first reason against it. Returns the stack slot that it may change; `None` in the value of a map, since no fact changes.
+/// returns the first reason against it. Returns the stack slot that it may change; `None` in the value of a map, since no fact changes. The
+/// caller has rejected an operand and an address that may not be read. `named` lists the objects of descriptors.
 fn change(
     facts: &mut Facts,
     named: &[Named],
@@ -285,7 +287,7 @@ fn value_of(named: &[Named], descriptor: u32, offset: u32) -> Result<Kind, Reaso
     Ok(Kind::Value(ValuePointer::new(descriptor, at, at)))
 }
 
-/// Sets the kind of the destination register, and returns the falling edge.
+/// Sets the kind of the destination register, and returns the falling edge, the only one after a load.
 #[inline(always)]
 fn assign(facts: &mut Facts, dst: Reg, kind: Kind) -> Flow
     ensures flow { result ≡ Falls }
@@ -326,7 +328,9 @@ fn numbers(facts: &Facts, wide: bool, dst: Reg, src: &Operand) -> Option<(Range,
     }
 }
 
-/// Updates the facts for an operator of two operands, of 64 bits (`wide`) or 32, one of which may be a pointer, or for a move.
+/// Updates the facts for an operator of two operands, of 64 bits (`wide`) or 32, one of which may be a pointer, or for a move. The error is
+/// the first reason against it, and then no fact changes. Out of line: `operate`, which is inlined, does moves of 64 bits,
+/// and other operators on two numbers, itself.
 #[inline(never)]
 fn operate_on_any(
     facts: &mut Facts,
@@ -348,8 +352,8 @@ fn operate_on_any(
     Ok(())
 }
 
-/// Updates the facts for an operator of two operands, of 64 bits (`wide`) or 32. 64-bit moves, and operators other than moves on two
-/// numbers, are done here, the rest by `operate_on_any`.
+/// Updates the facts for an operator of two operands, of 64 bits (`wide`) or 32. The error is the first reason against it, and then no fact
+/// changes. 64-bit moves, and operators other than moves on two numbers, are done here, the rest by `operate_on_any`.
 #[inline(always)]
 fn operate(facts: &mut Facts, wide: bool, op: AluOp, dst: Reg, src: Operand) -> Result<(), Reason>
     ensures ok { OnOk result (operator_edges wide op dst src facts.old ≡ falls facts.new) }
@@ -373,8 +377,8 @@ fn operate(facts: &mut Facts, wide: bool, op: AluOp, dst: Reg, src: Operand) -> 
     }
 }
 
-/// Updates the facts for an operator of one operand, of 64 bits (`wide`) or 32. `UnreadableRegister` if `src` may not be read,
-/// `PointerArithmetic` if it is no number.
+/// Updates the facts for an operator of one operand, `src`, of 64 bits (`wide`) or 32, whose result goes to `dst`. `UnreadableRegister` if
+/// `src` may not be read, `PointerArithmetic` if it is no number.
 #[inline(always)]
 fn operate_on_one(
     facts: &mut Facts,

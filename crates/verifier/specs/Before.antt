@@ -39,7 +39,8 @@ facts_sent shapes code n i known =
     and_then known
     (λ f. and_then (begins_at code n) (λ insn. edges_into insn n i (effect shapes n insn f)))
 
--- the join of the facts that the slots below n pass on to slot i, and of those at entry for slot 0
+-- the join of the facts that the slots below n pass on to slot i, and of those at entry if i is 0;
+-- None if there are none
 unfoldable pub facts_from_below : Shapes → List Insn → ℕ → ℕ → Option Facts
 facts_from_below shapes code i zero = if i == 0 then Some entry else None
 facts_from_below shapes code i (suc n) =

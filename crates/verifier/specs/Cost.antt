@@ -18,7 +18,8 @@ abbrev pub is_exit : Insn → Bool
 is_exit i = not (falls i || jumps i)
 
 -- these instructions, in order, are a path from a slot to an exit: the first begins at the slot; it
--- is an exit and the only one, or one of its edges leads to a slot from which the others are a path
+-- is an exit and the only one, or one of its edges leads to a slot from which the others are a
+-- path. No instructions are no path
 abbrev pub IsPath : List Insn → ℕ → List Insn → Type 0
 IsPath code at [] = ⊥
 IsPath code at (i ∷ is) =

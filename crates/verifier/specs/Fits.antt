@@ -8,8 +8,8 @@ use Rattle.verifier.specs.Maps.{maps_of}
 use Rattle.verifier.specs.Verdict.{IsAccepted}
 use Rattle.verifier.specs.Verified.{Accepted, shapes_in}
 
--- each descriptor of the program's maps names, among these objects, a map of the shape with which
--- the program was accepted
+-- each descriptor of the accepted program's maps names, in the list `named`, a map of the shape
+-- with which the program was accepted; other descriptors may name anything
 abbrev pub Fits : Accepted → List Named → Type 0
 Fits a named = All (λ fd. shapes_named named fd ≡ shapes_in a fd) (maps_of a.code)
 

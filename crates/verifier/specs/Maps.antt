@@ -16,7 +16,8 @@ unfoldable pub distinct : List ℕ → List ℕ
 distinct [] = []
 distinct (fd ∷ fds) = fd ∷ without fd (distinct fds)
 
--- the descriptors of all loads of maps, each once, in the order of their first loads
+-- the descriptors of all loads of maps and of values of maps, each once, in the order of their
+-- first loads
 abbrev pub maps_of : List Insn → List ℕ
 maps_of code = distinct (filter_map descriptor code)
 
@@ -28,6 +29,7 @@ is_among fds fd = list_any (λ other. other == fd) fds
 abbrev pub entries_of : List ℕ → List Named → List Named
 entries_of fds named = filter (λ n. is_among fds n.fd) named
 
--- the shapes of the maps that a program loads
+-- the shapes of the maps that a program loads, or of which it loads values, by descriptor; None for
+-- any other descriptor, and for one that names no map
 abbrev pub shapes_of : List Insn → List Named → Shapes
 shapes_of code named = shapes_named (entries_of (maps_of code) named)

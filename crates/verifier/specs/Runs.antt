@@ -32,15 +32,17 @@ unfoldable pub executed : List Insn → ℕ → RunState → List Insn
 executed code zero s = []
 executed code (suc n) s = executed_at (begins_at code s.at) s (executed code n)
 
--- the instructions that the run of a program executes, with these maps, on a context and a packet;
--- at most as many as the program has slots
+-- the instructions that the run of a program executes, with these maps, on the words of a context
+-- and a packet, in at most as many steps as the program has slots: a run of an accepted program
+-- ends within these, since its jumps lead forward
 abbrev pub executed_of : List Insn → MapsByDescriptor → List ℕ → List ℕ → List Insn
 executed_of code maps words packet =
     executed code (slot_count code) (start_of_run maps words packet)
 
 -- ---- what it costs
 
--- each run executes a path from slot 0, with one instruction in each step
+-- each run, on maps of these shapes, executes a path from slot 0 to an exit, with one instruction
+-- in each step
 abbrev pub RunsArePaths : Shapes → List Insn → Type 0
 RunsArePaths shapes code =
     (maps : MapsByDescriptor) (words packet : List ℕ)
@@ -48,7 +50,8 @@ RunsArePaths shapes code =
     → IsPath code 0 (executed_of code maps words packet)
     × (length (executed_of code maps words packet) ≡ steps_of code maps words packet)
 
--- no run takes more steps than the cost has instructions, or executes more calls than it has calls
+-- no run on maps of these shapes takes more steps than the cost has instructions, or executes more
+-- calls than the cost has calls
 abbrev pub RunsCostAtMost : Cost → Shapes → List Insn → Type 0
 RunsCostAtMost cost shapes code =
     (maps : MapsByDescriptor) (words packet : List ℕ)

@@ -51,7 +51,7 @@ reached_from code i zero = i == 0
 reached_from code i (suc n) =
     reached_from code i n || (reached_from code n n && leads_into (begins_at code n) n i)
 
--- slot i can be reached; edges lead to later slots, so those from the slots below are all
+-- slot i can be reached; edges lead to later slots, so all that lead to it are from slots below i
 abbrev pub is_reachable : List Insn → ℕ → Bool
 is_reachable code i = reached_from code i i
 

@@ -19,7 +19,8 @@ use Rattle.verifier.specs.Verdict.{HasNoFault}
 no_reason : (reason : Reason) → Some reason ≡ None → ⊥
 no_reason reason e = cc
 
--- if no line gives a reason, the condition of the first does not hold, and the others give none
+-- a line is a condition and the reason that it gives: if no line gives one, the condition of the
+-- first line does not hold, and the others give none
 passed : (line : Bool × Reason) (lines : List (Bool × Reason))
     → first_reason (line ∷ lines) ≡ None
     → (line.0 ≡ false) × (first_reason lines ≡ None)

@@ -66,14 +66,16 @@ StepsGoOn =
 
 -- ---- runs
 
--- a map of this shape: an array has all its indices, and each value has the size of the shape
+-- a map of this shape: an array has all its indices, a hash map may have any keys, and each value
+-- has the size of the shape
 pub record IsTableOf (shape : MapShape) (t : Table (List ℕ)) : Type 0 where
   pub shaped : t.shape ≡ shape
   pub indices : shape.kind ≡ Array
       → keys_of t.entries ≡ keys_of (indexed (λ i. i) 0 shape.max_entries)
   pub sized : All (λ value. length value ≡ shape.value_size) (values_of t.entries)
 
--- the inputs of a run: a map of each shape, the words of a context, and a packet of bytes
+-- the inputs of a run: for each descriptor with a shape a map of that shape; in all maps values of
+-- bytes; the eleven words of a context, each below 2 ^ 32; and a packet of bytes
 pub record AreRunInputs (shapes : Shapes) (maps : MapsByDescriptor)
     (words packet : List ℕ) : Type 0 where
   pub has : (m : ℕ) (shape : MapShape)
@@ -84,7 +86,7 @@ pub record AreRunInputs (shapes : Shapes) (maps : MapsByDescriptor)
   pub count : length words ≡ context_words
   pub bytes : AreBytes packet
 
--- no run of an accepted program faults
+-- no run of an accepted program faults, on maps of the shapes with which it is accepted
 abbrev pub NeverFaults : Type 0
 NeverFaults =
     (code : List Insn) (named : List Named) (maps : MapsByDescriptor) (words packet : List ℕ)

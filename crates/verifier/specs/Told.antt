@@ -35,12 +35,14 @@ abbrev pub IsToldBelow : ℕ → Shapes → List Insn → Option (List (ℕ × F
     → Option (List (ℕ × Facts)) → Type 0
 IsToldBelow n shapes code old new = new ≡ with_more old (reached shapes code n)
 
--- for an accepted program: the watcher has received the facts before all slots
+-- for an accepted program: the watcher has received the facts before all slots that a run may
+-- reach, in addition to `old`
 abbrev pub IsToldWhole : List Insn → List Named → Option (List (ℕ × Facts))
     → Option (List (ℕ × Facts)) → Type 0
 IsToldWhole code named old new = IsToldBelow (slot_count code) (shapes_of code named) code old new
 
--- out of memory: the watcher has received the facts before the slots below some slot
+-- out of memory: the watcher has received the facts before the slots below some slot, in addition
+-- to `old`
 abbrev pub IsToldPart : List Insn → List Named → Option (List (ℕ × Facts))
     → Option (List (ℕ × Facts)) → VerifyFault → Type 0
 IsToldPart code named old new fault =
@@ -52,7 +54,8 @@ abbrev pub IsToldOfShape : List Insn → List Named → Option (List (ℕ × Fac
 IsToldOfShape code named old new fault =
     IsFirstFault (structure_fault code named) fault.slot fault.reason × (new ≡ old)
 
--- a fault of safety: the watcher has received the facts before the slots up to the fault's
+-- a fault of safety: the watcher has received the facts before the slots up to the fault's, in
+-- addition to `old`
 abbrev pub IsToldOfSafety : List Insn → List Named → Option (List (ℕ × Facts))
     → Option (List (ℕ × Facts)) → VerifyFault → Type 0
 IsToldOfSafety code named old new fault =

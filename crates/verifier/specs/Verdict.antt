@@ -16,7 +16,8 @@ use Rattle.verifier.specs.Shape.{structure_fault}
 use Rattle.verifier.specs.Before.{facts_before}
 use Rattle.verifier.specs.Maps.{shapes_of}
 
--- the reason why an instruction may not be run, if there is one
+-- the reason why an instruction may not be run, from the result of the transfer function; None if
+-- it may be run
 abbrev pub reason_of : Result Edges Reason → Option Reason
 reason_of (Ok edges) = None
 reason_of (Err reason) = Some reason

@@ -32,8 +32,8 @@ pub record IsVerified (a : Accepted) : Type 0 where
   pub accepted : IsAccepted a.code named
   pub shaped : a.entries ≡ entries_of (maps_of a.code) named
 
--- each edge out of an instruction leads to another instruction at a later slot: to the one after
--- it, unless it is an exit or always jumps, and to the target of its jump
+-- each edge out of an instruction leads to another instruction at a later slot: to the next one
+-- (`behind`), unless it is an exit or always jumps, and to the target of its jump
 pub record GoesAhead (code : List Insn) : Type 0 where
   pub behind : (at : ℕ) (i : Insn)
       → begins_at code at ≡ Some i

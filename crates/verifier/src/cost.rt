@@ -19,8 +19,8 @@ pub struct Cost {
     pub calls: u32,
 }
 
-/// The most instructions, and the most calls, on the paths from slot 0 to a slot, without the instruction there. Both are 0 if no
-/// edge leads there.
+/// The most instructions, and the most calls, on the paths from slot 0 to a slot, without the instruction there. Both are 0 at slot 0,
+/// and at a slot to which no edge leads.
 #[derive(Clone, Copy, Debug, PartialEq, Eq)]
 pub(crate) struct Counts {
     pub(crate) instructions: u16,
@@ -59,7 +59,8 @@ impl Counts {
         }
     }
 
-    /// The counts with one more instruction, which names `reference`: one more call, too, if that is a helper.
+    /// The counts with one more instruction, which names `reference`: one more call, too, if that is a helper. Both counts are of a path,
+    /// which has at most `MAX_SLOTS` instructions, so 16 bits suffice.
     #[inline(always)]
     pub(crate) fn with(self, reference: Reference) -> Counts
         requires instructions { self.instructions ≤ MAX_SLOTS }
@@ -74,8 +75,8 @@ impl Counts {
     }
 }
 
-/// Joins the counts on a jump into those on the other jumps to its target: the greater ones count. Nothing is done without a target, but a
-/// jump without a fault has one. `jumping` has the counts by slot.
+/// Joins the counts on a jump into those on the other jumps to its target: the greater ones count. `jumping` has the counts by slot.
+/// Nothing is done without a target; but a jump without a fault has one, which is a slot of the program.
 #[inline(always)]
 fn send(jumping: &mut [Counts], target: Option<usize>, counts: Counts)
     requires { IfSome target (λ to. to < length jumping.old) }
@@ -94,9 +95,9 @@ fn send(jumping: &mut [Counts], target: Option<usize>, counts: Counts)
 /// The counts of the paths that a pass over the slots has found, but for those on jumps to later slots.
 #[derive(Drop)]
 pub(crate) struct Paths {
-    /// On the paths to the slot of the pass.
+    /// The most on the paths to the slot of the pass, without its instruction.
     here: Counts,
-    /// On the paths to an exit, whose instruction is counted.
+    /// The most on the paths to an exit, with the exit itself.
     ended: Counts,
 }
 
@@ -126,7 +127,7 @@ impl Paths {
         }
     }
 
-    /// Whether a path leads to `slot`, which has to be that of the pass. The path to slot 0 has no instruction.
+    /// Whether a path leads to `slot`, which has to be that of the pass. The path to slot 0 has no instruction before it, any other has.
     #[inline(always)]
     pub(crate) fn lead_to(&self, slot: usize) -> bool
         ensures { result ≡ (nat_lt 0 self.now.here.instructions || slot == 0) }
@@ -142,7 +143,8 @@ impl Paths {
         self.here.instructions > 0
     }
 
-    /// Adds a simple instruction to the paths: one that is no call, and whose only successor is the next one.
+    /// Adds a simple instruction to the paths: one that is no call, and whose only successor is the next one. The paths have at most
+    /// `MAX_SLOTS` instructions, so the count does not overflow.
     #[inline(always)]
     pub(crate) fn add_simple(&mut self)
         requires { self.old.here.instructions ≤ MAX_SLOTS }
@@ -153,8 +155,9 @@ impl Paths {
         self.here.instructions += 1;
     }
 
-    /// Adds the instruction at `slot` to the paths, which take its edges: on a jump their counts go to its target in `jumping`, and at an
-    /// exit the paths end. `row` has the instruction's properties.
+    /// Adds the instruction at `slot` to the paths that lead there. On its jump the new counts are joined into those of the target in
+    /// `jumping`, on its falling edge they are those of the next slot, and at an exit the paths end. `row` has the instruction's
+    /// properties; `insn` is for the contract. The target is a slot of the program, as the instruction has no fault.
     #[inline(always)]
     pub(crate) fn add(&mut self, jumping: &mut [Counts], insn: &Insn, row: &Profile, slot: usize)
         requires room { slot ≤ MAX_SLOTS }

@@ -5,15 +5,15 @@ ghost use Rattle.verifier.specs.inside.Numbers.{IsJoinedBy};
 use crate::numbered_facts::NumberedFacts;
 use std::marker::Model;
 
-/// The facts on an edge, if there are any. Facts are large, so they are stored in one place, and a
-/// flag says whether they are valid.
+/// The facts on an edge, if there are any. Facts are large, so they are not moved in and out of an
+/// `Option`: a flag says whether they are valid.
 ///
 /// Contracts see `Some` facts if they are valid, else `None`.
 #[derive(Drop)]
 pub(crate) struct EdgeFacts {
     /// Whether `known` is valid.
     pub(crate) is_known: bool,
-    /// The facts; any others if they are not valid.
+    /// The facts; if `is_known` is false, any others, which mean nothing.
     pub(crate) known: NumberedFacts,
 }
 

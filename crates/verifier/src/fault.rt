@@ -18,6 +18,7 @@ impl From<AllocError> for VerifyFault {
 
     ghost from_gives = { λ _ e. e ≡ memory_fault };
 
+    /// Out of memory, which is reported at slot 0, since it is the fault of no instruction.
     fn from(_error: AllocError) -> VerifyFault {
         VerifyFault {
             slot: 0,

@@ -39,14 +39,15 @@ fn is_same(one: Option<MapShape>, other: Option<MapShape>) -> bool
 }
 
 impl Verified {
-    /// Whether `shape` is that of the map that a descriptor named when the program was accepted: `None` if the program loads no map by it.
+    /// Whether `shape` is that of the map that the descriptor `fd` named when the program was accepted. With `None`: whether the program
+    /// loads no map, and no value of a map, by this descriptor.
     pub fn has_shape(&self, fd: u32, shape: Option<MapShape>) -> bool
         ensures { IsTrue result ↔ shape ≡ shapes_in self.now fd }
     {
         is_same(shape, shape_of(&self.found.entries, fd))
     }
 
-    /// Whether each descriptor of the program's maps names, among these objects, a map of the shape with which the program was accepted.
+    /// Whether each descriptor of the program's maps names, in the list `named`, a map of the shape with which the program was accepted.
     /// The search ends at the first that does not.
     fn fits(&self, named: &[Named]) -> bool
         ensures { IsTrue result ↔ Fits self.now named.now }
@@ -59,13 +60,13 @@ impl Verified {
         true
     }
 
-    /// Replaces the objects with which the program was accepted by others, in which its maps have the same shapes. It is accepted with
-    /// these too, and is then what `verify_slots` gives for its slots and these objects.
+    /// Replaces the objects with which the program was accepted by those of `named`, the open descriptors, in which its maps have the same
+    /// shapes. The program is accepted with these too, and is then what `verify_slots` gives for its slots and `named`.
     ///
     /// # Errors
     ///
-    /// `OtherShapes` if a descriptor of its maps names no map of the same shape; else `Memory` if out of memory. Then nothing has
-    /// changed.
+    /// `OtherShapes` if a descriptor of its maps names no map of the same shape in `named`; else `Memory` if out of memory. After an
+    /// error nothing has changed.
     pub fn replace_objects(&mut self, alloc: Global, named: &[Named]) -> Result<(), ReplaceFault>
         ensures fits { OnOk result (Fits self.old named.now) }
         ensures code { self.new.code ≡ self.old.code }

@@ -22,14 +22,14 @@ use tagged_model::Named;
 pub(crate) struct Findings {
     /// The descriptors of the maps that it loads, each once, in the order of their first loads.
     pub(crate) maps: Vec<u32>,
-    /// The objects that these descriptors name.
+    /// The descriptors in `maps`, each with the object that it names, from the list of open descriptors.
     pub(crate) entries: Vec<Named>,
     pub(crate) cost: Cost,
 }
 
-/// Verifies a program, and passes the facts before its instructions to a watcher, as `verify_watched` does. For its safety only the objects
-/// are used that the descriptors of its maps name. What a rejected program leaves in `working` is removed, so that the next one, which may
-/// be of another tenant, does not take longer.
+/// Verifies a program, and passes the facts before its instructions to a watcher, as `verify_watched` does. `named` lists the open
+/// descriptors and their objects; for safety only those of the program's maps are used. The error is the first fault, or out of memory.
+/// What a rejected program leaves in `working` is removed, so that the next one, which may be of another tenant, does not take longer.
 pub(crate) fn judge<W: Watcher>(
     alloc: Global,
     program: &Program,

@@ -1,4 +1,4 @@
-//! Known answers of the watched verdict and of the private types, proved only from their contracts. Nothing calls these functions.
+//! Known results of the watched verdict and of the private types, proved only from their contracts. Nothing calls these functions.
 
 ghost use Rattle.std.specs.Prelude.{◌≡◌, ◌≢◌, ◌<◌, ℕ, slice_index_or, None, IfOk, OnOk};
 ghost use Rattle.insn_set.specs.Program.{slot_count};
@@ -15,8 +15,8 @@ use reg_kinds::Facts;
 use std::alloc::{AllocError, Global};
 use tagged_model::Named;
 
-/// If no slot but this one has an entry, a jump to it adds none for another: a target has one entry, however many jumps lead to it. `fresh`
-/// is the number of the parts of the stack that change.
+/// If no slot but `slot` has an entry, a jump to `slot` adds none for another: a target has one entry, however many jumps lead to it.
+/// `facts` are those on the jump. Parts of the stack that change get the number `fresh`.
 fn one_entry(
     entries: &mut TargetFacts,
     slot: usize,

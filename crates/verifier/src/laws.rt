@@ -50,7 +50,7 @@ pub fn safety_follows_shape()
     transfer::laws::transfer_reasons();
 }
 
-/// A law: each map that an accepted program loads has a shape.
+/// A law: each map that an accepted program loads, itself or a value of it, has a shape.
 pub fn loaded_maps_have_shapes()
     ensures { LoadedMapsHaveShapes }
 {}
@@ -84,15 +84,15 @@ pub fn steps_go_on()
     abstraction::laws::join_admits();
 }
 
-/// A law: no run of an accepted program faults.
+/// A law: no run of an accepted program faults, on maps of the shapes with which it is accepted.
 pub fn accepted_programs_never_fault()
     ensures { NeverFaults }
 {
     steps_go_on();
 }
 
-/// A law: what a run of an accepted program executes is a path from slot 0 to an exit, an instruction in each step. So no run executes more
-/// than the cost of the program.
+/// A law: what a run of an accepted program, on maps of the shapes with which it is accepted, executes is a path from slot 0 to an exit, an
+/// instruction in each step. So no run executes more than the cost of the program.
 pub fn accepted_runs_are_paths()
     ensures { AcceptedRunsArePaths }
 {

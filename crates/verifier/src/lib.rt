@@ -53,20 +53,20 @@
 //! - `transfer` has one instruction, `verifier` a program: the verdict, and why no run of an accepted program faults. Each is
 //!   proved by itself.
 //! - The cost is found in the pass over the shape. For each slot that pass has the most instructions and the most calls on the jumps
-//!   there (`Counts`), which also say whether it is reached, and in hand those on the falling edge. The two numbers may be of
+//!   there (`Counts`), which also say whether it is reached, and one pair for the falling edge. The two numbers may be of
 //!   different paths. An instruction that has no fault, names nothing and only goes on to the next one (`is_simple`) adds one to a
 //!   number, and nothing else of it is looked at.
 //! - Facts before a jump target are on the heap, one entry for each target that a taken edge has reached; all other facts are
 //!   changed in place. That a target has at most one entry is part of the type: there is an option for each slot.
-//! - Facts stay in place: they have 2.3 KB, and a local of that size is cleared each time its block is entered. The facts on
-//!   the falling edge are in one place next to a flag. `apply` copies nothing for a jump: it returns the ranges of a comparison
+//! - Facts are not moved: they have 2.3 KB, and a local of that size is cleared each time its block is entered. The facts on
+//!   the falling edge are in one variable with a flag. `apply` copies nothing for a jump: it returns the ranges of a comparison
 //!   on each edge, or that a look-up is settled. The pass sets the ranges of the jumping edge in the facts, joins the facts into
-//!   the target's entry in place, and then sets the ranges of the falling edge; only a null test copies the facts. The place of
-//!   a finished entry is reused. If the list of these places cannot grow, the verdict is out of memory. A join writes
+//!   the target's entry in place, and then sets the ranges of the falling edge; only a null test copies the facts. The box of
+//!   a finished entry is reused. If the list of these boxes cannot grow, the verdict is out of memory. A join writes
 //!   only registers and slots that change; kinds that differ are joined out of line. With facts moved by value, a load of straight
 //!   arithmetic took 26 times as many machine instructions, and one of diamonds 15 times.
-//! - The stack in facts has eight parts of eight slots, each with a number (`NumberedFacts`). Parts at the same place with the
-//!   same number are the same. A store gives the part of its slot a new number; a call or a null test all parts; a join the
+//! - The stack in facts has eight parts of eight slots, each with a number (`NumberedFacts`). Parts with one index and one
+//!   number are the same. A store gives the part of its slot a new number; a call or a null test all parts; a join the
 //!   parts that it changes. Each part also has the number of the last part that was joined into it, and a second join with that
 //!   part is skipped, since it would change nothing. New numbers are computed from the slot of the instruction, so no counter is
 //!   needed. bench/FIGURES.md has the costs. With one number for the whole stack, a byte stored before each jump cost a join of
@@ -77,9 +77,10 @@
 //!   takes a fifth to a third more machine instructions.
 //! - The list of entries ends with the last target so far, so a program without jumps has none.
 //! - A caller that verifies many programs, as a host does, lends the memory for it (`WorkingMemory`), which it keeps from one program to
-//!   the next. Without it a program with 1,900 targets that wait had 1,060 page faults, and took five times as long. What a rejected program
-//!   leaves in it is removed at the end (`judge`), so that the next program, which may be another tenant's, does not take longer. The next
-//!   pass begins without entries all the same: `begin` of `Pass`. An entry for whose box the list of spare ones cannot grow is freed.
+//!   the next. Without it a program with 1,900 targets that wait had 1,060 page faults, and took five times as long. What a rejected
+//!   program leaves in it is removed at the end (`judge`), so that the next program, which may be another tenant's, does not take longer.
+//!   The next pass begins without entries all the same: `begin` of `Pass`. An entry for whose box the list of spare ones cannot grow is
+//!   freed.
 //! - Edges are joined in the order of the pass, which is not that of the definition; joins commute and associate.
 //! - The verdict uses the shapes of the descriptors that the program loads, and keeps only these with a `Verified`. `verify`
 //!   accepts any list of names: the first entry of a descriptor counts.

@@ -55,7 +55,7 @@ pub(crate) fn loaded_maps(
     requires { HasNoFault (structure_fault program.now named.now) }
     ensures { IfOk result (λ maps. maps.items ≡ maps_of program.now) }
 {
-    // A law, for the contract.
+    // A law, for the contract, which is about the list of instructions: they are those that begin at the slots, in order.
     program.insns_in_order();
     let mut maps = Vec::new(alloc);
     if named.is_empty() {
@@ -63,7 +63,7 @@ pub(crate) fn loaded_maps(
     }
     let code = program.code();
     for slot in 0..code.len() {
-        // At a second slot this entry means nothing, and `add_at` finds no instruction.
+        // At the second slot of a wide instruction `code[slot]` means nothing, but `add_at` finds no instruction there.
         if names_map(&code[slot]) {
             add_at(&mut maps, program, slot)?;
         }
@@ -78,7 +78,7 @@ fn is_among(maps: &[u32], fd: u32) -> bool
     maps.contains(&fd)
 }
 
-/// The entries of `named` whose descriptors are in the list `maps`.
+/// The entries of `named`, the open descriptors with their objects, whose descriptors are in the list `maps`. They keep their order.
 pub(crate) fn entries_of(
     alloc: Global,
     named: &[Named],

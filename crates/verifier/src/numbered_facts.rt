@@ -9,20 +9,20 @@ use reg_kinds::laws::facts_have_all_slots;
 use reg_kinds::{Facts, PART_SLOTS, STACK_PARTS, StackPart, join_part, join_registers};
 use transfer::Flow;
 
-/// Facts, with a number for what is known of each part of the stack, which is eight of its slots. Parts at the same place with the same
-/// number are the same, so that a join that is known to change nothing is left out.
+/// Facts, with a number for what is known of each part of the stack, which is eight of its slots. Parts with one index and one number are
+/// the same in all facts of a pass, so that a join that is known to change nothing is left out.
 #[derive(Clone, Copy, Debug, Drop)]
 pub(crate) struct NumberedFacts {
     pub(crate) facts: Facts,
     /// The number of each part of the stack, never 0.
     pub(crate) numbers: [usize; STACK_PARTS],
-    /// For each part, the number of the last one that was joined into it, which another join with that one does not change; 0 if none has
-    /// been since it was written.
+    /// For each part, the number of the part that was joined into it last: a second join with that part would change nothing. 0 if none has
+    /// been joined into it since it was last written.
     pub(crate) includes: [usize; STACK_PARTS],
 }
 
 impl NumberedFacts {
-    /// The facts at program entry.
+    /// The facts at program entry. All parts of the stack have number 1, which no later part gets, and no join into them is known.
     pub(crate) fn at_entry() -> NumberedFacts
         ensures { result ≡ at_entry }
     {
@@ -52,8 +52,9 @@ impl NumberedFacts {
         self.includes[part] = 0;
     }
 
-    /// Gives each part of the stack that an instruction with this flow may have written the new number `fresh`. The other flows write
-    /// nothing; a null test gives its numbers on each edge (`leave_null_test`).
+    /// Gives each part of the stack that an instruction with this flow may have written the new number `fresh`. The slot that a flow names
+    /// is one of the 64, as `apply` promises. The other flows write nothing; a null test gives its numbers on each edge
+    /// (`leave_null_test`).
     #[inline(always)]
     pub(crate) fn note(&mut self, flow: &Flow, fresh: usize)
         requires { IsInStack flow.now }
@@ -71,8 +72,9 @@ impl NumberedFacts {
         }
     }
 
-    /// Joins a part of the stack on another edge into that of these facts, which then includes it. If this changes the part, it gets the
-    /// number `fresh`.
+    /// Joins a part of the stack, of index `part`, on another edge into that of these facts, which then includes it. If this changes the
+    /// part, it gets the number `fresh`. It is out of line: `join_stack_part` is inlined, and leaves out joins that are known to change
+    /// nothing.
     #[inline(never)]
     fn join_other_part(&mut self, edge: &NumberedFacts, fresh: usize, part: usize)
         requires { part < stack_parts }
@@ -84,8 +86,8 @@ impl NumberedFacts {
         self.includes[part] = edge.numbers[part];
     }
 
-    /// Joins a part of the stack on another edge into that of these facts, unless that is known to change nothing. If this changes the
-    /// part, it gets the number `fresh`.
+    /// Joins a part of the stack, of index `part`, on another edge into that of these facts, unless that is known to change nothing. If
+    /// this changes the part, it gets the number `fresh`.
     #[inline(always)]
     fn join_stack_part(&mut self, edge: &NumberedFacts, fresh: usize, part: usize)
         requires { part < stack_parts }

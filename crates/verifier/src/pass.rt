@@ -33,17 +33,18 @@ use transfer::{Flow, apply, set_ranges};
 /// The facts during the pass over a program. Their memory is reused by the pass over the next one.
 #[derive(Drop)]
 pub(crate) struct Pass {
-    /// On the falling edge into the next instruction.
+    /// The facts on the falling edge into the next instruction.
     falling: EdgeFacts,
-    /// On the jumps to later slots.
+    /// The facts on the jumps to later slots, joined for each target.
     entries: TargetFacts,
     /// Space for the facts on the jumping edge of a null test.
     taken: NumberedFacts,
 }
 
-/// Sends the facts on the jumping edge of a comparison to the jump's target, if the edge can be taken (`jumps` has the operands' ranges on
-/// it). Of the facts in hand only these ranges change; the caller sets those of the falling edge. Parts of the stack that change at the
-/// target get the number `fresh`.
+/// Joins the facts on the jumping edge of a comparison of `dst` with `src` into the entry of the jump's target, with `jumps`, the operands'
+/// ranges on this edge; `None` if it can't be taken. In `hand`, the facts before the jump, only these ranges change, and the caller sets
+/// those of the falling edge. Parts of the stack that change at the target get the number `fresh`. The target is a slot of the program, as
+/// its shape has no fault.
 #[inline(always)]
 fn send_compared(
     hand: &mut NumberedFacts,
@@ -76,9 +77,10 @@ struct Compared {
     src: Operand,
 }
 
-/// Sends the facts on the jumping edge of a comparison to `target`, and leaves those on the falling edge in hand. `jumps` and `falls` have
-/// the operands' ranges on these edges; `None` for one that can't be taken. Parts of the stack that change at the target get the number
-/// `fresh`. Returns whether the falling edge can be taken.
+/// Joins the facts on the jumping edge of a comparison into the entry of `target`, and leaves those on the falling edge in `hand`, which
+/// has the facts before the jump. `jumps` and `falls` have the operands' ranges on these edges; `None` for one that can't be taken. Parts
+/// of the stack that change at the target get the number `fresh`. Returns whether the falling edge can be taken. The target is a slot of
+/// the program, as its shape has no fault.
 #[inline(always)]
 fn leave_comparison(
     hand: &mut NumberedFacts,
@@ -108,8 +110,8 @@ fn leave_comparison(
 }
 
 /// Settles the look-up at slot `site` on both edges of the null test at `slot`, which jumps if the result is null (`jumps_on_null`) or else
-/// if it is not: the facts on the jumping edge are sent to `target`, those on the falling edge are left in hand. `taken` is space for the
-/// former.
+/// if it is not. `hand` has the facts before the test, and then those on the falling edge; those on the jumping edge, for which `taken` is
+/// space, are joined into the entry of `target`, a slot of the program, as its shape has no fault.
 fn leave_null_test(
     hand: &mut NumberedFacts,
     entries: &mut TargetFacts,
@@ -131,9 +133,10 @@ fn leave_null_test(
     entries.send(target, taken, 8 * slot + 6)
 }
 
-/// Sends the facts after the instruction at `slot`, which are in hand, along the edges of this flow, of which the jumping one leads to
-/// `target`; those on the falling edge are left in hand. `taken` is space for a null test. Returns whether the falling edge can be taken:
-/// `false` after an exit, a jump that is always taken, and a comparison that always holds.
+/// Passes the facts after the instruction at `slot`, which are in `hand`, along the edges of `flow`: those on the jumping edge are joined
+/// into the entry of `target`, a slot of the program, as its shape has no fault; those on the falling edge are left in `hand`. `taken` is
+/// space for a null test. Returns whether the falling edge can be taken: `false` after an exit, a jump that is always taken, and a
+/// comparison that always holds.
 #[inline(always)]
 fn leave_by(
     hand: &mut NumberedFacts,
@@ -182,8 +185,9 @@ fn leave_by(
     }
 }
 
-/// Sends the facts after the instruction at `slot`, which are in hand, along its edges: those on the falling edge are left in hand. `taken`
-/// is space for a null test. Returns whether the falling edge can be taken. Only a flow that may jump needs the target.
+/// Passes the facts after the instruction at `slot`, which are in `hand`, along its edges: those on the jumping edge are joined into the
+/// entry of the jump's target, those on the falling edge are left in `hand`. `taken` is space for a null test. Returns whether the falling
+/// edge can be taken. The target is computed only for a flow that may jump; it is a slot of the program, as its shape has no fault.
 #[inline(always)]
 fn leave(
     hand: &mut NumberedFacts,
@@ -215,8 +219,9 @@ fn leave(
     }
 }
 
-/// Passes the facts in hand to the watcher, and moves past the instruction at `slot`, if it may be run with them: they are then those on
-/// its falling edge. `taken` is space for a null test. Returns whether the falling edge can be taken.
+/// Passes `hand`, the facts before the instruction at `slot`, to the watcher, and changes them to those on its falling edge. Returns
+/// whether this edge can be taken. The error is why the instruction may not be run with these facts, or out of memory. `named` has the
+/// program's maps, and `taken` is space for a null test. A jump's target is a slot of the program, as its shape has no fault.
 #[inline(always)]
 fn run_past<W: Watcher>(
     hand: &mut NumberedFacts,
@@ -262,8 +267,8 @@ impl Pass {
         }
     }
 
-    /// Begins a pass with the facts at program entry, and without facts on jumps: the contract needs that the entries are empty, which they
-    /// are already after a pass that was ended.
+    /// Begins a pass with the facts at program entry, and without facts on jumps. After a pass that was ended the entries are empty
+    /// already, but no contract says that it was ended.
     fn begin(&mut self)
         ensures falling { self.new.falling ≡ Some at_entry }
         ensures entries { self.new.entries ≡ [] }
@@ -280,8 +285,9 @@ impl Pass {
         self.entries.clear();
     }
 
-    /// Moves past the instruction at `slot`, if it may be run with the facts in hand. If there are none, no run reaches it, and nothing is
-    /// done.
+    /// Changes the facts before the instruction at `slot`, in `falling`, to those on its falling edge. If there are none, no run reaches
+    /// it, and nothing is done. The error is why the instruction may not be run with these facts, or out of memory. `named` has the
+    /// program's maps. A jump's target is a slot of the program, as its shape has no fault.
     #[inline(always)]
     fn go_past<W: Watcher>(
         &mut self,
@@ -317,8 +323,9 @@ impl Pass {
         Ok(())
     }
 
-    /// Joins all facts that arrive at `slot`, and moves past the instruction there, if it may be run with them. `absorb` and `numbered` are
-    /// for the contract: by them a part of the stack that is not joined again would not change.
+    /// Joins the facts on all edges to `slot`, and changes them to those on the falling edge of the instruction there. The error is why it
+    /// may not be run with them, or out of memory. `named` has the program's maps. A jump's target is a slot of the program, as its shape
+    /// has no fault. `absorb` and `numbered` are for the contract: by them a part of the stack that is not joined again would not change.
     fn step<W: Watcher>(
         &mut self,
         named: &[Named],
@@ -351,9 +358,10 @@ impl Pass {
     }
 }
 
-/// Finds the first instruction that may not be run with the facts before it, in one pass over the slots, which holds the facts on the
-/// falling edge and those on jumps to later slots. At the second slot of a wide instruction none begins, and nothing is done. The watcher
-/// receives the facts before each instruction that a run may reach.
+/// Finds the first instruction that may not be run with the facts before it, in one pass over the slots: the error is this fault, or out of
+/// memory. `named` has the program's maps, and `pass` is memory for the facts. At the second slot of a wide instruction none begins, and
+/// nothing is done. The watcher receives the facts before each instruction that a run may reach. Each jump leads to a slot of the program,
+/// as the caller has checked its shape.
 pub(crate) fn check_safety<W: Watcher>(
     program: &Program,
     named: &[Named],

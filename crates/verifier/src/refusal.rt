@@ -10,7 +10,7 @@ use std::fmt;
 /// What is wrong with slots that are rejected.
 #[derive(Clone, Copy, Debug, PartialEq, Eq)]
 pub enum Cause {
-    /// They are no program.
+    /// They are no program: this is the codec's fault, of their number or of one of them.
     Slots(FaultKind),
     /// They are a program that breaks a rule.
     Verdict(Reason),
@@ -19,7 +19,7 @@ pub enum Cause {
 impl Cause {
     ghost use Rattle.verifier.specs.Judgement.{cause_number};
 
-    /// The number that loads, `verify` and the log give: that of the reason, or 100 plus that of the codec's fault.
+    /// The number that loads, `verify` and the log give: that of the reason, which is below 100, or 100 plus that of the codec's fault.
     pub fn number(self) -> u16
         ensures { result ≡ cause_number self }
     {
@@ -30,10 +30,11 @@ impl Cause {
     }
 }
 
-/// Why slots are rejected, and because of which slot. Its text is the line of `verify` and of the log.
+/// Why slots are rejected, and because of which slot. As text it is the line that `verify` and the log write for it.
 #[derive(Clone, Copy, Debug, PartialEq, Eq)]
 pub struct Refusal {
-    /// The slot of the instruction at fault; if there are too few or too many slots, or half a slot, the slot that `read_program` reports.
+    /// The first slot of the instruction at fault. If there is no slot, 0; if there are too many, the number that a program may have; if
+    /// the bytes end within a slot, the number of whole slots.
     pub slot: usize,
     pub cause: Cause,
 }
@@ -72,7 +73,7 @@ impl fmt::Display for Refusal {
 
     ghost output = { λ refusal. Some (refusal_text refusal) };
 
-    /// Writes the line of `verify` and of the log, without its line feed.
+    /// Writes the line that `verify` and the log write for a rejection, without its line feed.
     fn fmt<W: fmt::Write>(&self, f: &mut fmt::Formatter<W>) -> fmt::Result {
         let (slot, number) = (self.slot, self.cause.number());
         write!(f, "refused: slot {slot} reason {number}")

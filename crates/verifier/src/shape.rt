@@ -76,8 +76,9 @@ fn descriptor_reason(named: &[Named], reference: Reference) -> Option<Reason>
     }
 }
 
-/// The fault of a jump's target: `JumpOutside` if it is below slot 0 or no instruction begins there, `JumpBackward` if it is not a later
-/// slot. `None` if there is no fault or no jump. `successors` are those of `insn`, which only the contract needs.
+/// The fault of the target of a jump at `slot`, one of the program: `JumpOutside` if it is below slot 0 or no instruction begins there,
+/// `JumpBackward` if it is not a later slot. `None` if there is no fault or no jump. `successors` are those of `insn`, which only the
+/// contract needs.
 fn jump_reason(
     program: &Program,
     insn: &Insn,
@@ -147,8 +148,8 @@ fn other_reason(
     }
 }
 
-/// Adds the instruction at `slot`, of any kind, to the paths, or returns its first fault. `jumping` has the counts on the jumps to each
-/// slot.
+/// Adds the instruction at `slot`, simple or not, to `paths`, those that lead there, or returns its first fault. `jumping` has the counts
+/// on the jumps to each slot.
 #[inline(always)]
 fn pass_other(
     program: &Program,
@@ -178,8 +179,8 @@ fn pass_other(
     }
 }
 
-/// Adds the instruction at `slot`, with the properties `row`, to the paths, or returns its first fault. A simple one has none. `jumping`
-/// has the counts on the jumps to each slot.
+/// Adds the instruction at `slot`, with the properties `row`, to `paths`, those that lead there, or returns its first fault. A simple one
+/// (`is_simple`) has none. `jumping` has the counts on the jumps to each slot.
 #[inline(always)]
 fn pass(
     program: &Program,
@@ -209,8 +210,8 @@ fn pass(
     }
 }
 
-/// Finds the first fault of a program's shape, and what an accepted program costs, in one pass. `jumping` is space for the counts on
-/// the jumps to each slot.
+/// Finds the first fault of a program's shape, which is the error, or what the program costs if it is accepted, in one pass. The error may
+/// also be out of memory. `named` lists the open descriptors; `jumping` is space for the counts on the jumps to each slot.
 pub(crate) fn check_shape(
     program: &Program,
     named: &[Named],

@@ -29,7 +29,7 @@ impl Model for TargetFacts {
     ghost view = { λ e. map (option_map box_value) e.facts.items };
 }
 
-/// A box with these facts: a spare one, or a new one.
+/// A box with these facts: a spare one, or a new one if there is no spare one.
 fn boxed(
     spare: &mut Vec<Box<NumberedFacts>>,
     alloc: Global,
@@ -115,7 +115,7 @@ impl TargetFacts {
     }
 
     /// Joins the facts of the jumps to `slot` into `known`, those on the falling edge, and empties the entry, whose box is kept. Nothing is
-    /// done if no jump has led there. Parts of the stack that change get the number `fresh`.
+    /// done if no jump has led there. Parts of the stack that change get the number `fresh`. `AllocError`: no memory to list the box.
     pub(crate) fn join_at(
         &mut self,
         slot: usize,
@@ -127,6 +127,7 @@ impl TargetFacts {
         if slot >= self.facts.len() || self.facts[slot].is_none() {
             return Ok(());
         }
+        // There is one, as tested above.
         if let Some(entry) = self.facts[slot].take() {
             known.join(&entry, fresh);
             keep(&mut self.spare, entry)?;
@@ -134,7 +135,7 @@ impl TargetFacts {
         Ok(())
     }
 
-    /// Appends empty entries, until the list has one for `slot`.
+    /// Appends empty entries, until the list has one for `slot`, which is one of a program, so that `slot + 1` can't overflow.
     fn reach(&mut self, slot: usize) -> Result<(), AllocError>
         requires { slot < MAX_SLOTS }
         ensures within { OnOk result (slot < length self.new) }
@@ -143,8 +144,8 @@ impl TargetFacts {
         append_empty(&mut self.facts, slot + 1)
     }
 
-    /// Joins the facts of a jump into the entry of its target. Nothing is done if there is no target. Parts of the stack that change get
-    /// the number `fresh`.
+    /// Joins the facts of a jump into the entry of its target, a slot of a program. Nothing is done without a target (`None`). Parts of the
+    /// stack that change get the number `fresh`.
     pub(crate) fn send(
         &mut self,
         target: Option<usize>,
@@ -160,7 +161,8 @@ impl TargetFacts {
         Ok(())
     }
 
-    /// Joins the facts of a jump to `slot` into the entry of this slot. Parts of the stack that change get the number `fresh`.
+    /// Joins the facts of a jump to `slot`, one of a program, into the entry of this slot. Parts of the stack that change get the number
+    /// `fresh`.
     pub(crate) fn put(
         &mut self,
         slot: usize,

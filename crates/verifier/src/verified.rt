@@ -123,8 +123,10 @@ pub fn verify(alloc: Global, program: &Program, named: &[Named]) -> Result<Verif
     Ok(Verified { program, found })
 }
 
-/// Verifies the program that the bytes of slots spell. Returns it, without a copy, if it is accepted, or else the `Refusal` of the slots:
-/// they are no program, or it breaks a rule. `working` is memory to work in, which the next call can use again; its contents mean nothing.
+/// Verifies the program that `slots`, eight bytes each, spell. Returns it, without a copy, if it is accepted, or else why the slots are
+/// rejected: they are no program, or it breaks a rule. `named` lists the open descriptors and the objects that they name. `working` is
+/// memory to work in, which the next call can use again; its contents mean nothing. Not inlined, as the library calls it from two
+/// functions.
 ///
 /// # Errors
 ///

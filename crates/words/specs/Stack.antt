@@ -44,6 +44,7 @@ byte_index offset = unsigned_abs (offset +ℤ pos stack_size)
 abbrev pub is_aligned : ℤ → ℕ → Bool
 is_aligned offset n = byte_index offset % n == 0
 
--- whether one of the n bytes from byte index p on is in slot i of the stack
+-- whether one of the n bytes from byte index p on is in slot i of the stack. With n = 0 it holds of
+-- the slot of byte p, unless p is the slot's first byte
 abbrev pub touches : ℕ → ℕ → ℕ → Bool
 touches p n i = nat_lt p (8 * i + 8) && nat_lt (8 * i) (p + n)

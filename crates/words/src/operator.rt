@@ -1,6 +1,7 @@
 //! The operators and the conditions.
 
-/// An operator with two operands (RFC 9669, section 4.1): the first is the destination, the second the source.
+/// An operator with two operands (RFC 9669, section 4.1): the first is the destination, the second the source. A shift is by the second
+/// operand modulo the width, 64 or 32.
 #[derive(Clone, Copy, Debug, PartialEq, Eq)]
 pub enum AluOp {
     Add,
@@ -87,7 +88,7 @@ impl KeptBits {
     ghost use Rattle.std.specs.Prelude.{◌≡◌};
     ghost use Rattle.words.specs.Operate.{kept_bits};
 
-    /// The number of bits: 16, 32 or 64.
+    /// The number of bits: 16, 32 or 64, in the type of the immediate field, in which an instruction has it.
     pub fn count(self) -> u32
         ensures { result ≡ kept_bits self }
     {
@@ -103,7 +104,7 @@ impl ExtendedBits {
     ghost use Rattle.std.specs.Prelude.{◌≡◌};
     ghost use Rattle.words.specs.Operate.{extended_bits};
 
-    /// The number of bits: 8, 16 or 32.
+    /// The number of bits: 8, 16 or 32, in the type of the offset field, in which an instruction has it.
     pub fn count(self) -> u16
         ensures { result ≡ extended_bits self }
     {

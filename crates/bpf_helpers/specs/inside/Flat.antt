@@ -66,7 +66,9 @@ with_claimed site pair (Ok element) =
     pair.value
 with_claimed site pair (Err fault) = site.memory
 
--- an update of a map with a key and a value: the claim of an element, and what is after it
+-- an update with the map, the key and the value of `pair`: an element is claimed for the key, and
+-- the value is written there. After a fault no byte has changed; of the live maps only the keys of
+-- that map may change
 pub record Updates (site : CallSite) (pair : NamedPair) (flags : ℕ)
     (answer : CallAnswer) : Type 0 where
   pub claim : Result ℕ MapFault
@@ -90,7 +92,8 @@ abbrev pub removal_word : Result (Unit {0}) MapFault → ℕ
 removal_word (Ok done) = 0
 removal_word (Err fault) = negative (errno fault)
 
--- a deletion of a key of a map: its outcome, what it returns, and the live maps after it
+-- a deletion of the key of `named` from its map: `word` is what it returns, and of the live maps
+-- only the keys of that map may change
 pub record Deletes (old : LiveMaps) (named : NamedKey) (word : ℕ) (new : LiveMaps) : Type 0 where
   pub outcome : Result (Unit {0}) MapFault
   pub removed : Removes (removal (table_of (keys_at old named.map)) named.key) named.key

@@ -77,7 +77,8 @@ LookUpsFollow =
     (flat_look_up (site_in env flat) (slice_index flat.registers 1) (slice_index flat.registers 2))
     (Some v)
 
--- an update on the machine of tagged values
+-- the arguments of an update on the machine of tagged values: the map with its descriptor, the
+-- bytes of the key and of the value, and the flags
 pub record TaggedUpdate : Type 0 where
   pub given : GivenMap
   pub key : List ℕ
@@ -88,7 +89,9 @@ pub record TaggedUpdate : Type 0 where
 abbrev pub update_reply : TaggedUpdate → MapReply
 update_reply asked = updated asked.given.map asked.key asked.value asked.flags
 
--- the machine's update, and a layout in which words and bytes represent the state after it
+-- the update on words has the result of the machine's update `asked`, and in some layout with all
+-- objects of l the words and bytes after it represent the machine's state after it; register 0 does
+-- not have the result yet
 pub record UpdateKeepsSimulation (env : Environment) (l : Layout) (flat : FlatState) (s : RunState)
     (asked : TaggedUpdate) (answer : CallAnswer) : Type 0 where
   pub layout : Layout
@@ -125,8 +128,9 @@ DeletesKeepSimulation =
     → (word ≡ (removed map key).answer)
     × Simulates env l (with_held flat flat.memory new) (with_map s m (removed map key).map)
 
--- the packet bytes, or zeros, that the machine writes have an offset in the part, and the memory
--- with them there represents the state with them
+-- a load of bytes leads from s to u: the packet bytes, or zeros, that it writes have an offset in
+-- the part, and the memory with them there represents `written`, the state after they are written
+-- and before register 0 gets the result
 pub record LoadKeepsSimulation (env : Environment) (l : Layout) (flat : FlatState) (s u : RunState)
     : Type 0 where
   pub offset : ℕ

@@ -2,7 +2,7 @@
 use Rattle.std.specs.Prelude.{ℕ, ◌==◌, if◌then◌else◌, List, map, Option, Some, None}
 use Rattle.bpf_maps.specs.declared.slab_keys.TheConstants.{NO_KEY}
 
--- the key in a word, if there is one
+-- the key in a word; None in the word `NO_KEY`
 abbrev pub key_in : ℕ → Option ℕ
 key_in word = if word == NO_KEY then None else Some word
 

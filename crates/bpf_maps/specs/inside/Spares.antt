@@ -3,13 +3,13 @@ use Rattle.std.specs.Prelude.{◌≡◌, ℕ, ◌≤◌, Option, Some, None}
 use Rattle.tagged_model.specs.declared.shape.MapShape.{MapShape}
 use Rattle.bpf_maps.specs.KeyTable.{KeyTable}
 
--- a map that is present, with keys of this shape's size and as many entries as the shape has
+-- a map is present (not None), with keys of this shape's size and as many entries as it has
 abbrev pub IsLike : MapShape → Option KeyTable → Type 0
 IsLike shape None = ⊥
 IsLike shape (Some t) =
     (t.shape.key_size ≡ shape.key_size) × (t.shape.max_entries ≡ shape.max_entries)
 
--- a map that is present and can have n entries or more
+-- a map is present (not None), and can have n entries or more
 abbrev pub HasEntries : ℕ → Option KeyTable → Type 0
 HasEntries n None = ⊥
 HasEntries n (Some t) = n ≤ t.shape.max_entries

@@ -33,8 +33,8 @@ or_else None y = y
 abbrev pub definition_at : List (Option Line) → ℕ → Definition
 definition_at lines k = record { line = k; slot = slots_on (take k lines) }
 
--- of each label that the first n lines define, the first definition is kept, and none of any other
--- label
+-- `labels` has the first definition of each label that the first n lines define, and none of any
+-- other label
 abbrev pub FindsLabels : List (Option Line) → Labels → ℕ → Type 0
 FindsLabels lines labels n =
     (name : List ℕ)
@@ -74,7 +74,8 @@ abbrev pub label_fault : Option Definition → ℕ → Option TextFaultKind
 label_fault definition line =
     if nat_lt (kept_line definition line) line then Some LabelTwice else None
 
--- the fault of a line, with its index and the slots before it in `here`
+-- the fault of a line (`None` if it has none of the forms), with its index and the slots before it
+-- in `here`
 abbrev pub kept_fault : Labels → Definition → Option Line → Option TextFaultKind
 kept_fault labels here None = Some Syntax
 kept_fault labels here (Some blank) = None

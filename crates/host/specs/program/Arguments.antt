@@ -129,7 +129,7 @@ AreWrongArguments arguments =
     × HasWrongMapArgument maps)
 
 -- if the task is to verify a program and the input's bytes are known, the input has a program that
--- is accepted
+-- is accepted with the maps of the arguments
 abbrev pub AcceptsAsked : List Text → Option (List ℕ) → Type 0
 AcceptsAsked arguments input =
     (maps : List Text)

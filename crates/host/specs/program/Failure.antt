@@ -7,7 +7,7 @@ use Rattle.insn_codec.specs.declared.fault.FaultKind.TheVariants as codec
 use Rattle.host.specs.declared.program.failure.Failure.{Failure}
 use Rattle.host.specs.declared.program.failure.Failure.TheVariants.{Slot, Memory}
 
--- the failure for a kind of fault at a slot of a program
+-- the failure for a kind of fault at a slot of a program; that of out of memory has no slot
 abbrev pub failure_at : ℕ → FaultKind → Failure
 failure_at slot codec.Opcode = Slot slot (fault_number codec.Opcode)
 failure_at slot codec.Reserved = Slot slot (fault_number codec.Reserved)

@@ -39,7 +39,7 @@ pub record IsShapeOf (shape : MapShape) (kind key_size value_size max_entries : 
   pub value_size_is : decimal_number value_size ≡ Some shape.value_size
   pub max_entries_is : decimal_number max_entries ≡ Some shape.max_entries
 
--- the argument names this map
+-- the argument names this map: five fields joined by colons are its descriptor and its shape
 pub record IsMapArgument (argument : Text) (map : Named) : Type 0 where
   pub fd : Text
   pub kind : Text

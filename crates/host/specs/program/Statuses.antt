@@ -62,7 +62,7 @@ abbrev pub stream_failure : ServeFault → Failure
 stream_failure ended = failure_after ended.kind ended.frames
 
 -- the failure for a kind of fault on a line of a text; lines are counted from 1, and 0 is the whole
--- text
+-- text; that of out of memory has no line
 abbrev pub failure_on : ℕ → TextFaultKind → Failure
 failure_on line text.Syntax = Line line (kind_number text.Syntax)
 failure_on line text.Range = Line line (kind_number text.Range)

@@ -50,7 +50,7 @@ fn tenant_count(digits: &str) -> Option<usize>
     }
 }
 
-/// The subcommand `serve`, with the required option `--tenants`.
+/// The subcommand `serve`, with the required option `--tenants`, which has a value. `AllocError`: out of memory.
 fn serve_subcommand<'a>(alloc: Global) -> Result<Command<'a>, AllocError>
     ensures { IfOk result (λ command. app_of command ≡ serve_command) }
 {
@@ -61,7 +61,7 @@ fn serve_subcommand<'a>(alloc: Global) -> Result<Command<'a>, AllocError>
     Command::new(alloc, "serve").arg(tenants)
 }
 
-/// The subcommand `verify`, with any number of map arguments, which are positional.
+/// The subcommand `verify`, with any number of map arguments, which are positional. `AllocError`: out of memory.
 fn verify_subcommand<'a>(alloc: Global) -> Result<Command<'a>, AllocError>
     ensures { IfOk result (λ command. app_of command ≡ verify_command) }
 {
@@ -166,7 +166,8 @@ fn rewrite_streams<I: Read + Drop, O: Write + Drop>(
     rewrite(alloc, task, &mut reader, &mut writer)
 }
 
-/// The maps that the map arguments name; an empty list if there are none (`None`).
+/// The maps that the map arguments name; an empty list if there are none (`None`). `MapArgument` with the number, from 1, of the first
+/// wrong argument, `Memory` if out of memory.
 fn maps_given(alloc: Global, arguments: Option<&[&str]>) -> Result<Vec<Named>, Failure>
     ensures named { IfOk result (λ maps. AreMapArguments (texts_given arguments.entry) maps.items) }
     ensures wrong { FailsOnly result (IsWrongMapArgument (texts_given arguments.entry)) }

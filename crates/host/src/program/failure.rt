@@ -22,7 +22,7 @@ pub enum Failure {
     /// The input of `serve` ended inside a frame, after so many whole ones.
     #[error("truncated after {0} frames")]
     Truncated(u32),
-    /// The input of `serve` has more than `MOST_FRAMES` frames.
+    /// In the input of `serve` another byte follows `MOST_FRAMES` frames.
     #[error("too many frames")]
     TooManyFrames,
     /// The input of another subcommand has more than 1,048,576 bytes.

@@ -20,7 +20,8 @@ use std::alloc::{AllocError, Global};
 use tagged_model::Named;
 use verifier::{Refusal, WorkingMemory, laws, verify_slots};
 
-/// Why the slots on the input's hex lines are rejected, if these maps are open; `None` if their program is accepted.
+/// Why the slots on the input's hex lines are rejected, if these maps are open; `None` if their program is accepted. `Line` if the input is
+/// not UTF-8, a line has a fault or no line has a slot; `Memory` if out of memory.
 fn refusal_of_input(alloc: Global, maps: &[Named], input: &[u8]) -> Result<Option<Refusal>, Failure>
     ensures judged { IfOk result (λ refusal. IsJudgement maps.now input.now refusal) }
     ensures only { (refusal : Option AnyRefusal) → IsJudgement maps.now input.now refusal
@@ -38,7 +39,8 @@ fn refusal_of_input(alloc: Global, maps: &[Named], input: &[u8]) -> Result<Optio
     }
 }
 
-/// The line of a verdict, with its line feed, 10: `accepted` if there is no refusal, or the text of the refusal.
+/// The line of a verdict, with its line feed, 10: `accepted` if there is no refusal, or the text of the refusal. `AllocError`: out of
+/// memory.
 fn verdict_line(alloc: Global, refusal: Option<Refusal>) -> Result<String, AllocError>
     ensures { IfOk result (λ line. string_bytes line ≡ judgement_text refusal ++ 10 ∷ []) }
 {

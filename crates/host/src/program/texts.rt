@@ -21,7 +21,8 @@ use host_core::{Sink, Source, fill, write_whole};
 use insn_codec::{Program, read_program};
 use std::alloc::{AllocError, Global};
 
-/// The longest input of a text, in bytes.
+/// The longest input of `asm`, `dis` and `verify` in bytes, a limit of this project. The hex lines of the longest program, 4,096 slots,
+/// take 69,632.
 pub(crate) const LONGEST_INPUT: usize = 1_048_576;
 
 /// Which of `asm` and `dis` a run does.
@@ -44,7 +45,8 @@ pub(crate) fn text_in(bytes: &[u8]) -> Result<&str, Failure>
     }
 }
 
-/// The hex lines of the program whose text is the input.
+/// The hex lines of the program whose text is the input. `Line` if the input is not UTF-8, a line has a fault or there is no instruction;
+/// `Memory` if out of memory.
 fn assembled(alloc: Global, input: &[u8]) -> Result<String, Failure>
     ensures made { IfOk result (λ lines. IsAssembly input.now (string_bytes lines)) }
     ensures only { (output : List ℕ) → IsAssembly input.now output
@@ -58,7 +60,8 @@ fn assembled(alloc: Global, input: &[u8]) -> Result<String, Failure>
     Ok(lines)
 }
 
-/// The slots on the hex lines of the input.
+/// The slots on the hex lines of the input, eight bytes each. `Line` if the input is not UTF-8, a line has a fault or no line has a slot;
+/// `Memory` if out of memory.
 pub(crate) fn slots_on(alloc: Global, input: &[u8]) -> Result<Vec<u8>, Failure>
     ensures read { IfOk result (λ slots. IsSlotText input.now slots.items) }
     ensures only { (slots : List ℕ) → IsSlotText input.now slots
@@ -71,7 +74,8 @@ pub(crate) fn slots_on(alloc: Global, input: &[u8]) -> Result<Vec<u8>, Failure>
     Ok(slots)
 }
 
-/// The program whose slots are the hex lines of the input.
+/// The program whose slots are on the hex lines of the input. `Line` if the input is not UTF-8, a line has a fault or no line has a slot;
+/// `Slot` if the slots are no program; `Memory` if out of memory.
 pub(crate) fn program_on(alloc: Global, input: &[u8]) -> Result<Program, Failure>
     ensures read { IfOk result (λ program. IsProgramText input.now program) }
     ensures only { (insns : List AnyInsn) → IsProgramText input.now insns
@@ -85,7 +89,8 @@ pub(crate) fn program_on(alloc: Global, input: &[u8]) -> Result<Program, Failure
     Ok(program)
 }
 
-/// The text of the program whose hex lines are the input.
+/// The text of the program whose hex lines are the input. Fails like `program_on`: `Line` or `Slot` for an input without a program,
+/// `Memory` if out of memory.
 fn disassembled(alloc: Global, input: &[u8]) -> Result<String, Failure>
     ensures made { IfOk result (λ text. IsDisassembly input.now (string_bytes text)) }
     ensures only { (output : List ℕ) → IsDisassembly input.now output
@@ -99,7 +104,8 @@ fn disassembled(alloc: Global, input: &[u8]) -> Result<String, Failure>
     Ok(text)
 }
 
-/// What the task makes of the input: the hex lines or the text of its program.
+/// What the task makes of the input: the hex lines of the program whose text it has, or the text of the program whose hex lines it has.
+/// Fails like `assembled` or `disassembled`.
 fn rewritten(alloc: Global, task: TextTask, input: &[u8]) -> Result<String, Failure>
     ensures made { IfOk result (λ output. IsRewritten task input.now (string_bytes output)) }
     ensures only { (output : List ℕ) → IsRewritten task input.now output
@@ -114,7 +120,7 @@ fn rewritten(alloc: Global, task: TextTask, input: &[u8]) -> Result<String, Fail
     }
 }
 
-/// A buffer of `size` zero bytes.
+/// A buffer of `size` zero bytes. `AllocError`: out of memory.
 fn buffer(alloc: Global, size: usize) -> Result<Vec<u8>, AllocError>
     ensures { IfOk result (λ bytes. length bytes.items ≡ size) }
 {

@@ -43,12 +43,14 @@ fault_in_form f s rest =
 abbrev pub IsFaultOf : OpcodeForm → SlotFields → FaultKind → Type 0
 IsFaultOf f s kind = (rest : List ℕ) → fault_in_form f s rest ≡ Some kind
 
--- the fault of a first slot whose opcode has this form, or none, with the bytes after it
+-- the fault of a first slot whose opcode has this form, with the bytes after it; Opcode if the
+-- opcode has no form (None)
 abbrev pub fault_by_form : Option OpcodeForm → SlotFields → List ℕ → Option FaultKind
 fault_by_form None s rest = Some Opcode
 fault_by_form (Some f) s rest = fault_in_form f s rest
 
--- a first slot whose opcode has this form, or none, has the fault, whatever bytes follow it
+-- a first slot whose opcode has this form has the fault, whatever bytes follow it; the fault is
+-- Opcode if the opcode has no form (None)
 abbrev pub IsFaultAt : Option OpcodeForm → SlotFields → FaultKind → Type 0
 IsFaultAt o s kind = (rest : List ℕ) → fault_by_form o s rest ≡ Some kind
 

@@ -32,7 +32,8 @@ size_at code =
     then size.Word
     else (if code == 1 then size.Half else (if code == 2 then size.Byte else size.Double))
 
--- the form with code 8, a negation, which has only source bit 0: section 4.1
+-- the form with code 8, a negation of 64 bits (wide) or 32, which has only source bit 0; None with
+-- source bit 1: section 4.1
 abbrev pub neg_at : Bool → SourceBit → Option OpcodeForm
 neg_at wide Imm = Some (form.Neg wide)
 neg_at wide Reg = None
@@ -53,7 +54,8 @@ alu_at wide source code =
     (if code == 13 then end_at wide source else
     option_and_then (λ op. Some (form.Alu wide op source)) (alu_by_number code))
 
--- the conditional jump whose condition has this code, if there is one: section 4.3
+-- the conditional jump whose condition has this code, on 64 bits (wide) or 32; None if no condition
+-- has it: section 4.3
 abbrev pub jump_by_condition : Bool → SourceBit → ℕ → Option OpcodeForm
 jump_by_condition wide source code =
     option_and_then (λ c. Some (form.Jump wide c source)) (condition_by_number code)
@@ -68,19 +70,19 @@ jump_at true Imm code =
     (if code == 9 then Some form.Exit else jump_by_condition true Imm code))
 jump_at false Imm code = if code == 0 then Some form.Jal else jump_by_condition false Imm code
 
--- the load with an opcode of class LDX, if there is one: sections 5.1 and 5.2. The table has for an
--- opcode whether the load extends the sign, and its size
+-- the load with an opcode of class LDX, None if there is none: sections 5.1 and 5.2. The table has
+-- for an opcode whether the load extends the sign, and its size
 abbrev pub load_at : ℕ → Option OpcodeForm
 load_at opcode = option_and_then (λ l. Some (form.Load l.1 l.0)) (load_by_opcode opcode)
 
--- the store with an opcode of class ST or STX, if there is one: its upper three bits are the mode
--- MEM, 3, and the next two the size (section 5.1)
+-- the store with an opcode of class ST or STX, None if there is none: its upper three bits are the
+-- mode MEM, 3, and the next two the size (section 5.1)
 abbrev pub store_at : ℕ → SourceBit → Option OpcodeForm
 store_at opcode source =
     if opcode / 32 == 3 then Some (form.Store (size_at (opcode / 8 % 4)) source) else None
 
--- the form of an opcode of class STX, if it has one: an atomic operation on four or eight bytes, or
--- a store of a register (sections 5.1 and 5.3)
+-- the form of an opcode of class STX: an atomic operation on four or eight bytes, or a store of a
+-- register; None if no instruction has this opcode (sections 5.1 and 5.3)
 abbrev pub register_store_at : ℕ → Option OpcodeForm
 register_store_at opcode =
     if opcode == 0xc3 then Some (form.Atomic atomic_size.Word) else
@@ -109,7 +111,8 @@ one_operand Imm s = s.src == 0
 one_operand Reg s = s.imm == 0
 
 -- whether the opcode of this operator, of two with one opcode the unsigned one, allows this offset
--- (section 4.1): at 1 a division is signed; 8, 16 or 32 are bits from which a move extends the sign
+-- (section 4.1), in an operation of 64 bits (wide) or 32: at 1 a division or a remainder is signed;
+-- 8, 16 or, if wide, 32 are the bits from which a move of a register extends the sign
 abbrev pub offset_listed : Bool → AluOp → SourceBit → ℕ → Bool
 offset_listed wide Div source offset = nat_le offset 1
 offset_listed wide Mod source offset = nat_le offset 1

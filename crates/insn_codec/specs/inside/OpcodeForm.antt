@@ -11,8 +11,9 @@ use Rattle.insn_codec.specs.declared.opcode.SourceBit.{SourceBit}
 -- Alu: an operation on two operands, with whether it is of 64 bits, its operator (of two with one
 -- opcode, the unsigned one), and which field has the second operand. Neg: a negation, with whether
 -- it is of 64 bits. End: a byte-order conversion. Ja, Jal: jumps of class JMP and JMP32 without a
--- condition. Jump: a conditional one, with whether it compares 64 bits. Load: with its size, and
--- whether it extends the sign. Store, Atomic: with their sizes. Wide: a wide load
+-- condition. Jump: a conditional one, with whether it compares 64 bits, its condition, and which
+-- field has the second operand. Load: with its size, and whether it extends the sign. Store: with
+-- its size, and which field has the stored operand. Atomic: with its size. Wide: a wide load
 pub data OpcodeForm : Type 0 where
   Alu : Bool → AluOp → SourceBit → OpcodeForm
   Neg : Bool → OpcodeForm

@@ -26,7 +26,7 @@ enum Deed {
 }
 
 impl Deed {
-    /// The verb for it, whose subject is the instruction.
+    /// What the instruction does with the bytes, as a verb of which it is the subject.
     fn verb(self) -> &'static str {
         match self {
             Deed::Load | Deed::SignedLoad => "reads",
@@ -43,7 +43,7 @@ struct Access {
     base: u8,
     /// The offset of the bytes from the base register.
     offset: i64,
-    /// How many bytes it accesses.
+    /// How many bytes the instruction accesses.
     bytes: i64,
     /// The number of the source register of a store or of an atomic operation; `None` for a load, and for a store of a constant.
     given: Option<u8>,
@@ -162,6 +162,7 @@ pub(crate) fn write_unwritten(
 }
 
 /// The lowest spill that overlaps the stack bytes from `first` to `last`: the offset of its lowest byte, and the kind of its pointer.
+/// `None` if no spill does.
 fn spill_among(facts: &Facts, first: i64, last: i64) -> Option<(i64, Kind)> {
     for index in 0..STACK_SLOTS {
         let lowest = 8 * index as i64 - 8 * STACK_SLOTS as i64;
@@ -203,7 +204,7 @@ pub(crate) fn write_part_of_spill(
     }
 }
 
-/// Writes that a register has a pointer, which only a store of eight bytes may store, and not this one of `bytes` bytes.
+/// Writes that a register has a pointer, which only a store of eight bytes may store, and not the rejected store of `bytes` bytes.
 fn write_part_stored(
     text: &mut String,
     facts: &Facts,
@@ -214,7 +215,8 @@ fn write_part_stored(
     write!(text, ", and is stored by 8 bytes, not by {bytes}")
 }
 
-/// The size of the values of a map in bytes. 0 if the descriptor names no map, which is never so for the map of a kind.
+/// The size in bytes of the values of the map with this descriptor. 0 if it names no map, which can't occur: kinds only have descriptors of
+/// maps.
 pub(crate) fn value_size_of(named: &[Named], fd: u32) -> u32 {
     match shape_of(named, fd) {
         Some(shape) => shape.value_size,

@@ -14,7 +14,7 @@ use tagged_model::{Helper, Named, known_helper, shape_of};
 use transfer::LENGTHS_END;
 use words::STACK_SIZE;
 
-/// What an argument is.
+/// What an argument of a helper has to be.
 #[derive(Clone, Copy, PartialEq, Eq)]
 enum Role {
     Map,
@@ -27,7 +27,7 @@ enum Role {
     Key,
     /// A pointer to the bytes of a value, which are read.
     Value,
-    /// A pointer to bytes that are written; the length argument says how many.
+    /// A pointer to bytes that the helper writes; the argument of the role `Length` says how many.
     Room,
 }
 
@@ -105,8 +105,8 @@ pub(crate) fn has_argument(id: i32, register: u8) -> bool {
     }
 }
 
-/// How many bytes an argument points to: the size of a key or a value of the map in register 1, or the greatest length that register 4
-/// may have; 0 if it points to none, or no map or length is known.
+/// How many bytes an argument points to: the size of a key or a value of the map in register 1, or the greatest length that register 4 may
+/// have. 0 if it points to none, or no map or length is known, or the length does not fit 32 bits: then it is rejected itself.
 fn count_of(named: &[Named], facts: &Facts, role: Role) -> u32 {
     let (map, length) = (kind_of(facts, 1), kind_of(facts, 4));
     match (role, map, length) {
@@ -173,7 +173,7 @@ fn refused_argument(refusal: &RefusedProgram<'_>, helper: Helper) -> Option<Argu
     None
 }
 
-/// What an argument has to be, as the rest of a sentence.
+/// What an argument in this role has to be, as the rest of a sentence.
 fn needed(role: Role) -> &'static str {
     match role {
         Role::Map => ", and a map is needed",
@@ -185,8 +185,8 @@ fn needed(role: Role) -> &'static str {
     }
 }
 
-/// Writes what is known of the length argument, register 4, against what is needed. It is a number: for another kind the reason is
-/// `HelperArgument`.
+/// Writes what is known of the length argument, register 4, of this kind, against what is needed. Nothing is written unless it is a number,
+/// which it is: for another kind the reason is `HelperArgument`.
 fn write_length(text: &mut String, kind: Kind) -> Result<(), AllocError> {
     let Kind::Scalar(range) = kind else {
         return Ok(());

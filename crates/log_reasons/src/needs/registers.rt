@@ -10,7 +10,8 @@ use std::alloc::AllocError;
 use std::fmt::Write;
 use words::REGISTERS;
 
-/// The kind of a register, by its number. Registers are 0 to 10; the test is needed since the type has other numbers too.
+/// The kind of a register, by its number. Registers are 0 to 10; the test is needed since the type has other numbers too, which do not
+/// occur and count as unreadable.
 pub(crate) fn kind_of(facts: &Facts, register: u8) -> Kind {
     let number = usize::from(register);
     if number < REGISTERS {
@@ -43,7 +44,8 @@ pub(crate) fn register_of(src: Operand) -> Option<u8> {
     }
 }
 
-/// `first` if it is unreadable, else `second`: one of the two is, since the reason is `UnreadableRegister`.
+/// The unreadable one of the two registers that an instruction reads (`None`: no register): `first` if it is unreadable, else `second`. One
+/// of the two is, since the reason is `UnreadableRegister`.
 fn unreadable_of(facts: &Facts, first: Option<u8>, second: Option<u8>) -> Option<u8> {
     match first {
         Some(register) if kind_of(facts, register) == Kind::Unreadable => first,
@@ -61,8 +63,8 @@ fn unreadable_argument(facts: &Facts, id: i32) -> Option<u8> {
     None
 }
 
-/// The number of the unreadable register that the rejected instruction reads. A call reads its helper's arguments, which its profile does
-/// not list.
+/// The number of the unreadable register that the rejected instruction reads. `None` if there is none, which can't occur. A call reads its
+/// helper's arguments, which its profile does not list.
 fn unreadable_in(facts: &Facts, insn: &Insn) -> Option<u8> {
     let row = insn.profile();
     match row.reference {
@@ -99,7 +101,7 @@ pub(crate) fn write_result(
     text.push_str(", and a number is needed")
 }
 
-/// Writes what is known of the operands of a comparison, against what it needs.
+/// Writes what is known of the operands `dst` and `src` of a comparison, of `src` only if it is a register, against what it needs.
 pub(crate) fn write_comparison(
     text: &mut String,
     refusal: &RefusedProgram<'_>,

@@ -51,13 +51,13 @@ fn fd_of(insn: &Insn) -> u32 {
     insn.profile().reference.descriptor().unwrap_or(0)
 }
 
-/// Writes what the instruction's descriptor names instead of a map: nothing, or a program.
+/// Writes what the instruction's descriptor names instead of a map: `what`, which is `nothing` or `a program`.
 fn write_no_map(text: &mut String, insn: &Insn, what: &str) -> Result<(), AllocError> {
     let fd = fd_of(insn);
     write!(text, "descriptor {fd} names {what}, and a map is needed")
 }
 
-/// Writes that control leaves the program at its end.
+/// Writes that control goes on past the last slot of the program.
 fn write_falls_off(text: &mut String, refusal: &RefusedProgram<'_>) -> Result<(), AllocError> {
     let next = refusal.program.slots();
     write!(
@@ -81,7 +81,7 @@ fn write_unknown_helper(text: &mut String, insn: &Insn) -> Result<(), AllocError
 }
 
 /// Writes why the address of a direct value can't be loaded: the map is a hash map, has not exactly one element, or the offset is
-/// not in its value. That the descriptor names no map is another reason, so the first arm can't occur.
+/// not in its value. The `else` can't occur: that the descriptor names no map is another reason.
 fn write_no_value(text: &mut String, named: &[Named], insn: &Insn) -> Result<(), AllocError> {
     let fd = fd_of(insn);
     let reference = insn.profile().reference;

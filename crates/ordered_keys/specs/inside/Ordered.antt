@@ -11,7 +11,8 @@ next_of_elements None ps = first_element ps
 next_of_elements (Some p) ps = following p ps
 
 module _ {K : Type 0} where
-  -- the entry of element p: that at its index, which `indices` has, of the entries of the table
+  -- the entry of element p: that of the table's entries `es` at the index which `indices` has for
+  -- p, or at 0 if it has none; None if there is no entry
   abbrev pub entry_of : List (K × ℕ) → List ℕ → ℕ → Option (K × ℕ)
   entry_of es indices p = slice_get es (slice_index_or indices p 0)
 
@@ -20,24 +21,24 @@ module _ {K : Type 0} where
   is_entry_of p None = false
   is_entry_of p (Some e) = nat_eq e.1 p
 
-  -- the key of an element, if there is one
+  -- the key of an element; None if no element is given, or it has no entry
   abbrev pub key_of : List (K × ℕ) → List ℕ → Option ℕ → Option K
   key_of es indices None = None
   key_of es indices (Some p) = option_map (λ e. e.0) (entry_of es indices p)
 
-  -- the entries of these elements, in order
+  -- the entries of these elements, in order; an element without an entry is left out
   abbrev pub in_order : List (K × ℕ) → List ℕ → List ℕ → List (K × ℕ)
   in_order es indices [] = []
   in_order es indices (p ∷ ps) = option_to_list (entry_of es indices p) ++ in_order es indices ps
 
-  -- each element has an entry
+  -- each of these elements has an entry, which has this element
   abbrev pub HaveEntries : List (K × ℕ) → List ℕ → List ℕ → Type 0
   HaveEntries es indices [] = Unit {0}
   HaveEntries es indices (p ∷ ps) =
       ((k : K) × (entry_of es indices p ≡ Some (k, p))) × HaveEntries es indices ps
 
   -- each element of the order is that of one entry, and each entry's element is in the order;
-  -- `indices` has the index of the entry of each
+  -- `indices` has the index of the entry of each. The bound is a number of 32 bits
   pub record IsIndexed (es : List (K × ℕ)) (indices : List ℕ) (order : Order) : Type 0 where
     pub long : length indices ≡ order.bound
     pub small : order.bound < 2 ^ 32
@@ -62,8 +63,9 @@ AreApart {K} eq es =
 abbrev pub HasAllRows : {K S : Type 0} → ℕ → IndexMap K ℕ S → Type 0
 HasAllRows bound table = bound ≤ index_map_len table + spare table
 
--- the table has room for the entries of all elements, and the rows, of which there are none, for
--- half of them; `rows` is the number of the rows, and `capacity` that for which they have room
+-- the table, the indices and the order agree, and the table has room for the entries of all
+-- elements. The buffer is empty, `rows` being the number of entries in it, and has room for
+-- `capacity` entries, at least half of all
 pub record IsWhole {K S : Type 0} (table : IndexMap K ℕ S) (indices : List ℕ) (order : Order)
     (rows capacity : ℕ) : Type 0 where
   pub indexed : IsIndexed table.entries indices order

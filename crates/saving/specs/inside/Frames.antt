@@ -22,8 +22,9 @@ tail_length (prog_load kind slots) = length slots
 tail_length (prog_test_run fd words packet) = length packet
 tail_length (close fd) = 0
 
--- The reply to a command is the machine's, if memory is refused or not, and is not the reply to a
--- run that faults. The state after it is the machine's, and the births are those after the command.
+-- The reply to a command is the machine's, whether memory is refused to it (`refused`) or not, and
+-- is not the reply to a run that faults. The state `after` it is the machine's, and the births
+-- `later` are those after the command.
 pub record AnswersCommand (command : Command) (head : Head) (reply : List ℕ)
     (before after : TenantState) (births later : List Birth) : Type 0 where
   pub refused : Bool

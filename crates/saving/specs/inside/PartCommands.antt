@@ -11,7 +11,8 @@ use Rattle.saving.specs.Births.{Birth}
 use Rattle.saving.specs.Restored.{filled, closings}
 use Rattle.saving.specs.SaveParts.{puts_of, creation, birth_parts}
 
--- the commands of one part of a save; a part of keys puts those from index `first` on
+-- the commands of one part of a save; a part of keys puts those from index `first` on, at most
+-- `KEYS_OF_PART`
 abbrev pub part_commands : TenantState → SavePart → List Command
 part_commands s Filling = filled most
 part_commands s (Creation b) = creation s b
@@ -19,8 +20,8 @@ part_commands s (Keys handle fd first) =
     take KEYS_OF_PART (drop first (puts_of fd (live s handle)))
 part_commands s Closing = closings s.objects first_descriptor most
 
--- the parts of a save after the first one: those of each birth, and the closes of free descriptors;
--- the births have the oldest first
+-- the parts of a save after the first one: those of each birth, and the closes of the descriptors
+-- that are not open in s; the births have the oldest first
 abbrev pub later_parts : TenantState → List Birth → List (List Command)
 later_parts s births =
     flat_map (birth_parts s) births ++ closings s.objects first_descriptor most ∷ []

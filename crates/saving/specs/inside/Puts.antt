@@ -14,7 +14,8 @@ closing fd o = if is_none o then close fd ∷ [] else []
 abbrev pub puts : ℕ → List NumberedEntry → List Command
 puts fd es = map (λ (e : NumberedEntry). put_of fd e.0) es
 
--- the entries after the entry of element p; none if no entry has this element, its second part
+-- the entries after the entry of element p; none if no entry has this element. The element of an
+-- entry is e.1
 abbrev pub entries_after : {K : Type 0} → ℕ → List (K × ℕ) → List (K × ℕ)
 entries_after p [] = []
 entries_after p (e ∷ es) = if nat_eq p e.1 then es else entries_after p es

@@ -6,7 +6,7 @@ use Rattle.text_line.specs.declared.token.ByteClass.TheVariants.{Blank, Name, Di
 use Rattle.text_line.specs.Blanks.{is_blank}
 use Rattle.text_line.specs.Token.{is_name_byte, is_hex_digit}
 
--- a byte is of this class; `Name` has the bytes of a name after its first
+-- whether a byte is of this class; `Name` has the bytes of a name after its first, so digits too
 abbrev pub in_class : ByteClass → ℕ → Bool
 in_class Blank b = is_blank b
 in_class Name b = is_name_byte b

@@ -102,25 +102,25 @@ leading_number (name n ∷ ts) = None
 leading_number (number v ∷ ts) = Some (v, ts)
 leading_number (symbol t ∷ ts) = None
 
--- the tokens after this symbol, if it is the first
+-- the tokens after this symbol, if it is the first; `None` if it is not
 unfoldable pub after_symbol : List ℕ → List Token → Option (List Token)
 after_symbol expected ts =
     leading_symbol ts >>= λ s. if bytes_eq s.0 expected then Some s.1 else None
 
--- the tokens after this name, if it is the first
+-- the tokens after this name, if it is the first; `None` if it is not
 unfoldable pub after_word : List ℕ → List Token → Option (List Token)
 after_word expected ts = leading_name ts >>= λ n. if bytes_eq n.0 expected then Some n.1 else None
 
 -- ---- parts of a line, and the tokens after them
 
--- a register: r (64 bits) if wide, else w (the low 32)
+-- a register: r (64 bits) if wide, else w (the low 32); `None` if the first token is no such name
 unfoldable pub leading_register : Bool → List Token → Option (ℕ × List Token)
 leading_register wide ts = do
   n ← leading_name ts
   r ← named registers n.0
   if bool_eq r.0 wide then Some (r.1, n.1) else None
 
--- a number that was read without its sign, with a minus if `negative`
+-- a number that was read without its sign, with a minus if `negative`; `None` if none was read
 abbrev pub number_from : Bool → Option (Option ℕ × List Token) → Option (Number × List Token)
 number_from negative o = option_map (λ v. (record { negative = negative; magnitude = v.0 }, v.1)) o
 
@@ -130,7 +130,7 @@ leading_constant ts =
     match_option (after_symbol (codes "-") ts) (number_from false (leading_number ts))
     (λ rest. number_from true (leading_number rest))
 
--- a number after its sign, + or -
+-- a number after its sign, + or -; `None` of a number without a sign
 unfoldable pub leading_signed_number : List Token → Option (Number × List Token)
 leading_signed_number ts =
     match_option (after_symbol (codes "+") ts)
@@ -153,7 +153,8 @@ is_ended (t ∷ ts) = false
 abbrev pub at_end : {A : Type 0} → A → List Token → Option A
 at_end x ts = if is_ended ts then Some x else None
 
--- the target of a jump and the name of its label, empty if it is a number; and nothing more
+-- the target of a jump and the name of its label, empty if it is a number; `None` if more tokens
+-- follow
 unfoldable pub parsed_destination : List Token → Option (JumpTarget × List ℕ)
 parsed_destination ts =
     match_option (leading_signed_number ts)
@@ -201,13 +202,14 @@ atomic_size_of _ _ = None
 
 -- ---- operations
 
--- an operator of two operands or a move, from the tokens after its symbol: its source
+-- an operator of two operands or a move, from the tokens after its symbol: its source, a constant,
+-- or a register, r if wide, else w
 unfoldable pub parsed_binary : Bool → AluOp → List Token → Option Operation
 parsed_binary wide op ts =
     leading_operand wide ts >>= λ src. at_end (operation.Binary op src.0) src.1
 
--- a move with sign extension, from the tokens after `(`, as s16)r2. A w register has none from 32
--- bits, which are all of its bits.
+-- a move with sign extension, from the tokens after `(`, as s16)r2; of an r register if wide, else
+-- of a w register, which has none from 32 bits, as these are all of its bits
 unfoldable pub parsed_sign_extension : Bool → List Token → Option Operation
 parsed_sign_extension wide ts = do
   n ← leading_name ts
@@ -217,7 +219,7 @@ parsed_sign_extension wide ts = do
   if wide || is_short from then at_end (operation.SignExtend from src.0) src.1 else None
 
 -- the operation `o`, which names its destination `dst` on both sides of `=`: the tokens are `dst`
--- again
+-- again, as an r register if wide, else as a w register
 unfoldable pub parsed_in_place : Bool → ℕ → Operation → List Token → Option Operation
 parsed_in_place wide dst o ts =
     leading_register wide ts >>= λ r. if r.0 == dst then at_end o r.1 else None
@@ -230,7 +232,8 @@ parsed_end dst ts = do
   parsed_in_place true dst (operation.End o.0 o.1) n.1
 
 -- an operation of one operand, from the tokens after `=`: a move with sign extension begins with
--- `(`, a negation with `-`; any other is a byte-order conversion
+-- `(`, a negation with `-`; any other is a byte-order conversion, which only an r register (wide)
+-- has
 unfoldable pub parsed_unary : Bool → ℕ → List Token → Option Operation
 parsed_unary wide dst ts =
     match_option (after_symbol (codes "(") ts)
@@ -238,13 +241,13 @@ parsed_unary wide dst ts =
     (λ rest. parsed_in_place wide dst operation.Neg rest))
     (λ rest. parsed_sign_extension wide rest)
 
--- the operator is a move, whose symbol is `=`
+-- whether the operator is a move, whose symbol is `=`
 abbrev pub is_move : AluOp → Bool
 is_move Mov = true
 is_move _ = false
 
--- an operation on dst, from the tokens after the symbol of its operator; an operation of one
--- operand is written with `=`, the symbol of a move
+-- an operation on dst, an r register if wide, else w, from the tokens after the symbol of its
+-- operator; an operation of one operand is written with `=`, the symbol of a move
 unfoldable pub parsed_operation : Bool → AluOp → ℕ → List Token → Option Operation
 parsed_operation wide op dst ts =
     match_option (parsed_binary wide op ts) (if is_move op then parsed_unary wide dst ts else None)
@@ -252,7 +255,7 @@ parsed_operation wide op dst ts =
 
 -- ---- forms
 
--- a load into dst, from the tokens after `=`
+-- a load into dst, from the tokens after `=`: a memory operand, whose size may be signed
 unfoldable pub parsed_load : ℕ → List Token → Option Form
 parsed_load dst ts = do
   (((signed, size), at), ts) ← leading_address ts
@@ -266,7 +269,8 @@ parsed_store ts = do
   (src, ts) ← leading_operand true ts
   if signed then None else at_end (form.Access (access.Store size src) at) ts
 
--- an atomic operation, from the tokens after `lock`
+-- an atomic operation, from the tokens after `lock`: a memory operand of 4 or 8 bytes, not signed,
+-- the operation's symbol, and an r register
 unfoldable pub parsed_atomic : List Token → Option Form
 parsed_atomic ts = do
   (((signed, size), at), ts) ← leading_address ts
@@ -276,7 +280,7 @@ parsed_atomic ts = do
   (src, ts) ← leading_register true ts
   at_end (form.Access (access.Atomic size op src) at) ts
 
--- a load of a 64-bit value into dst, from the tokens after `=`
+-- a load of a 64-bit value into dst, from the tokens after `=`: the value, and `ll`
 unfoldable pub parsed_wide_load : ℕ → List Token → Option Form
 parsed_wide_load dst ts = do
   v ← leading_wide_value ts
@@ -320,7 +324,7 @@ parsed_branch ts = do
 abbrev pub parsed_call : List Token → Option Form
 parsed_call ts = leading_constant ts >>= λ n. at_end (form.Call n.0) n.1
 
--- a form that names no label, with the empty name
+-- a form that names no label, with the empty name; `None` if there is no form
 abbrev pub without_label : Option Form → Option (Form × List ℕ)
 without_label o = option_map (λ f. (f, [])) o
 

@@ -16,7 +16,7 @@ abbrev pub is_hexadecimal : List ℕ → Bool
 is_hexadecimal text =
     slice_index text 0 == 48 && slice_index text 1 == 120 && is_hex_digit (slice_index text 2)
 
--- the bytes at the front that pass a test
+-- the bytes at the front that pass a test, up to the first that does not
 abbrev pub run : (ℕ → Bool) → List ℕ → List ℕ
 run test text = take (prefix_len test text) text
 

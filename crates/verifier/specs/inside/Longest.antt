@@ -48,8 +48,8 @@ most_from weight code i (suc n) =
 
 -- ---- the most on a path
 
--- the most on a path that ends with this instruction, from the most on the way to it; 0 if it is no
--- exit
+-- the most on a path that ends with this instruction, from the most on the way to it (`before`); 0
+-- if it is no exit, or there is none (None)
 abbrev pub at_exit : (Insn → ℕ) → Option Insn → ℕ → ℕ
 at_exit weight None before = 0
 at_exit weight (Some insn) before = if is_exit insn then before + weight insn else 0
@@ -105,8 +105,9 @@ abbrev pub LeadTo : List Insn → ℕ → Paths → Type 0
 LeadTo code slot paths =
     (nat_lt 0 paths.here.instructions || slot == 0) ≡ is_reachable code slot
 
--- a simple instruction: its only successor is the next one, which exists; it names nothing, does
--- not write the frame pointer, and comes after another one
+-- an instruction with the properties `row` is simple: its only successor is at slot `next`, one of
+-- the program's slots (`slots` is how many); it names nothing, does not write the frame pointer,
+-- and comes after another one on some path
 pub record IsSimple (row : Profile) (next slots : ℕ) (paths : Paths) : Type 0 where
   pub goes_on : row.successors ≡ Next
   pub names : row.reference ≡ Nothing

@@ -103,7 +103,8 @@ pub record ReadsWholeInput (before after : Option (List ℕ)) (input : List ℕ)
   pub end : IsAtEnd after
 
 -- why there is no input: it is too long, and then one byte more than allowed was read; a call
--- failed; or memory ran out before anything was read. No other failure is one of reading
+-- failed; or memory ran out before anything was read. No other failure is one of reading. `before`
+-- and `after` are what the reader has left, if it is known
 abbrev pub HasNoInput : Failure → Option (List ℕ) → Option (List ℕ) → ℕ → ℕ → Type 0
 HasNoInput TooLong before after failures_before failures_after =
     ((bytes : List ℕ) × (length bytes ≡ LONGEST_INPUT + 1) × Consumes before after bytes)
@@ -129,7 +130,7 @@ WritesNothing old new = (new.output ≡ old.output) × (new.write_failures ≡ o
 -- Below, `made` relates an input to its output, and `refused` relates it to the failure for which
 -- it is rejected.
 
--- the input was read, and its whole output written; no call failed
+-- the input was read, and the output that `made` relates to it was written whole; no call failed
 pub record WritesWholeOutput (made : List ℕ → List ℕ → Type 0) (old new : Streams) : Type 0 where
   pub input : List ℕ
   pub output : List ℕ
@@ -138,7 +139,8 @@ pub record WritesWholeOutput (made : List ℕ → List ℕ → Type 0) (old new 
   pub written : Appends old.output new.output output
   pub sound : (new.read_failures ≡ old.read_failures) × (new.write_failures ≡ old.write_failures)
 
--- the input was read and is rejected, or memory ran out
+-- the input was read and is rejected, with a failure that `refused` relates to it, or memory ran
+-- out; nothing was written
 pub record RefusesInput (refused : List ℕ → Failure → Type 0) (old new : Streams)
     (failure : Failure) : Type 0 where
   pub input : List ℕ
@@ -147,8 +149,8 @@ pub record RefusesInput (refused : List ℕ → Failure → Type 0) (old new : S
   pub silent : WritesNothing old new
   pub sound : new.read_failures ≡ old.read_failures
 
--- the input was read, the first `count` bytes of its output were written, which may be all of them,
--- and a call of the writer failed
+-- the input was read, of the output that `made` relates to it the first `count` bytes were written,
+-- which may be all of them, and a call of the writer failed
 pub record CutsOutput (made : List ℕ → List ℕ → Type 0) (old new : Streams)
     (failure : Failure) : Type 0 where
   pub input : List ℕ

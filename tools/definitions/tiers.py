@@ -19,13 +19,13 @@ LAWS, SERVED, HOST = "host_core/specs/Laws.antt", "host_core/specs/Served.antt",
 MACHINE, STATE, REPLIES = "tenant/specs/Machine.antt", "tenant/specs/State.antt", "tenant/specs/Alone.antt"
 VERDICT, OF_LAWS = "verifier/specs/Verdict.antt", "host_core/src/laws.rt"
 # The first theorem: two statements on hosts and lists of frames, each the contract of a function in src/laws.rt.
-THEOREM = [name(LAWS, "SameFramesSameReplies"), name(LAWS, "EachIsToldAloneUntilRefused")]
+THEOREM = [name(LAWS, "SameFramesSameReplies"), name(LAWS, "EachIsServedAloneUntilRefused")]
 # The same by replies: what a tenant gets on each stretch of frames on which none of its replies has the status -12.
-STRETCHES = [name(LAWS, "EachStretchIsToldAlone")]
+STRETCHES = [name(LAWS, "EachStretchIsServedAlone")]
 # The second one: `serve`, what a host begins with, and what the program passes to `serve`.
 STREAMS = [name("host_core/src/server.rt", "serve"), name(HOST, "new"), name("host_core/src/stream.rt", "Counted")]
 # Definitions that get only a tenant's own frames, replies and states: what its machine replies to a frame, and to a list of them.
-OF_THE_MACHINE = frozenset({*(name(REPLIES, word) for word in ("RepliesUnder", "IsToldAlone", "IsFault")), name(STATE, "TenantState")})
+OF_THE_MACHINE = frozenset({*(name(REPLIES, word) for word in ("RepliesUnder", "IsServedAlone", "IsFault")), name(STATE, "TenantState")})
 # The verdict on a program.
 OF_THE_VERDICT = frozenset({name(VERDICT, "IsAccepted"), name(VERDICT, "IsRefused")})
 # The definitions between the contract of `serve` and the reply to a command.
@@ -42,7 +42,7 @@ TIERS: tuple[tuple[str, list[Name], frozenset[Name]], ...] = (
     ("For streams", STREAMS, OF_THE_MACHINE | {name(REPLIES, "IsRefusedMemory"), name(STATE, "new_tenant")}),
     ("For what is replied", [], OF_THE_VERDICT),
     ("For which programs are accepted", [], frozenset[Name]()),
-    ("For the library", [name(OF_LAWS, "calls_are_told_alone")], frozenset[Name]()),
+    ("For the library", [name(OF_LAWS, "calls_are_served_alone")], frozenset[Name]()),
     ("For batches", [name(HOST, "run_packets"), name(OF_LAWS, "batch_is_its_calls")], frozenset[Name]()),
     ("For saves", [name(HOST, "save"), name(HOST, "tenants_are_restored"), name(OF_LAWS, "tenants_are_restored")], frozenset[Name]()),
     ("For installed programs", [name("host_core/src/installing.rt", "install")], frozenset[Name]()),

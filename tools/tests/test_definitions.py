@@ -52,7 +52,7 @@ class Tiers(unittest.TestCase):
     def test_cuts(self) -> None:
         first, stretches, streams, replies, verdict = tiers()[:5]
         self.assertIn(name("host_core/specs/Handled.antt", "HandlesInOrder"), first.names)
-        self.assertIn(name(LAWS, "EachStretchIsToldAlone"), stretches.names)
+        self.assertIn(name(LAWS, "EachStretchIsServedAlone"), stretches.names)
         self.assertIn(name("host_core/specs/Served.antt", "ServesStream"), streams.names)
         self.assertIn(name("command_frames/specs/Frame.antt", "reply_to"), replies.names)
         self.assertIn(name("verifier/specs/Maps.antt", "maps_of"), replies.names)
@@ -60,7 +60,7 @@ class Tiers(unittest.TestCase):
 
     def test_claims(self) -> None:
         library, batches, saves, installed = tiers()[5:]
-        self.assertIn(name(LAWS, "CallsAreToldAlone"), library.names)
+        self.assertIn(name(LAWS, "CallsAreServedAlone"), library.names)
         self.assertLessEqual({name("host_core/src/host.rt", "run_packets"), name("host_core/specs/Batch.antt", "BatchIsItsCalls")}, batches.names)
         self.assertIn(name("host_core/specs/Saving.antt", "TenantsAreRestored"), saves.names)
         self.assertIn(name("host_core/specs/Installs.antt", "Installs"), installed.names)
@@ -129,8 +129,8 @@ class Checks(unittest.TestCase):
 
     def test_laws(self) -> None:
         self.assertEqual(checks.unproved(), [])
-        with mock.patch.object(checks, "roots", lambda: [name(LAWS, "EachIsToldByItsMachine")]):
-            self.assertEqual(checks.unproved(), ["no function in crates/host_core/src/laws.rt has the contract EachIsToldByItsMachine"])
+        with mock.patch.object(checks, "roots", lambda: [name(LAWS, "EachIsServedByItsMachine")]):
+            self.assertEqual(checks.unproved(), ["no function in crates/host_core/src/laws.rt has the contract EachIsServedByItsMachine"])
 
 
 if __name__ == "__main__":

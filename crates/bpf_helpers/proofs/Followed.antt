@@ -33,7 +33,7 @@ use Rattle.bpf_helpers.proofs.Loads.{number_word, load_stands}
 use Rattle.bpf_helpers.proofs.Wider.{extends_itself}
 use Rattle.bpf_helpers.proofs.Updates.{updates_keep_simulation}
 use Rattle.bpf_helpers.proofs.Deletes.{deletes_keep_simulation}
-use Rattle.bpf_helpers.specs.States.{CallSite, CallAnswer, Environment, FlatState, answers, site_in, with_answer, with_held, with_memory}
+use Rattle.bpf_helpers.specs.States.{CallSite, CallResult, Environment, FlatState, answers, site_in, with_result, with_held, with_memory}
 
 -- if only the keys of one map change, each map has as many holds as before
 same_holds : (old new : LiveMaps) (k : ℕ) → OnlyKeysChange k old new → (key : ℕ) → holds_at new key ≡ holds_at old key
@@ -125,9 +125,9 @@ module _ (env : Environment) (l : Layout) (flat : FlatState) (s : RunState)
   -- a call that changes only the keys of one bound map
   changes_keys : (m : ℕ)
       → m < length env.bind
-      → (answer : CallAnswer) → OnlyKeysChange (slice_index env.bind m) flat.maps answer.maps
+      → (answer : CallResult) → OnlyKeysChange (slice_index env.bind m) flat.maps answer.maps
       → (layout : Layout) → Extends l layout
-      → (u : RunState) → Simulates env layout (with_answer flat answer) u
+      → (u : RunState) → Simulates env layout (with_result flat answer) u
       → ResultFollows env l flat u answer
   changes_keys m within answer rest layout more u after = record {
     layout = layout;
@@ -141,7 +141,7 @@ module _ (env : Environment) (l : Layout) (flat : FlatState) (s : RunState)
 
   -- a call that does not change the maps
   leaves_maps : (word : ℕ) (after : Memory) (u : RunState)
-      → Simulates env l (with_answer flat (answers word after flat.maps)) u
+      → Simulates env l (with_result flat (answers word after flat.maps)) u
       → ResultFollows env l flat u (answers word after flat.maps)
   leaves_maps word after u stands = record {
     layout = l;
@@ -158,7 +158,7 @@ module _ (env : Environment) (l : Layout) (flat : FlatState) (s : RunState)
         → word ≡ unwrap_or (flat_look_up (site_in env flat) (slice_index words 0) (slice_index words 1)) 0
         → called LookUp s ≡ Some u
         → ResultFollows env l flat u (answers word flat.memory flat.maps)
-    look_up_followed word u told e =
+    look_up_followed word u seen e =
         let f = look_ups_follow below.along env l flat s u room stands e in
         let same : flat_look_up (site_in env flat) (slice_index words 0) (slice_index words 1)
         ≡ flat_look_up (site_in env flat) (slice_index flat.registers 1) (slice_index flat.registers 2) =
@@ -166,7 +166,7 @@ module _ (env : Environment) (l : Layout) (flat : FlatState) (s : RunState)
         ∙ ap (λ (w : ℕ). flat_look_up (site_in env flat) (slice_index flat.registers 1) w) (args 1 (omega arith)) in
         by f.0 f.1
         (flat_look_up (site_in env flat) (slice_index words 0) (slice_index words 1))
-        told
+        seen
         (subst (λ x. GivesWord env l x (Some f.0)) (sym same) f.2)
       where
         by : (v : Tagged)
@@ -176,17 +176,17 @@ module _ (env : Environment) (l : Layout) (flat : FlatState) (s : RunState)
         by v after None f g = absurd g
         by v after (Some w) f g =
             leaves_maps word flat.memory u
-            (subst (λ (x : RunState). Simulates env l (with_answer flat (answers word flat.memory flat.maps)) x)
+            (subst (λ (x : RunState). Simulates env l (with_result flat (answers word flat.memory flat.maps)) x)
             (sym after)
             (returned env l flat s v word stands (subst (IsWord env l v) (sym f) g)))
 
-    update_followed : (reply : CallAnswer) (u : RunState)
+    update_followed : (reply : CallResult) (u : RunState)
         → UpdatesNamed (site_in env flat)
         (pair_named (site_in env flat) (slice_index words 0) (slice_index words 1) (slice_index words 2))
         (slice_index words 3) reply
         → called Update s ≡ Some u
         → ResultFollows env l flat u reply
-    update_followed reply u told e =
+    update_followed reply u seen e =
         let a =
         also_some (map_argument s 1)
         (λ g.
@@ -214,11 +214,11 @@ module _ (env : Environment) (l : Layout) (flat : FlatState) (s : RunState)
         (λ flags. Some (replies s g.descriptor (updated g.map b.0 c.0 flags)))
         u c.2 in
         subst (λ (x : RunState). ResultFollows env l flat x reply) (same_Some _ u d.2)
-        (update_by reply told
+        (update_by reply seen
         (record { given = g; key = b.0; value = c.0; flags = d.0 })
         a.1 b.1 c.1 d.1 (map_there g a.1))
       where
-        update_by : (reply : CallAnswer)
+        update_by : (reply : CallResult)
             → UpdatesNamed (site_in env flat)
             (pair_named (site_in env flat) (slice_index words 0) (slice_index words 1) (slice_index words 2))
             (slice_index words 3) reply
@@ -228,7 +228,7 @@ module _ (env : Environment) (l : Layout) (flat : FlatState) (s : RunState)
             → argument s 4 number_given ≡ Some asked.flags
             → IsMap asked.given
             → ResultFollows env l flat (replies s asked.given.descriptor (update_reply asked)) reply
-        update_by reply told asked first second third fourth m =
+        update_by reply seen asked first second third fourth m =
             let g = asked.given in
             let key = asked.key in
             let value = asked.value in
@@ -249,7 +249,7 @@ module _ (env : Environment) (l : Layout) (flat : FlatState) (s : RunState)
             (slice_index words 2) (key_is_named m key keys.0) value
             values.0 in
             let r : Updates (site_in env flat) pair (slice_index words 3) reply =
-            subst (λ o. UpdatesNamed (site_in env flat) o (slice_index words 3) reply) is told in
+            subst (λ o. UpdatesNamed (site_in env flat) o (slice_index words 3) reply) is seen in
             let flags_are : slice_index words 3 ≡ flags =
             args 3 (omega arith) ∙ number_word env l flat s room stands 4 flags (omega arith) fourth in
             let st =
@@ -266,7 +266,7 @@ module _ (env : Environment) (l : Layout) (flat : FlatState) (s : RunState)
         → DeletesNamed flat.maps (key_named (site_in env flat) (slice_index words 0) (slice_index words 1)) word new
         → called Delete s ≡ Some u
         → ResultFollows env l flat u (answers word flat.memory new)
-    delete_followed word new u told e =
+    delete_followed word new u seen e =
         let a =
         also_some (map_argument s 1)
         (λ g.
@@ -284,13 +284,13 @@ module _ (env : Environment) (l : Layout) (flat : FlatState) (s : RunState)
         bytes_there 1 g.map.table.shape.key_size (shape_at flat.maps k).key_size b.0 (omega arith)
         (ap (λ (x : MapShape). x.key_size) (map_shape m)) b.1 in
         let r : Deletes flat.maps (record { map = k; key = b.0 }) word new =
-        subst (λ o. DeletesNamed flat.maps o word new) (key_is_named m b.0 keys.0) told in
+        subst (λ o. DeletesNamed flat.maps o word new) (key_is_named m b.0 keys.0) seen in
         let st =
         deletes_keep_simulation below env l flat s m.index g.descriptor g.map b.0 word new stands
         m.named (is_given s 1 g a.1).there r in
         let gave = removed g.map b.0 in
         changes_keys m.index m.within (answers word flat.memory new) r.rest l (extends_itself l) u
-        (subst (λ (x : RunState). Simulates env l (with_answer flat (answers word flat.memory new)) x)
+        (subst (λ (x : RunState). Simulates env l (with_result flat (answers word flat.memory new)) x)
         (same_Some (replies s g.descriptor gave) u b.2)
         (returned env l (with_held flat flat.memory new) (with_map s g.descriptor gave.map)
         (Scalar gave.answer) word st.1 st.0))
@@ -301,7 +301,7 @@ module _ (env : Environment) (l : Layout) (flat : FlatState) (s : RunState)
         word after
         → called LoadBytes s ≡ Some u
         → ResultFollows env l flat u (answers word after flat.maps)
-    load_followed word after u told e =
+    load_followed word after u seen e =
         let st = load_stands env l flat s room stands below.writes u e in
         let offset = args 1 (omega arith) in
         let to = args 2 (omega arith) in
@@ -316,7 +316,7 @@ module _ (env : Environment) (l : Layout) (flat : FlatState) (s : RunState)
         ≡ with_bytes flat.memory (part_start flat.memory env.tenant + st.offset)
         (packet_bytes env.packet (slice_index words 1) (slice_index words 3))) =
         subst (λ o. LoadsAt (site_in env flat) (slice_index words 1) (slice_index words 3) o word after)
-        offset_is told in
+        offset_is seen in
         let bytes : packet_bytes env.packet (slice_index words 1) (slice_index words 3)
         ≡ packet_bytes s.packet (slice_index flat.registers 2) (slice_index flat.registers 4) =
         ap (λ (x : List ℕ). packet_bytes x (slice_index words 1) (slice_index words 3)) (sym same)
@@ -334,26 +334,26 @@ module _ (env : Environment) (l : Layout) (flat : FlatState) (s : RunState)
         let memory_is : after ≡ written =
         r.1 ∙ ap (λ (x : List ℕ). with_bytes flat.memory (part_start flat.memory env.tenant + st.offset) x) bytes in
         leaves_maps word after u
-        (subst (λ (x : RunState). Simulates env l (with_answer flat (answers word after flat.maps)) x) (sym st.is)
+        (subst (λ (x : RunState). Simulates env l (with_result flat (answers word after flat.maps)) x) (sym st.is)
         (subst (λ (n : Memory).
-        Simulates env l (with_answer flat (answers word n flat.maps)) (returns st.written (Scalar answer)))
+        Simulates env l (with_result flat (answers word n flat.maps)) (returns st.written (Scalar answer)))
         (sym memory_is)
         (returned env l (with_memory flat written) st.written (Scalar answer) word st.stands (r.0 ∙ gives))))
 
 -- ---- the site of a call
 
 -- a law of calls in an environment and a state holds at each site that is the site of such an environment and state
-module _ (Told : CallSite → Type 0) (reply : CallSite → CallAnswer) (words : List ℕ)
+module _ (Seen : CallSite → Type 0) (reply : CallSite → CallResult) (words : List ℕ)
     (helper : Helper)
     (follows : (env : Environment) (l : Layout) (flat : FlatState) (s : RunState)
     → IsRoom env.memory env.tenant → Simulates env l flat s
-    → AreArguments words flat.registers → (u : RunState) → Told (site_in env flat)
+    → AreArguments words flat.registers → (u : RunState) → Seen (site_in env flat)
     → called helper s ≡ Some u
     → ResultFollows env l flat u (reply (site_in env flat))) where
-  follows_at : (site : CallSite) → Told site → CallFollows site words helper (reply site)
-  follows_at site told env l flat s u found room stands args goes =
+  follows_at : (site : CallSite) → Seen site → CallFollows site words helper (reply site)
+  follows_at site seen env l flat s u found room stands args goes =
       subst (λ (x : CallSite). ResultFollows env l flat u (reply x)) found
-      (follows env l flat s room stands args u (subst Told (sym found) told) goes)
+      (follows env l flat s room stands args u (subst Seen (sym found) seen) goes)
 
 module _ (returned : ReturnsKeepSimulation) (below : LawsBelow) (words : List ℕ) where
   pub look_up_follows : (word : ℕ) (site : CallSite)
@@ -362,11 +362,11 @@ module _ (returned : ReturnsKeepSimulation) (below : LawsBelow) (words : List �
   look_up_follows word =
       follows_at (λ x. word ≡ unwrap_or (flat_look_up x (slice_index words 0) (slice_index words 1)) 0)
       (λ x. answers word x.memory x.maps) words LookUp
-      (λ env l flat s room stands args u told goes.
-      look_up_followed env l flat s room stands words args returned below word u told goes)
+      (λ env l flat s room stands args u seen goes.
+      look_up_followed env l flat s room stands words args returned below word u seen goes)
 
   -- an update of what its words name simulates the tagged machine's update
-  pub update_follows : (reply : CallAnswer) (site : CallSite)
+  pub update_follows : (reply : CallResult) (site : CallSite)
       → UpdatesNamed site
       (pair_named site (slice_index words 0) (slice_index words 1) (slice_index words 2))
       (slice_index words 3) reply
@@ -377,8 +377,8 @@ module _ (returned : ReturnsKeepSimulation) (below : LawsBelow) (words : List �
       (pair_named x (slice_index words 0) (slice_index words 1) (slice_index words 2))
       (slice_index words 3) reply)
       (λ _. reply) words Update
-      (λ env l flat s room stands args u told goes.
-      update_followed env l flat s room stands words args returned below reply u told goes)
+      (λ env l flat s room stands args u seen goes.
+      update_followed env l flat s room stands words args returned below reply u seen goes)
 
   -- a deletion of what its words name simulates the tagged machine's deletion
   pub delete_follows : (word : ℕ) (new : LiveMaps) (site : CallSite)
@@ -387,8 +387,8 @@ module _ (returned : ReturnsKeepSimulation) (below : LawsBelow) (words : List �
   delete_follows word new =
       follows_at (λ x. DeletesNamed x.maps (key_named x (slice_index words 0) (slice_index words 1)) word new)
       (λ x. answers word x.memory new) words Delete
-      (λ env l flat s room stands args u told goes.
-      delete_followed env l flat s room stands words args returned below word new u told goes)
+      (λ env l flat s room stands args u seen goes.
+      delete_followed env l flat s room stands words args returned below word new u seen goes)
 
   -- a load of packet bytes to what its words name simulates the tagged machine's load
   pub load_follows : (word : ℕ) (after : Memory) (site : CallSite)
@@ -402,5 +402,5 @@ module _ (returned : ReturnsKeepSimulation) (below : LawsBelow) (words : List �
       (named_offset x.memory x.tenant (slice_index words 3) (slice_index words 2))
       word after)
       (λ x. answers word after x.maps) words LoadBytes
-      (λ env l flat s room stands args u told goes.
-      load_followed env l flat s room stands words args returned below word after u told goes)
+      (λ env l flat s room stands args u seen goes.
+      load_followed env l flat s room stands words args returned below word after u seen goes)

@@ -22,7 +22,7 @@ use Rattle.bpf_helpers.specs.Accesses.{MayExtend, address_from, LoadsGiveWords}
 use Rattle.bpf_helpers.proofs.Many.{also_some}
 use Rattle.bpf_helpers.proofs.Inputs.{object_there}
 use Rattle.bpf_helpers.proofs.Cells.{number_some, cell_loaded}
-use Rattle.bpf_helpers.proofs.Addresses.{in_front, part_offset_told, is_at, in_stack, slot_of, slot_within, in_context, value_read}
+use Rattle.bpf_helpers.proofs.Addresses.{in_front, part_offset_seen, is_at, in_stack, slot_of, slot_within, in_context, value_read}
 use Rattle.bpf_helpers.specs.States.{Environment, FlatState}
 
 mapped_some : {A B : Type 0} (f : A → B) (o : Option A) (y : B)
@@ -134,13 +134,13 @@ module _ (env : Environment) (l : Layout) (flat : FlatState) (s : RunState)
       also_some (part_offset (part_start flat.memory env.tenant) flat.memory.part n from)
       (λ p. Some (bytes_at flat.memory.bytes (part_start flat.memory env.tenant + p) n))
       r.0 read in
-      let told = part_offset_told (part_start flat.memory env.tenant) flat.memory.part n from a.0 a.1 in
+      let seen = part_offset_seen (part_start flat.memory env.tenant) flat.memory.part n from a.0 a.1 in
       let start : part_start flat.memory env.tenant ≡ part_start env.memory env.tenant =
       ap (λ (k : ℕ). env.tenant * k) stands.changed.part in
       let part = stands.changed.part in
       let large = room.room in
-      let here = told.0 in
-      let fits = told.1 in
+      let here = seen.0 in
+      let fits = seen.1 in
       let b =
       is_at env.memory env.tenant room (size_of flat.memory) n from a.0 stands.changed.size
       (omega arith) (omega arith) in

@@ -23,7 +23,7 @@ use Rattle.bpf_helpers.proofs.Many.{also_some}
 use Rattle.bpf_helpers.proofs.Inputs.{memory_long}
 use Rattle.bpf_helpers.proofs.Outputs.{stack_stands, cell_kept, object_overwritten}
 use Rattle.bpf_helpers.proofs.Cells.{cell_stored}
-use Rattle.bpf_helpers.proofs.Addresses.{in_front, part_offset_told, is_at, in_stack, slot_of, slot_within, value_overwritten}
+use Rattle.bpf_helpers.proofs.Addresses.{in_front, part_offset_seen, is_at, in_stack, slot_of, slot_within, value_overwritten}
 use Rattle.bpf_helpers.specs.States.{Environment, FlatState, with_memory}
 
 module _ (writes : WritesStayInside) (env : Environment) (l : Layout) (flat : FlatState)
@@ -124,13 +124,13 @@ module _ (writes : WritesStayInside) (env : Environment) (l : Layout) (flat : Fl
       let from = address_from w off in
       let address = value_overwritten env l flat s room stands m number w x off (x +ℤ off) new u h refl placed e in
       let r = object_overwritten writes env l flat s room stands m number (x +ℤ off) from new u address placed e in
-      let told = part_offset_told (part_start flat.memory env.tenant) flat.memory.part (length new) from r.0 r.1 in
+      let seen = part_offset_seen (part_start flat.memory env.tenant) flat.memory.part (length new) from r.0 r.1 in
       let start : part_start flat.memory env.tenant ≡ part_start env.memory env.tenant =
       ap (λ (k : ℕ). env.tenant * k) stands.changed.part in
       let part = stands.changed.part in
       let large = room.room in
-      let here = told.0 in
-      let fits = told.1 in
+      let here = seen.0 in
+      let fits = seen.1 in
       let b =
       is_at env.memory env.tenant room (size_of flat.memory) n from r.0 stands.changed.size
       (omega arith) (omega arith) in (

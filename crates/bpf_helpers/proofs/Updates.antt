@@ -35,13 +35,13 @@ use Rattle.bpf_helpers.proofs.Verdicts.{present_found}
 use Rattle.bpf_helpers.proofs.Moved.{other_key, other_bytes, other_moved, maps_moved, maps_again, others_moved, maps_stand}
 use Rattle.bpf_helpers.proofs.Wider.{extends_itself, extended, extends, word_more, cell_more, map_extended}
 use Rattle.bpf_helpers.proofs.Added.{map_with_new}
-use Rattle.bpf_helpers.specs.States.{CallAnswer, Environment, FlatState, site_in, with_held, with_memory}
+use Rattle.bpf_helpers.specs.States.{CallResult, Environment, FlatState, site_in, with_held, with_memory}
 
 written_whole : (old new : List ℕ) → length old ≡ length new → written_at old 0 new ≡ new
 written_whole old new e = ap (λ (x : List ℕ). new ++ x) (drop_all (0 + length new) old (omega arith)) ∙ append-nil new
 
 module _ (below : LawsBelow) (env : Environment) (l : Layout) (flat : FlatState) (s : RunState)
-    (i m : ℕ) (map : RunMap) (key value : List ℕ) (flags : ℕ) (reply : CallAnswer)
+    (i m : ℕ) (map : RunMap) (key value : List ℕ) (flags : ℕ) (reply : CallResult)
     (room : IsRoom env.memory env.tenant) (stands : Simulates env l flat s)
     (named : slice_get env.descriptors i ≡ Some m)
     (is : s.maps m ≡ Some map)
@@ -85,11 +85,11 @@ module _ (below : LawsBelow) (env : Environment) (l : Layout) (flat : FlatState)
     refused_stands : (fault : MapFault)
         → u.claim ≡ Err fault → keys_at reply.maps k ≡ keys_at flat.maps k
         → Done (Refused fault)
-    refused_stands fault told key_table = record {
+    refused_stands fault seen key_table = record {
       layout = l;
       more = extends_itself l;
-      answer = u.word_is ∙ ap claim_word told;
-      standing = unchanged key_table (u.memory_is ∙ ap (with_claimed (site_in env flat) pair) told);
+      answer = u.word_is ∙ ap claim_word seen;
+      standing = unchanged key_table (u.memory_is ∙ ap (with_claimed (site_in env flat) pair) seen);
     }
 
     moved : (x : RunState) (n : Bytes)
@@ -122,7 +122,7 @@ module _ (below : LawsBelow) (env : Environment) (l : Layout) (flat : FlatState)
         → u.claim ≡ Ok (has.element number) → keys_at reply.maps k ≡ keys_at flat.maps k
         → number < map.count
         → Done (Present number)
-    present_stands number told key_table lt =
+    present_stands number seen key_table lt =
         let start = part_start env.memory env.tenant in
         let o = has.objects number lt in
         let off = offset_at flat.maps k (has.element number) in
@@ -166,11 +166,11 @@ module _ (below : LawsBelow) (env : Environment) (l : Layout) (flat : FlatState)
         part_offset_is (part_start flat.memory env.tenant) flat.memory.part (length value) w off
         (omega arith) (omega arith) in
         let memory_is : reply.memory ≡ with_bytes flat.memory (part_start flat.memory env.tenant + off) value =
-        u.memory_is ∙ ap (with_claimed (site_in env flat) pair) told in
+        u.memory_is ∙ ap (with_claimed (site_in env flat) pair) seen in
         record {
           layout = l;
           more = extends_itself l;
-          answer = u.word_is ∙ ap claim_word told;
+          answer = u.word_is ∙ ap claim_word seen;
           standing =
               subst (λ (n : Bytes).
               Simulates env l (with_held flat n reply.maps) (with_map s m (with_value map number value)))
@@ -186,7 +186,7 @@ module _ (below : LawsBelow) (env : Environment) (l : Layout) (flat : FlatState)
 
     -- ---- a new key
 
-    module _ (p : ℕ) (told : u.claim ≡ Ok p) (free : IsFree (keys_at flat.maps k) p)
+    module _ (p : ℕ) (seen : u.claim ≡ Ok p) (free : IsFree (keys_at flat.maps k) p)
         (key_table : keys_at reply.maps k ≡ with_entry (keys_at flat.maps k) key p) where
       abbrev begin : ℕ
       begin = part_start env.memory env.tenant
@@ -306,12 +306,12 @@ module _ (below : LawsBelow) (env : Environment) (l : Layout) (flat : FlatState)
           let a = room_there in let b = within in let c = behind in let d = long_memory in
           let memory_is : reply.memory ≡ with_bytes flat.memory (begin + off) value =
           u.memory_is
-          ∙ ap (with_claimed (site_in env flat) pair) told
+          ∙ ap (with_claimed (site_in env flat) pair) seen
           ∙ ap (λ (x : ℕ). with_bytes flat.memory (x + off) value) begins in
           record {
             layout = wider;
             more = more;
-            answer = u.word_is ∙ ap claim_word told;
+            answer = u.word_is ∙ ap claim_word seen;
             standing =
                 subst (λ (n : Bytes).
                 Simulates env wider (with_held flat n reply.maps) (with_map s m (with_object map key value)))

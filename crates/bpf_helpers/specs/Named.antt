@@ -104,8 +104,8 @@ IsInRun site words LoadBytes =
 
 -- the result of a call whose words name nothing: null for a look-up, EINVAL, negated, for an update
 -- or a deletion, and EFAULT, negated, for a load of bytes
-abbrev pub unnamed_answer : Helper → ℕ
-unnamed_answer LookUp = 0
-unnamed_answer Update = negative (errno Invalid)
-unnamed_answer Delete = negative (errno Invalid)
-unnamed_answer LoadBytes = negative outside
+abbrev pub unnamed_result : Helper → ℕ
+unnamed_result LookUp = 0
+unnamed_result Update = negative (errno Invalid)
+unnamed_result Delete = negative (errno Invalid)
+unnamed_result LoadBytes = negative outside

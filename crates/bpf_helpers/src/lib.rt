@@ -33,7 +33,7 @@
 //!   machine moves none farther (`moved`). So the word of a pointer is the sum of the address and the offset, is never 0, and
 //!   never wraps.
 //! - A call returns a word whatever its arguments name: null, EINVAL or EFAULT if they name no map or bytes outside the part,
-//!   which does not happen in an accepted program (`NamesNothing`, `unnamed_answer`); then nothing changes. The tests of the
+//!   which does not happen in an accepted program (`NamesNothing`, `unnamed_result`); then nothing changes. The tests of the
 //!   words remain, but no `Option` or `Result` is built and taken apart for the result, and a run has no arm for a call that
 //!   faults. A look-up returns its address at once (`address_of`). bench/FIGURES.md has the cost of calls.
 //! - A load of bytes by a run tests neither the address nor the number of bytes, since the verifier has: that they name bytes of the

@@ -20,8 +20,8 @@ abbrev pub with_stored : Inside → ℕ → StoredMap → Inside
 with_stored a key new = record a { maps = with_value a.maps key new }
 
 -- a property of the map of a handle is that of the live map
-pub told_of : {P : Type 0} (f : LiveMap → P) {o : Option LiveMap} {l : LiveMap} → o ≡ Some l → f (live_or o) ≡ f l
-told_of f is = ap (λ (x : Option LiveMap). f (live_or x)) is
+pub seen_of : {P : Type 0} (f : LiveMap → P) {o : Option LiveMap} {l : LiveMap} → o ≡ Some l → f (live_or o) ≡ f l
+seen_of f is = ap (λ (x : Option LiveMap). f (live_or x)) is
 
 -- the map without its area after one hold is released; None if it was the last
 abbrev held_less : LiveMap → Bool → Option MapWithoutArea
@@ -158,7 +158,7 @@ module _ {a : Inside} {t : LiveMaps} {handle map key : ℕ} {old new : StoredMap
   pub part_stays : {P : Type 0} (f : LiveMap → P)
       → f (live_of new) ≡ f (live_of old)
       → f (live_or (live_at (as_live_maps now) map)) ≡ f (live_or (live_at t map))
-  part_stays f same = told_of f live_new ∙ same ∙ sym (told_of f live_old)
+  part_stays f same = seen_of f live_new ∙ same ∙ sym (seen_of f live_old)
 
   -- ---- with the bytes, which the call leaves
 
@@ -196,7 +196,7 @@ module _ {a : Inside} {t : LiveMaps} {handle map key : ℕ} {old new : StoredMap
 
 -- a live map with at most one reference doesn't have more than one
 pub not_more : (t : LiveMaps) (key : ℕ) {l : LiveMap} → live_at t key ≡ Some l → l.holds ≤ 1 → 1 < holds_at t key → ⊥
-not_more t key here last more = let held = told_of (λ (x : LiveMap). x.holds) here in omega arith
+not_more t key here last more = let held = seen_of (λ (x : LiveMap). x.holds) here in omega arith
 
 -- a map that is removed had at most one hold
 pub none_held : (t u : LiveMaps) (map : ℕ) {l : LiveMap}

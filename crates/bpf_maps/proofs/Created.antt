@@ -26,7 +26,7 @@ use Rattle.bpf_maps.proofs.Slots.{live_by, none_by, others_by, same_or_other}
 use Rattle.bpf_maps.proofs.ByHandle.{fewer_keys, no_key, lowest_is, added_here, added_others, added_keys}
 use Rattle.bpf_maps.proofs.InAreas.{value_ends}
 use Rattle.bpf_maps.proofs.Arrays.{sound_new}
-use Rattle.bpf_maps.proofs.Changes.{told_of, live_stored}
+use Rattle.bpf_maps.proofs.Changes.{seen_of, live_stored}
 use Rattle.bpf_maps.proofs.Written.{front_same, before_same, zeros}
 use Rattle.bpf_maps.proofs.Whole.{laid, sound_at, whole_added, offset_of}
 use Rattle.bpf_maps.proofs.Values.{new_map_in}
@@ -202,7 +202,7 @@ module _ {a : Inside} {t : LiveMaps} {shape : MapShape} {size handle : ℕ} (r :
     older_stay k live = others_stay k (λ e. true≢false (sym live ∙ ap is_some (ap (live_at t) e ∙ was_none)))
 
     keys_one : keys_at (as_live_maps after) handle ≡ new_keys shape
-    keys_one = told_of (λ l. l.keys) live_new ∙ d.table
+    keys_one = seen_of (λ l. l.keys) live_new ∙ d.table
 
     -- with the new map stored, the result and the effect are those of a `create` that returns the handle
     pub creates_one : Creates (create_fault t shape) t shape (Ok handle) (as_live_maps after)
@@ -213,7 +213,7 @@ module _ {a : Inside} {t : LiveMaps} {shape : MapShape} {size handle : ℕ} (r :
           was = was_none;
           live = ap is_some live_new;
           keys = keys_one;
-          holds = told_of (λ l. l.holds) live_new ∙ d.holds;
+          holds = seen_of (λ l. l.holds) live_new ∙ d.holds;
           others = others_stay;
           refused = ap (λ (u : LiveMaps). u.refused) view;
         })
@@ -246,7 +246,7 @@ module _ {a : Inside} {t : LiveMaps} {shape : MapShape} {size handle : ℕ} (r :
 
     -- its area is after the others
     pub last_one : start_at (as_live_maps after) handle ≡ STACK_AND_CONTEXT + areas t
-    last_one = told_of (λ l. l.start) live_new ∙ d.start ∙ ap (λ (n : ℕ). STACK_AND_CONTEXT + n) (h.sum ∙ ap areas view)
+    last_one = seen_of (λ l. l.start) live_new ∙ d.start ∙ ap (λ (n : ℕ). STACK_AND_CONTEXT + n) (h.sum ∙ ap areas view)
 
     -- all areas take more bytes than before, by the area of the new map
     pub more_one : areas (as_live_maps after) ≡ areas t + area_by shape
@@ -311,7 +311,7 @@ module _ {a : Inside} {t : LiveMaps} {shape : MapShape} {size handle : ℕ} (r :
           (λ (ne : j ≢ handle).
           let f = live_stored a {map = j} view refl old_live in
           let n = others_stay j ne ∙ f.2 in
-          let m = told_of (λ x. x.keys.shape.max_entries) n in
+          let m = seen_of (λ x. x.keys.shape.max_entries) n in
           ap (λ (x : Option LiveMap). take (live_or x).keys.shape.value_size (drop (offset (live_or x) p) later)) n
           ∙ kept_at j p f.0 f.1 (omega arith)
           ∙ ap (λ (x : Option LiveMap). take (live_or x).keys.shape.value_size (drop (offset (live_or x) p) bytes))

@@ -7,7 +7,7 @@ use Rattle.bpf_maps.specs.KeyTable.{IsSound}
 use Rattle.bpf_maps.specs.BpfMap.{keys_in}
 use Rattle.bpf_maps.specs.Live.{LiveMaps, keys_at, OnlyKeysChange}
 use Rattle.bpf_maps.specs.InMaps.{as_live_maps, IsWellFormedMaps}
-use Rattle.bpf_maps.proofs.Changes.{with_stored, told_of, IsUnder, IsChange, placed_under, live_old, live_new}
+use Rattle.bpf_maps.proofs.Changes.{with_stored, seen_of, IsUnder, IsChange, placed_under, live_old, live_new}
 use Rattle.bpf_maps.proofs.Changes.{others_stay, areas_stay, whole_stays, laid_stays, room_stays, part_stays}
 
 -- the map with another table of keys
@@ -42,11 +42,11 @@ module _ {a : Inside} {t : LiveMaps} {handle map key : ℕ} {old : StoredMap} {t
 
   -- before the change, the live map of the handle has the old table of keys
   pub keys_before : keys_in old.map ≡ keys_at t map
-  keys_before = sym (told_of (λ l. l.keys) (live_old change))
+  keys_before = sym (seen_of (λ l. l.keys) (live_old change))
 
   -- after the change, the live map of the handle has the new table of keys
   pub keys_after : keys_in table ≡ keys_at (as_live_maps after) map
-  keys_after = sym (told_of (λ l. l.keys) (live_new change))
+  keys_after = sym (seen_of (λ l. l.keys) (live_new change))
 
   -- the invariant of the live maps holds with the new table of keys
   pub keys_whole : IsWellFormedMaps after

@@ -16,7 +16,7 @@ use Rattle.bpf_maps.specs.InMaps.{live_of, live_maps_of, by_handle, stored_in, a
 use Rattle.bpf_maps.proofs.Slots.{at_lives, live_by, none_by, same_some}
 use Rattle.bpf_maps.proofs.ByHandle.{changed_stored, changed_others, changed_keys, removed_here, removed_others, removed_keys}
 use Rattle.bpf_maps.proofs.Totals.{weight_most}
-use Rattle.bpf_maps.proofs.Changes.{told_of, IsUnder, at_handle, live_here, live_stored, none_held}
+use Rattle.bpf_maps.proofs.Changes.{seen_of, IsUnder, at_handle, live_here, live_stored, none_held}
 use Rattle.bpf_maps.proofs.Stays.{keeps_held}
 use Rattle.bpf_maps.proofs.InAreas.{value_ends, before_or_behind}
 use Rattle.bpf_maps.proofs.Written.{front_same, before_same, own}
@@ -177,7 +177,7 @@ module _ {a : Inside} {t : LiveMaps} {handle map key size : ℕ} {old gone : Sto
   -- all areas take fewer bytes than before, by the area of the removed map
   pub freed_gone : areas t ≡ areas (as_live_maps new) + area_by (shape_at t map)
   freed_gone =
-      let shape : area_by (shape_at t map) ≡ area_of (live_of gone) = told_of (λ (x : LiveMap). area_of x) live_gone in
+      let shape : area_by (shape_at t map) ≡ area_of (live_of gone) = seen_of (λ (x : LiveMap). area_of x) live_gone in
       let bytes = whole_gone.sum in
       let sum = was_whole.sum in
       let seen = ap areas g.taken.under.view in
@@ -310,7 +310,7 @@ module _ {a : Inside} {t : LiveMaps} {handle map key size : ℕ} {old gone : Sto
         let f = live_stored a {map = j} g.taken.under.view refl old_live in
         let n : live_at (as_live_maps new) j ≡ Some (map_without (live_of gone) (live_of f.0)) =
         lives_close j (λ e. ne (e ∙ g.taken.under.same)) ∙ ap (option_map (map_without (live_of gone))) f.2 in
-        let m = told_of (λ x. x.keys.shape.max_entries) n in
+        let m = seen_of (λ x. x.keys.shape.max_entries) n in
         ap (λ (x : Option LiveMap). take (live_or x).keys.shape.value_size (drop (offset (live_or x) p) later)) n
         ∙ kept_at j p f.0 (λ e. ne (e ∙ g.taken.under.same)) f.1 (omega arith)
         ∙ ap (λ (x : Option LiveMap). take (live_or x).keys.shape.value_size (drop (offset (live_or x) p) bytes))

@@ -330,9 +330,9 @@ pub stops : (labels : Labels) (lines : List (Option Line)) (i slot : ℕ) (line 
     → fault ≡ fault_on i kind → Goes labels lines i slot insns
     → IsFirstFaultyLine (fault_at lines) fault
 stops labels lines i slot line insns kind fault finds inside at here is so =
-    let told : line_fault lines i slot line ≡ Some kind = sym (fault_is lines labels i slot line finds) ∙ here in
+    let seen : line_fault lines i slot line ≡ Some kind = sym (fault_is lines labels i slot line finds) ∙ here in
     let it : fault ≡ record { line = i + 1; kind = kind } =
-    is ∙ fault_on_line i kind (fault_kind lines i slot line kind told) in
+    is ∙ fault_on_line i kind (fault_kind lines i slot line kind seen) in
     record {
       index = i;
       line = ap (λ (f : TextFault). f.line) it;
@@ -340,7 +340,7 @@ stops labels lines i slot line insns kind fault finds inside at here is so =
           fault_here lines i line inside
           ∙ ap (line_fault lines i (slots_on (take i lines))) (sym at)
           ∙ ap (λ (n : ℕ). line_fault lines i n line) (sym so.slot_is)
-          ∙ told
+          ∙ seen
           ∙ ap (λ (f : TextFault). Some f.kind) (sym it);
       below = so.below;
     }

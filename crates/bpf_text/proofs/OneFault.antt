@@ -50,9 +50,9 @@ pub faultless : {A : Type 0} (text slots : List ℕ) (fault : TextFault)
 faultless text slots fault is h = absurd (no_hex_fault text slots fault is h)
 
 -- the fault that is returned is the fault of the text, or out of memory
-pub told : (text : List ℕ) (told fault : TextFault)
-    → (told ≡ memory_fault) ⊎ IsHexFault text told
+pub seen : (text : List ℕ) (seen fault : TextFault)
+    → (seen ≡ memory_fault) ⊎ IsHexFault text seen
     → IsHexFault text fault
-    → (told ≡ fault) ⊎ (told ≡ memory_fault)
-told text e fault (inl memory) h = inr memory
-told text e fault (inr own) h = inl (one_fault _ (length (hex_bytes (text_lines text))) e fault own h)
+    → (seen ≡ fault) ⊎ (seen ≡ memory_fault)
+seen text e fault (inl memory) h = inr memory
+seen text e fault (inr own) h = inl (one_fault _ (length (hex_bytes (text_lines text))) e fault own h)

@@ -91,9 +91,9 @@ pub faulty_is : ProgramHasNoFault
     → IfErr answer (λ e. (e ≡ memory_fault) ⊎ IsOwnFault text e)
     → (fault : TextFault) → IsOwnFault text fault
     → IsErrAnd answer (λ e. (e ≡ fault) ⊎ (e ≡ memory_fault))
-faulty_is none one text (Ok program) ok told fault own = absurd (none text program fault ok own)
+faulty_is none one text (Ok program) ok seen fault own = absurd (none text program fault ok own)
 faulty_is none one text (Err e) ok (inl memory) fault own = inr memory
-faulty_is none one text (Err e) ok (inr told) fault own = inl (one text e fault told own)
+faulty_is none one text (Err e) ok (inr seen) fault own = inl (one text e fault seen own)
 
 -- if a text has a program, this program is returned, or the fault of memory
 pub only_is : OneProgram
@@ -103,9 +103,9 @@ pub only_is : OneProgram
     → IfErr answer (λ e. (e ≡ memory_fault) ⊎ IsOwnFault text e)
     → (insns : List Insn) → IsAssembled text insns
     → MatchResult answer (λ program. program ≡ insns) (λ e. e ≡ memory_fault)
-only_is one none text (Ok program) ok told insns h = one text program insns ok h
+only_is one none text (Ok program) ok seen insns h = one text program insns ok h
 only_is one none text (Err e) ok (inl memory) insns h = memory
-only_is one none text (Err e) ok (inr told) insns h = absurd (none text insns e h told)
+only_is one none text (Err e) ok (inr seen) insns h = absurd (none text insns e h seen)
 
 -- ---- the printed text
 
@@ -172,26 +172,26 @@ line_none all i before insn w room =
     (passes before (form_slots (written insn))) w.fits w.no_label
     short
 
-told : List (Option Line) → ℕ → ℕ → Option (Option Line) → Option TextFaultKind
-told all i before None = None
-told all i before (Some line) = line_fault all i before line
+seen : List (Option Line) → ℕ → ℕ → Option (Option Line) → Option TextFaultKind
+seen all i before None = None
+seen all i before (Some line) = line_fault all i before line
 
 from_none : (n : ℕ) → n ≡ 0 + n
 from_none n = omega arith
 
-fault_told : (all : List (Option Line)) (i : ℕ) (o : Option (Option Line))
-    → line_fault_of all i o ≡ told all i (0 + slots_on (take i all)) o
-unfolding told
-fault_told all i None = refl
-fault_told all i (Some line) = ap (λ (n : ℕ). line_fault all i n line) (from_none (slots_on (take i all)))
+fault_seen : (all : List (Option Line)) (i : ℕ) (o : Option (Option Line))
+    → line_fault_of all i o ≡ seen all i (0 + slots_on (take i all)) o
+unfolding seen
+fault_seen all i None = refl
+fault_seen all i (Some line) = ap (λ (n : ℕ). line_fault all i n line) (from_none (slots_on (take i all)))
 
-none_told : (all : List (Option Line)) (at before i : ℕ) (insns : List Insn)
+none_seen : (all : List (Option Line)) (at before i : ℕ) (insns : List Insn)
     → EachWritten insns → before + slot_count insns ≤ MAX_SLOTS
-    → told all at (before + slots_on (take i (lines_of insns))) (slice_get (lines_of insns) i) ≡ None
-unfolding lines_of told slots_on
-none_told all at before zero [] each room = refl
-none_told all at before (suc i) [] each room = refl
-none_told all at before zero (insn ∷ insns) each room =
+    → seen all at (before + slots_on (take i (lines_of insns))) (slice_get (lines_of insns) i) ≡ None
+unfolding lines_of seen slots_on
+none_seen all at before zero [] each room = refl
+none_seen all at before (suc i) [] each room = refl
+none_seen all at before zero (insn ∷ insns) each room =
     let count : slot_count (insn ∷ insns) ≡ length (slots insn) + slot_count insns =
     sum_by-cons (λ (j : Insn). length (slots j)) insn insns in
     let fits : before + length (slots insn) ≤ MAX_SLOTS = omega (arith, count) in
@@ -200,14 +200,14 @@ none_told all at before zero (insn ∷ insns) each room =
   where
     plus_none : (n : ℕ) → n + 0 ≡ n
     plus_none n = omega arith
-none_told all at before (suc i) (insn ∷ insns) each room =
+none_seen all at before (suc i) (insn ∷ insns) each room =
     let count : slot_count (insn ∷ insns) ≡ length (slots insn) + slot_count insns =
     sum_by-cons (λ (j : Insn). length (slots j)) insn insns in
     let fits : (before + form_slots (written insn)) + slot_count insns ≤ MAX_SLOTS =
     omega (arith, count, each.0.slots_are) in
-    ap (λ (n : ℕ). told all at n (slice_get (lines_of insns) i))
+    ap (λ (n : ℕ). seen all at n (slice_get (lines_of insns) i))
     (moved before (form_slots (written insn)) (slots_on (take i (lines_of insns))))
-    ∙ none_told all at (before + form_slots (written insn)) i insns each.1 fits
+    ∙ none_seen all at (before + form_slots (written insn)) i insns each.1 fits
   where
     moved : (a b c : ℕ) → a + (b + c) ≡ (a + b) + c
     moved a b c = omega arith
@@ -217,8 +217,8 @@ no_fault : (insns : List Insn)
     → (i : ℕ) → fault_at (lines_of insns) i ≡ None
 unfolding fault_at
 no_fault insns each room i =
-    fault_told (lines_of insns) i (slice_get (lines_of insns) i)
-    ∙ none_told (lines_of insns) i 0 i insns each (omega arith)
+    fault_seen (lines_of insns) i (slice_get (lines_of insns) i)
+    ∙ none_seen (lines_of insns) i 0 i insns each (omega arith)
 
 each_of : (P : Insn → Type 0) (insns : List Insn)
     → ((insn : Insn) → IsInsn insn → P insn) → AllByRecursion IsInsn insns

@@ -91,9 +91,9 @@ fn slots_on(alloc: Global, lines: &[&str]) -> Result<Vec<u8>, TextFault>
     Ok(bytes)
 }
 
-/// Appends the slot of a line, eight bytes, to `bytes`, the slots of the lines before it, at most `MAX_SLOTS`, as each call leaves it; a
-/// blank line has none. Or returns the fault: `Syntax` if the line is no slot, `TooLong` if `bytes` has `MAX_SLOTS` slots, `Memory` if out
-/// of memory.
+/// Appends the eight bytes of a line's slot to `bytes`, which has the slots of the lines before it: at most `MAX_SLOTS`, before the call and
+/// after it. A blank line has no slot, so nothing is appended. Or returns the fault, the first that applies: `Syntax` if the line is no
+/// slot, `TooLong` if `bytes` has `MAX_SLOTS` slots, `Memory` if out of memory. Then `bytes` is of no further use.
 fn append_slot(bytes: &mut Vec<u8>, line: &str) -> Result<(), TextFaultKind>
     requires { vec_len bytes.old ≤ 8 * MAX_SLOTS }
     ensures ok { OnOk result (bytes.new.items ≡ bytes.old.items

@@ -10,7 +10,7 @@ use Rattle.host_core.specs.State.{TenantState}
 -- none was run, and nothing has changed.
 pub record RunsPackets (tenant fd : ℕ) (contexts : List (List ℕ)) (bytes ends room written : List ℕ)
     (status : ℤ) (before after : List TenantState) : Type 0 where
-  pub told : status
+  pub seen : status
       ≡ batch_status
       (refusal_for (slice_get before tenant) fd (length contexts) (length bytes) ends
       (length room))

@@ -52,7 +52,7 @@
 //! - The version and the number of the binary interface are the constants of this crate: `bpfhost_c_version`, `bpfhost_c_abi`.
 //! - A handle may be sent from thread to thread: `Send` for `Handle`, `Send` for `Prepared`.
 //!
-//! From `Handles` of each call and `calls_are_told_alone` of `host_core` follows what the headline says of a stream;
+//! From `Handles` of each call and `calls_are_served_alone` of `host_core` follows what the headline says of a stream;
 //! `batch_is_its_calls` replaces a call with many packets by its frames.
 //!
 //! An empty handle owns nothing, any other what a box of a session owns (`handle_owns`). So the library frees what it

@@ -239,8 +239,8 @@ from_status status payload = little_bytes 4 (cast_unsigned w32 status) ++ payloa
 from_command : ℕ → ℤ → List ℕ → List ℕ
 from_command command status payload = little_bytes 2 command ++ from_status status payload
 
-told : ℕ → ℕ → ℤ → List ℕ → List ℕ
-told tenant command status payload = little_bytes 2 tenant ++ from_command command status payload
+seen : ℕ → ℕ → ℤ → List ℕ → List ℕ
+seen tenant command status payload = little_bytes 2 tenant ++ from_command command status payload
 
 status_in_range : (z : ℤ) → FitsSigned w32 z → cast_unsigned w32 z < 2 ^ 32
 status_in_range z fits = omega (arith, ints)
@@ -248,12 +248,12 @@ status_in_range z fits = omega (arith, ints)
 same_status : (s z : ℤ) → FitsSigned w32 s → FitsSigned w32 z → cast_unsigned w32 s ≡ cast_unsigned w32 z → s ≡ z
 same_status s z fits fits_too e = sym (to_z-of_z w32 s fits) ∙ ap (cast_signed w32) e ∙ to_z-of_z w32 z fits_too
 
-same_told : (t u c d : ℕ) (s z : ℤ) (p q : List ℕ)
+same_seen : (t u c d : ℕ) (s z : ℤ) (p q : List ℕ)
     → IsReply t c s p → IsReply u d z q
-    → told t c s p ≡ told u d z q
+    → seen t c s p ≡ seen u d z q
     → (t ≡ u) × (c ≡ d) × (s ≡ z) × (p ≡ q)
-unfolding told from_command from_status
-same_told t u c d s z p q is is_too e =
+unfolding seen from_command from_status
+same_seen t u c d s z p q is is_too e =
     let tenant : t ≡ u =
     sym (half_of_bytes t (from_command c s p) is.tenant_fits)
     ∙ ap (little_number 2) e
@@ -268,23 +268,23 @@ same_told t u c d s z p q is is_too e =
     ∙ number_of_bytes (cast_unsigned w32 z) q (status_in_range z is_too.status_fits) in
     (tenant, command, same_status s z is.status_fits is_too.status_fits bits, ap (drop 8) e)
 
-framed_told : (t c : ℕ) (s : ℤ) (p : List ℕ) → reply_bytes t c s p ≡ framed (told t c s p)
-unfolding told from_command from_status
-framed_told t c s p =
-    let same : 8 + length p ≡ length (told t c s p) = omega arith in
-    ap (λ n. little_bytes 4 n ++ told t c s p) same
+framed_seen : (t c : ℕ) (s : ℤ) (p : List ℕ) → reply_bytes t c s p ≡ framed (seen t c s p)
+unfolding seen from_command from_status
+framed_seen t c s p =
+    let same : 8 + length p ≡ length (seen t c s p) = omega arith in
+    ap (λ n. little_bytes 4 n ++ seen t c s p) same
 
 -- bytes determine the reply with which they begin, and the bytes after it
 pub one_reply_in_front_is : (t u c d : ℕ) (s z : ℤ) (p q rest left : List ℕ)
     → IsReply t c s p → IsReply u d z q
     → reply_bytes t c s p ++ rest ≡ reply_bytes u d z q ++ left
     → (t ≡ u) × (c ≡ d) × (s ≡ z) × (p ≡ q) × (rest ≡ left)
-unfolding told from_command from_status
+unfolding seen from_command from_status
 one_reply_in_front_is t u c d s z p q rest left is is_too e =
-    let small : IsFrame (told t c s p) = omega (arith, is.short) in
-    let small_too : IsFrame (told u d z q) = omega (arith, is_too.short) in
-    let framed_e : framed (told t c s p) ++ rest ≡ framed (told u d z q) ++ left =
-    ap (λ l. l ++ rest) (sym (framed_told t c s p)) ∙ e ∙ ap (λ l. l ++ left) (framed_told u d z q) in
-    let (same, after) = same_front (told t c s p) (told u d z q) rest left small small_too framed_e in
-    let (tenant, command, status, payload) = same_told t u c d s z p q is is_too same in
+    let small : IsFrame (seen t c s p) = omega (arith, is.short) in
+    let small_too : IsFrame (seen u d z q) = omega (arith, is_too.short) in
+    let framed_e : framed (seen t c s p) ++ rest ≡ framed (seen u d z q) ++ left =
+    ap (λ l. l ++ rest) (sym (framed_seen t c s p)) ∙ e ∙ ap (λ l. l ++ left) (framed_seen u d z q) in
+    let (same, after) = same_front (seen t c s p) (seen u d z q) rest left small small_too framed_e in
+    let (tenant, command, status, payload) = same_seen t u c d s z p q is is_too same in
     (tenant, command, status, payload, after)

@@ -17,23 +17,23 @@ refusal_in (Err refusal) = Some refusal
 
 -- the input has one list of slots, and these have one judgement
 pub one_verdict : OneJudgement
-    → (maps : List Named) (input slots : List ℕ) (told : Result (List Insn) Refusal)
+    → (maps : List Named) (input slots : List ℕ) (seen : Result (List Insn) Refusal)
     → ((other : List ℕ) → IsSlotText input other → slots ≡ other)
-    → Judges maps slots told
+    → Judges maps slots seen
     → (refusal : Option Refusal) → IsJudgement maps input refusal
-    → refusal_in told ≡ refusal
-one_verdict one maps input slots told only is None (other, insns, text, judged) =
+    → refusal_in seen ≡ refusal
+one_verdict one maps input slots seen only is None (other, insns, text, judged) =
     ap refusal_in
-    (one maps slots told (Ok insns) is (subst (λ bytes. Judges maps bytes (Ok insns)) (sym (only other text)) judged))
-one_verdict one maps input slots told only is (Some refusal) (other, text, judged) =
+    (one maps slots seen (Ok insns) is (subst (λ bytes. Judges maps bytes (Ok insns)) (sym (only other text)) judged))
+one_verdict one maps input slots seen only is (Some refusal) (other, text, judged) =
     ap refusal_in
-    (one maps slots told (Err refusal) is
+    (one maps slots seen (Err refusal) is
     (subst (λ bytes. Judges maps bytes (Err refusal)) (sym (only other text)) judged))
 
 -- if the slots of the input are not returned, memory ran out
-pub memory_told : (maps : List Named) (input : List ℕ) (failure : Failure)
+pub memory_seen : (maps : List Named) (input : List ℕ) (failure : Failure)
     → ((slots : List ℕ) → IsSlotText input slots → failure ≡ Memory)
     → (refusal : Option Refusal) → IsJudgement maps input refusal
     → failure ≡ Memory
-memory_told maps input failure memory None (slots, insns, text, judged) = memory slots text
-memory_told maps input failure memory (Some refusal) (slots, text, judged) = memory slots text
+memory_seen maps input failure memory None (slots, insns, text, judged) = memory slots text
+memory_seen maps input failure memory (Some refusal) (slots, text, judged) = memory slots text

@@ -35,13 +35,13 @@ words_of (Some (Verifies arguments)) = arguments
 words_of _ = []
 
 -- what is known of acceptance with the given map arguments holds for those of the task, as they are the same
-pub accepts_asked : (given : List Text) (told : Option Asked) (input : Option (List ℕ)) {E : Type 0}
+pub accepts_asked : (given : List Text) (seen : Option Asked) (input : Option (List ℕ)) {E : Type 0}
     (r : Result ℕ E)
-    → told ≡ Some (Verifies given)
+    → seen ≡ Some (Verifies given)
     → IfOk r (λ status. status ≡ 0 → AcceptsIfKnown given input)
-    → IfOk r (λ status. status ≡ 0 → (maps : List Text) → told ≡ Some (Verifies maps) → AcceptsIfKnown maps input)
+    → IfOk r (λ status. status ≡ 0 → (maps : List Text) → seen ≡ Some (Verifies maps) → AcceptsIfKnown maps input)
 unfolding words_of
-accepts_asked given told input r is accepts =
+accepts_asked given seen input r is accepts =
     IfOk-weaker r _ _
     (λ status accepted zero maps other.
     subst (λ ws. AcceptsIfKnown ws input) (ap words_of (sym is ∙ other)) (accepted zero))

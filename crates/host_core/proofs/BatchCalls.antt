@@ -59,13 +59,13 @@ one_run : (t : ℕ) (frame payload : List ℕ) (before : List TenantState) (s be
     → owner frame ≡ t → slice_get before t ≡ Some s
     → MayReply frame (reply_to frame (pos 0) payload) (Some s) (Some between)
     → Handles before frame (reply_to frame (pos 0) payload) (set before t between)
-one_run t frame payload before s between own found told =
+one_run t frame payload before s between own found seen =
     let reply = reply_to frame (pos 0) payload in
     let after = set before t between in
     let last : slice_get after t ≡ Some between = slice_get-set_same before t between (within before t s found) in
     let at_t : MayReply frame reply (slice_get before t) (slice_get after t) =
     subst (λ (x : Option TenantState). MayReply frame reply (slice_get before t) x) (sym last)
-    (subst (λ (x : Option TenantState). MayReply frame reply x (Some between)) (sym found) told) in record {
+    (subst (λ (x : Option TenantState). MayReply frame reply x (Some between)) (sym found) seen) in record {
       own = subst (λ (n : ℕ). MayReply frame reply (slice_get before n) (slice_get after n)) (sym own) at_t;
       others = λ other ne. slice_get-set_other before t other between (λ (e : other ≡ t). ne (e ∙ sym own));
       count = length-set before t between;
@@ -96,9 +96,9 @@ batch_is_its_calls t fd (frame ∷ frames) (input ∷ inputs) [] before after s 
     absurd runs
 batch_is_its_calls t fd (frame ∷ frames) (input ∷ inputs) (result ∷ results) before after s last
     owned tests found runs left changes =
-    let (between, told, rest) = runs in
+    let (between, seen, rest) = runs in
     let answer = gives (little_bytes 4 result) between in
-    let answers = subst (λ (r : Result Command BadFrame). AnswersFrame false s r answer) (sym tests.0) told in
+    let answers = subst (λ (r : Result Command BadFrame). AnswersFrame false s r answer) (sym tests.0) seen in
     let states = set before t between in
     let reply = reply_to frame (pos 0) (little_bytes 4 result) in
     let turn : Turn = record { frame = frame; reply = reply; states = states } in

@@ -19,15 +19,15 @@ is_equal : (a b : ℕ) → a ≡ b → (a == b) ≡ true
 is_equal a b same = by (eqb_tells a b)
   where
     by : ((a == b) ≡ true) × (a ≡ b) ⊎ ((a == b) ≡ false) × (a ≢ b) → (a == b) ≡ true
-    by (inl told) = told.0
-    by (inr told) = absurd (told.1 same)
+    by (inl seen) = seen.0
+    by (inr seen) = absurd (seen.1 same)
 
 is_other : (a b : ℕ) → a ≢ b → (a == b) ≡ false
 is_other a b differ = by (eqb_tells a b)
   where
     by : ((a == b) ≡ true) × (a ≡ b) ⊎ ((a == b) ≡ false) × (a ≢ b) → (a == b) ≡ false
-    by (inl told) = absurd (differ told.1)
-    by (inr told) = told.0
+    by (inl seen) = absurd (differ seen.1)
+    by (inr seen) = seen.0
 
 some_left : (rest : List ℕ) → 0 < length rest → (length rest == 0) ≡ false
 some_left rest some = is_other (length rest) 0 (λ e. omega (arith, e))

@@ -18,11 +18,11 @@ other_status false frame e = let same : 255 ≡ 242 = ap (λ (b : List ℕ). get
 pub refusal_is_no_fault : (frame reply : List ℕ)
     → reply ≡ reply_to frame (status_of (if nat_lt (length frame) 4 then Invalid else NotPermitted)) []
     → ¬ IsFault reply
-refusal_is_no_fault frame reply told e = other_status (nat_lt (length frame) 4) frame (subst IsFault told e)
+refusal_is_no_fault frame reply seen e = other_status (nat_lt (length frame) 4) frame (subst IsFault seen e)
 
 -- the reply to a frame of a tenant that is served
 pub served_is_no_fault : FaultsHaveNoPayload
     → (frame reply : List ℕ) (before after : Option TenantState) → MayReply frame reply before after
     → reply ≢ reply_to frame (status_of BadAddress) []
     → ¬ IsFault reply
-served_is_no_fault law frame reply before after told ne e = ne (law frame reply before after told e)
+served_is_no_fault law frame reply before after seen ne e = ne (law frame reply before after seen e)

@@ -61,20 +61,20 @@ by_command s births refused c a (commands, history) answers = (
 by_frame : (frame reply : List ℕ) (s t : TenantState) (births later : List Birth)
     → IsReached s births → RecordsFrame frame reply s t births later
     → IsReached t later
-by_frame frame reply s t births later reached told = by (parsed frame) told.answers told.recorded
+by_frame frame reply s t births later reached seen = by (parsed frame) seen.answers seen.recorded
   where
     by : (p : Result Command BadFrame)
-        → AnswersFrame told.refused s p told.answer
-        → later ≡ births_after_frame p told.answer births
+        → AnswersFrame seen.refused s p seen.answer
+        → later ≡ births_after_frame p seen.answer births
         → IsReached t later
     by (Err fault) answers recorded =
-        let same : t ≡ s = told.left ∙ ap (λ (a : Answer). a.after) answers in
+        let same : t ≡ s = seen.left ∙ ap (λ (a : Answer). a.after) answers in
         subst (λ (x : TenantState). IsReached x later) (sym same)
         (subst (λ (bs : List Birth). IsReached s bs) (sym recorded) reached)
     by (Ok c) answers recorded =
-        subst (λ (x : TenantState). IsReached x later) (sym told.left)
-        (subst (λ (bs : List Birth). IsReached told.answer.after bs) (sym recorded)
-        (by_command s births told.refused c told.answer reached answers))
+        subst (λ (x : TenantState). IsReached x later) (sym seen.left)
+        (subst (λ (bs : List Birth). IsReached seen.answer.after bs) (sym recorded)
+        (by_command s births seen.refused c seen.answer reached answers))
 
 by_runs : (births : List Birth) (fd : ℕ) (s t : TenantState) (inputs : List BatchInput) (results : List ℕ)
     → IsReached s births → RunsInOrder fd s inputs results t → IsReached t births
@@ -125,17 +125,17 @@ by_handle before after frame reply reached handles records = record {
         → slice_get after.births (owner frame) ≡ Some births
         → IsReached s births
     own s births None e there born =
-        let told =
+        let seen =
         subst (λ (x : Option TenantState). MayReply frame reply x (slice_get after.states (owner frame)))
         e handles.own in
-        absurd (none-some s (sym told.1.0 ∙ there))
+        absurd (none-some s (sym seen.1.0 ∙ there))
     own s births (Some x) e there born =
         let (bs, born_before) = get_too before.states before.births (owner frame) x reached.many e in
-        let (t, later, state_is, births_are, told) = records.own x bs e born_before in
+        let (t, later, state_is, births_are, seen) = records.own x bs e born_before in
         let same : t ≡ s = same_Some t s (sym state_is ∙ there) in
         let same_births : later ≡ births = same_Some later births (sym births_are ∙ born) in
         subst (λ (u : TenantState). IsReached u births) same (subst (λ (ls : List Birth). IsReached t ls) same_births
-        (by_frame frame reply x t bs later (reached.each (owner frame) x bs e born_before) told))
+        (by_frame frame reply x t bs later (reached.each (owner frame) x bs e born_before) seen))
 
     at : (t : ℕ) (s : TenantState) (births : List Birth)
         → slice_get after.states t ≡ Some s → slice_get after.births t ≡ Some births

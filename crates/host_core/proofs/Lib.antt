@@ -7,7 +7,7 @@ pub mod Heads
 pub mod Faults
 pub mod Stands
 pub mod Serving
-pub mod ToldAlone
+pub mod ServedAlone
 mod BatchCalls
 mod Replays
 mod Ends

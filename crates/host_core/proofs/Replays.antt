@@ -24,8 +24,8 @@ is_itself : (n : ℕ) → (n == n) ≡ true
 is_itself n = by (eqb_tells n n)
   where
     by : ((n == n) ≡ true) × (n ≡ n) ⊎ ((n == n) ≡ false) × (n ≢ n) → (n == n) ≡ true
-    by (inl told) = told.0
-    by (inr told) = absurd (told.1 refl)
+    by (inl seen) = seen.0
+    by (inr seen) = absurd (seen.1 refl)
 
 same_first : (n : ℕ) (x y : List ℕ) (xs ys : List (List ℕ))
     → (if n == n then x ∷ xs else xs) ≡ (if n == n then y ∷ ys else ys) → x ≡ y

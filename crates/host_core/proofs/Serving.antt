@@ -16,7 +16,7 @@ use Rattle.tenant.specs.Alone.{frames_of, replies_of, MayReply, IsFault, AloneWi
 use Rattle.host_core.specs.declared.server.ServeFault.{ServeFault}
 use Rattle.host_core.specs.declared.server.ServeFaultKind.{ServeFaultKind}
 use Rattle.host_core.specs.declared.server.ServeFaultKind.TheVariants.{Read, Write, Truncated, TooManyFrames, Memory}
-use Rattle.host_core.specs.Laws.{EachIsToldByItsMachine, UnrefusedAreToldAlone, CallsAreToldAlone}
+use Rattle.host_core.specs.Laws.{EachIsServedByItsMachine, UnrefusedAreServedAlone, CallsAreServedAlone}
 use Rattle.host_core.specs.Served.{NoneFaults, StreamState, NoCallFailed, Serves, ServesAlone, AnswersFrames, CutsLastReply}
 use Rattle.host_core.specs.Served.{joined_replies, ServesToEnd, StopsWithFault, StopsAlone, IsFlushedAgain, ServesStream}
 use Rattle.host_core.specs.Handled.{Handles, Turn, frames_in, replies_in, HandlesInOrder}
@@ -49,23 +49,23 @@ handled_first t frame reply frames replies before mid after h rest =
 
 -- ---- calls of `handle` in sequence
 
-calls_told : (before after : List TenantState) (turns : List Turn)
+calls_seen : (before after : List TenantState) (turns : List Turn)
     → HandlesInOrder before turns after
-    → EachIsToldByItsMachine before (frames_in turns) (replies_in turns) after × NoneFaults (replies_in turns)
-calls_told before after [] same = ((λ t. ap (λ (s : List TenantState). slice_get s t) same), tt)
-calls_told before after (turn ∷ turns) (h, rest) =
-    let (told, sound) = calls_told turn.states after turns rest in (
+    → EachIsServedByItsMachine before (frames_in turns) (replies_in turns) after × NoneFaults (replies_in turns)
+calls_seen before after [] same = ((λ t. ap (λ (s : List TenantState). slice_get s t) same), tt)
+calls_seen before after (turn ∷ turns) (h, rest) =
+    let (seen, sound) = calls_seen turn.states after turns rest in (
       (λ t.
           handled_first t turn.frame turn.reply (frames_of t (frames_in turns))
           (replies_of t (frames_in turns) (replies_in turns))
-          before turn.states (slice_get after t) h (told t)),
+          before turn.states (slice_get after t) h (seen t)),
       (h.no_fault, sound),
     )
 
-pub calls_are_told_alone : UnrefusedAreToldAlone → CallsAreToldAlone
-calls_are_told_alone alone before after turns h =
-    let (told, sound) = calls_told before after turns h in
-    (told, alone before after (frames_in turns) (replies_in turns) told, sound)
+pub calls_are_served_alone : UnrefusedAreServedAlone → CallsAreServedAlone
+calls_are_served_alone alone before after turns h =
+    let (seen, sound) = calls_seen before after turns h in
+    (seen, alone before after (frames_in turns) (replies_in turns) seen, sound)
 
 -- one more turn
 abbrev turn_of : List ℕ → List ℕ → List TenantState → Turn
@@ -295,12 +295,12 @@ end_done old mid new count limit same answered sound read written flushed states
     (subst (λ (n : ℕ). AnswersFrames old new n []) same rest, end, sound_both old mid new sound more)
 
 -- the replies to each tenant are those of its machine
-answered_alone : CallsAreToldAlone
+answered_alone : CallsAreServedAlone
     → (old new : StreamState) (count : ℕ) (rest : List ℕ) → IsPartial rest
     → AnswersFrames old new count rest
     → ServesAlone old new count rest
 answered_alone law old new count rest partial (turns, many, s) =
-    let (told, alone, no_fault) = law old.states new.states turns s.handled in
+    let (seen, alone, no_fault) = law old.states new.states turns s.handled in
     record {
       frames = frames_in turns;
       replies = replies_in turns;
@@ -314,7 +314,7 @@ answered_alone law old new count rest partial (turns, many, s) =
     }
 
 -- a call that ends at the end of its input serves its frames as `ServesAlone` has it
-pub serves_alone : CallsAreToldAlone
+pub serves_alone : CallsAreServedAlone
     → (old new : StreamState) (count : ℕ) → ServesToEnd old new count
     → ServesAlone old new count []
 serves_alone law old new count (answered, end, sound) = answered_alone law old new count [] (inl (lit≤ tt)) answered
@@ -334,7 +334,7 @@ nothing_served m = record {
 }
 
 -- a call that ends with another fault than Write serves the frames before it as `ServesAlone` has it
-pub stops_alone : CallsAreToldAlone
+pub stops_alone : CallsAreServedAlone
     → (old new : StreamState) (kind : ServeFaultKind) (count : ℕ)
     → StopsWithFault old new kind count
     → StopsAlone old new kind count
@@ -400,7 +400,7 @@ end_fails old mid new count limit kind is same answered sound read written flush
 -- ---- the contract of `serve`
 
 -- a call that ends at the end of its input, within the limit of frames, meets the contract of `serve`
-pub ends_served : CallsAreToldAlone
+pub ends_served : CallsAreServedAlone
     → (limit count : ℕ) (old new : StreamState) → count ≤ limit
     → IsFlushedAgain old new → ServesToEnd old new count
     → ServesStream limit (Ok count) old new
@@ -433,7 +433,7 @@ ends_unread limit m = record {
 }
 
 -- a call that ends with a fault, at a number of frames that fits the fault, meets the contract of `serve`
-pub ends_stopped : CallsAreToldAlone
+pub ends_stopped : CallsAreServedAlone
     → (limit : ℕ) (fault : ServeFault) (old new : StreamState) → fault.frames ≤ limit
     → (fault.kind ≢ Write → IsFlushedAgain old new)
     → (fault.kind ≡ Truncated → fault.frames < limit)

@@ -94,7 +94,7 @@ stands_tells front frame reply None after (inr (long_front, long_frame, e)) (ref
     let o = same_owner front frame long_front long_frame e in
     let c = same_command front frame long_front long_frame e in
     (refused, (h.0, h.1 ∙ none_status front frame o c long_front long_frame))
-stands_tells front frame reply (Some s) after (inr (long_front, long_frame, e)) (refused, (a, answers, told, goes)) =
+stands_tells front frame reply (Some s) after (inr (long_front, long_frame, e)) (refused, (a, answers, seen, goes)) =
     let o = same_owner front frame long_front long_frame e in
     let c = same_command front frame long_front long_frame e in
     let same = same_parsed front frame long_front long_frame in (
@@ -102,7 +102,7 @@ stands_tells front frame reply (Some s) after (inr (long_front, long_frame, e)) 
       (
         a,
         subst (λ (r : Result Command BadFrame). AnswersFrame refused s r a) same answers,
-        told ∙ same_head front frame a.status a.payload o c,
+        seen ∙ same_head front frame a.status a.payload o c,
         goes,
       ),
     )

@@ -153,13 +153,13 @@ pub tells_own : (m n : Memory) (ks : List RecordedTenant) (states : List TenantS
     → i < length ks → slice_get ks i ≡ Some k
     → MayReply frame reply (Some (tenant_state (part_bytes m i) k)) (Some (tenant_state (part_bytes n i) l))
     → MayReply frame reply (slice_get states o) (slice_get (states_in n (set ks i l)) o)
-tells_own m n ks states i o k l frame reply is own lt found told =
+tells_own m n ks states i o k l frame reply is own lt found seen =
     let before = state_there m ks states i k is found in
     let after = own_after n ks i l lt in
     let here =
     subst (λ (x : Option TenantState). MayReply frame reply (slice_get states i) x) (sym after)
     (subst (λ (x : Option TenantState). MayReply frame reply x (Some (tenant_state (part_bytes n i) l)))
-    (sym before) told) in
+    (sym before) seen) in
     subst (λ (j : ℕ). MayReply frame reply (slice_get states j) (slice_get (states_in n (set ks i l)) j)) own here
 
 -- the reply to a frame of a tenant that is not served
@@ -167,8 +167,8 @@ pub tells_none : (states : List TenantState) (i : ℕ) (frame reply : List ℕ)
     → slice_get states i ≡ None
     → reply ≡ reply_to frame (status_of (if nat_lt (length frame) 4 then Invalid else NotPermitted)) []
     → MayReply frame reply (slice_get states i) (slice_get states i)
-tells_none states i frame reply none told =
-    subst (λ (x : Option TenantState). MayReply frame reply x x) (sym none) (false, (refl, told))
+tells_none states i frame reply none seen =
+    subst (λ (x : Option TenantState). MayReply frame reply x x) (sym none) (false, (refl, seen))
 
 -- ---- the flag
 
@@ -176,18 +176,18 @@ tells_none states i frame reply none told =
 module _ (m : Memory) (ks : List RecordedTenant) (states : List TenantState) (i : ℕ)
     (k : RecordedTenant) (is : states_in m ks ≡ states) (found : slice_get ks i ≡ Some k)
     (flag : Bool)
-    (told : (part : List ℕ) → flag ≡ (tenant_state part k).refused) where
+    (seen : (part : List ℕ) → flag ≡ (tenant_state part k).refused) where
   -- if the flag is clear, no memory was refused to the tenant
-  pub told_unrefused : flag ≡ false → IsUnrefused (slice_get states i)
-  told_unrefused clear =
-      subst IsUnrefused (sym (state_there m ks states i k is found)) (sym (told (part_bytes m i)) ∙ clear)
+  pub seen_unrefused : flag ≡ false → IsUnrefused (slice_get states i)
+  seen_unrefused clear =
+      subst IsUnrefused (sym (state_there m ks states i k is found)) (sym (seen (part_bytes m i)) ∙ clear)
 
   -- if the flag is set, memory was refused to the tenant
-  pub told_refused : flag ≡ true → ¬ IsUnrefused (slice_get states i)
-  told_refused set unrefused =
+  pub seen_refused : flag ≡ true → ¬ IsUnrefused (slice_get states i)
+  seen_refused set unrefused =
       let here : (tenant_state (part_bytes m i) k).refused ≡ false =
       subst IsUnrefused (state_there m ks states i k is found) unrefused in
-      let wrong : true ≡ false = sym set ∙ told (part_bytes m i) ∙ here in cc wrong
+      let wrong : true ≡ false = sym set ∙ seen (part_bytes m i) ∙ here in cc wrong
 
 -- a tenant that is not served has no state, and so no flag
 pub none_unrefused : (states : List TenantState) (i : ℕ) → length states ≤ i → IsUnrefused (slice_get states i)
@@ -301,7 +301,7 @@ pub records_own : (m n : Memory) (ks : List RecordedTenant) (h : HostState) (i :
     → i < length ks → slice_get ks i ≡ Some k
     → RecordsFrame frame reply (tenant_state (part_bytes m i) k) (tenant_state (part_bytes n i) l) k.births l.births
     → Records frame reply h (host_state n (set ks i l))
-records_own m n ks h i k l frame reply is own lt found told =
+records_own m n ks h i k l frame reply is own lt found seen =
     subst (λ (x : HostState). Records frame reply x after) is
     (record {
       own = owns;
@@ -346,7 +346,7 @@ records_own m n ks h i k l frame reply is own lt found told =
               state_is
               (subst (λ (bs : List Birth).
               RecordsFrame frame reply (tenant_state (part_bytes m i) k) (tenant_state (part_bytes n i) l) bs l.births)
-              births_is told),
+              births_is seen),
         )
 
     others : (other : ℕ) → other ≢ owner frame → slice_get after.births other ≡ slice_get (births_in ks) other

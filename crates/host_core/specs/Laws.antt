@@ -5,42 +5,42 @@ use Rattle.std.specs.Io.KnownBytes.{Appends}
 use Rattle.command_frames.specs.Frame.{owner}
 use Rattle.command_frames.specs.Laws.{IsStream}
 use Rattle.tenant.specs.State.{TenantState}
-use Rattle.tenant.specs.Alone.{frames_of, replies_of, NoneIsRefusedMemory, IsToldAlone, AloneWithRefusals}
+use Rattle.tenant.specs.Alone.{frames_of, replies_of, NoneIsRefusedMemory, IsServedAlone, AloneWithRefusals}
 use Rattle.host_core.specs.Handled.{Turn, frames_in, replies_in, states_after, HandlesInOrder}
 use Rattle.host_core.specs.declared.server.ServeFault.{ServeFault}
 use Rattle.host_core.specs.declared.server.ServeFaultKind.TheVariants.{Truncated, TooManyFrames, Memory}
 use Rattle.host_core.specs.Served.{IsUnrefused, Noninterference, NoneFaults, StreamState, ServesAlone, ServesStream, NoCallFailed}
 
 -- each tenant gets replies that its own machine may give to its own frames; memory may be refused
-abbrev pub EachIsToldByItsMachine : List TenantState → List (List ℕ) → List (List ℕ)
+abbrev pub EachIsServedByItsMachine : List TenantState → List (List ℕ) → List (List ℕ)
     → List TenantState → Type 0
-EachIsToldByItsMachine before frames replies after =
+EachIsServedByItsMachine before frames replies after =
     (t : ℕ)
     → AloneWithRefusals (slice_get before t) (frames_of t frames) (replies_of t frames replies)
     (slice_get after t)
 
 -- If each tenant gets replies that its machine may give with refusals of memory, then a tenant to
 -- which none was refused gets exactly those without refusals, whatever was refused to others.
-abbrev pub UnrefusedAreToldAlone : Type 0
-UnrefusedAreToldAlone =
+abbrev pub UnrefusedAreServedAlone : Type 0
+UnrefusedAreServedAlone =
     (before after : List TenantState) (frames replies : List (List ℕ))
-    → EachIsToldByItsMachine before frames replies after
+    → EachIsServedByItsMachine before frames replies after
     → Noninterference before frames replies after
 
 -- Over a sequence of calls, each tenant gets replies that its machine may give to its own frames,
 -- and if no memory was refused to it, exactly those of its machine without refusals; and no test
 -- run faults.
-abbrev pub CallsAreToldAlone : Type 0
-CallsAreToldAlone =
+abbrev pub CallsAreServedAlone : Type 0
+CallsAreServedAlone =
     (before after : List TenantState) (turns : List Turn) → HandlesInOrder before turns after
-    → EachIsToldByItsMachine before (frames_in turns) (replies_in turns) after
+    → EachIsServedByItsMachine before (frames_in turns) (replies_in turns) after
     × Noninterference before (frames_in turns) (replies_in turns) after
     × NoneFaults (replies_in turns)
 
 -- After each number of turns, each tenant to which no memory was refused until then got exactly the
 -- replies of its own machine, whatever is refused to it later.
-abbrev pub EachIsToldAloneUntilRefused : Type 0
-EachIsToldAloneUntilRefused =
+abbrev pub EachIsServedAloneUntilRefused : Type 0
+EachIsServedAloneUntilRefused =
     (before after : List TenantState) (turns : List Turn) (n : ℕ)
     → HandlesInOrder before turns after
     → Noninterference before (frames_in (take n turns)) (replies_in (take n turns))
@@ -53,12 +53,12 @@ abbrev pub NoninterferenceByReplies
     : List TenantState → List (List ℕ) → List (List ℕ) → List TenantState → Type 0
 NoninterferenceByReplies before frames replies after =
     (t : ℕ) → let own = replies_of t frames replies in NoneIsRefusedMemory own
-    → IsToldAlone (slice_get before t) (frames_of t frames) own (slice_get after t)
+    → IsServedAlone (slice_get before t) (frames_of t frames) own (slice_get after t)
 
 -- In each stretch of turns, n after the first m, a tenant none of whose replies is that memory was
 -- refused gets exactly the replies of its own machine, from the state before the stretch.
-abbrev pub EachStretchIsToldAlone : Type 0
-EachStretchIsToldAlone =
+abbrev pub EachStretchIsServedAlone : Type 0
+EachStretchIsServedAlone =
     (before after : List TenantState) (turns : List Turn) (m n : ℕ)
     → HandlesInOrder before turns after
     → let start = states_after before (take m turns) in

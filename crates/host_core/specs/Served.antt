@@ -12,7 +12,7 @@ use Rattle.host_core.specs.declared.stream.Source.{Ghosts as OfSource}
 use Rattle.command_frames.specs.Frame.{framed, IsFrame, IsPartial}
 use Rattle.tenant.specs.State.{TenantState}
 use Rattle.host_core.specs.Handled.{Turn, frames_in, replies_in, HandlesInOrder}
-use Rattle.tenant.specs.Alone.{frames_of, replies_of, IsFault, IsToldAlone}
+use Rattle.tenant.specs.Alone.{frames_of, replies_of, IsFault, IsServedAlone}
 
 -- ---- the replies to the tenants
 
@@ -27,7 +27,7 @@ IsUnrefused (Some s) = s.refused ≡ false
 abbrev pub Noninterference :
     List TenantState → List (List ℕ) → List (List ℕ) → List TenantState → Type 0
 Noninterference before frames replies after =
-    (t : ℕ) → IsUnrefused (slice_get after t) → IsToldAlone (slice_get before t)
+    (t : ℕ) → IsUnrefused (slice_get after t) → IsServedAlone (slice_get before t)
     (frames_of t frames) (replies_of t frames replies) (slice_get after t)
 
 -- none of these replies has the status of a test run that faulted

@@ -3,7 +3,7 @@
 
 ghost use Rattle.std.specs.Prelude.{◌≡◌, ◌≤◌, ◌<◌, ◌-◌, ◌^◌, ℕ, List, [], ◌∷◌, replicate, slice_get, IfSome};
 ghost use Rattle.command_frames.specs.Frame.{owner};
-ghost use Rattle.tenant.specs.Alone.{IsRefusedMemory, IsToldAlone};
+ghost use Rattle.tenant.specs.Alone.{IsRefusedMemory, IsServedAlone};
 ghost use Rattle.tenant.specs.State.{TenantState, new_tenant};
 ghost use Rattle.host_core.specs.Handled.{Handles};
 ghost use Rattle.host_core.specs.Served.{stream_state, ServesAlone};
@@ -11,7 +11,7 @@ ghost use Rattle.host_core.specs.Saving.{AreRestored};
 ghost use Rattle.host_core.specs.Limits.{most_frames, most_tenants};
 
 use crate::host::{Host, MOST_TENANTS};
-use crate::laws::each_stretch_is_told_alone;
+use crate::laws::each_stretch_is_served_alone;
 use crate::server::{MOST_FRAMES, serve, serve_new_host};
 use crate::stream::{Sink, Source};
 use command_frames::ReplyBuf;
@@ -59,10 +59,10 @@ fn serve_and_save<R: Source, W: Sink>(
 fn handle_after_a_refusal(host: &mut Host, refused: &[u8], next: &[u8], reply: &mut ReplyBuf)
     ensures { (first : List ℕ) × (between : List TenantState)
         × Handles host.old.states refused.now first between
-        × (¬ IsRefusedMemory reply.new → IsToldAlone (slice_get between (owner next.now))
+        × (¬ IsRefusedMemory reply.new → IsServedAlone (slice_get between (owner next.now))
         (next.now ∷ []) (reply.new ∷ []) (slice_get host.new.states (owner next.now))) }
 {
-    each_stretch_is_told_alone();
+    each_stretch_is_served_alone();
     host.handle(refused, reply);
     host.handle(next, reply);
 }

@@ -2,13 +2,13 @@
 
 ghost use Rattle.host_core.specs.Batch.{BatchIsItsCalls};
 ghost use Rattle.host_core.specs.Saving.{TenantsAreRestored};
-ghost use Rattle.host_core.specs.Laws.{UnrefusedAreToldAlone, CallsAreToldAlone, EachIsToldAloneUntilRefused};
-ghost use Rattle.host_core.specs.Laws.{EachStretchIsToldAlone, SameFramesSameReplies, SameFramesSameOutput, NoContentEndsAStream};
+ghost use Rattle.host_core.specs.Laws.{UnrefusedAreServedAlone, CallsAreServedAlone, EachIsServedAloneUntilRefused};
+ghost use Rattle.host_core.specs.Laws.{EachStretchIsServedAlone, SameFramesSameReplies, SameFramesSameOutput, NoContentEndsAStream};
 
 /// A law, for a stream whose contract allows refused memory (`done`, `fault` of `serve`): each tenant to which no memory was refused gets
 /// exactly the replies of its own machine, whatever was refused to others.
-pub fn unrefused_are_told_alone()
-    ensures { UnrefusedAreToldAlone }
+pub fn unrefused_are_served_alone()
+    ensures { UnrefusedAreServedAlone }
 {
     tenant::laws::clear_flag_means_alone();
 }
@@ -16,28 +16,28 @@ pub fn unrefused_are_told_alone()
 /// A law, for a caller of `Host::handle`, whose contract is about one call. Over a sequence of calls, each tenant gets replies that its
 /// machine may give to its own frames, and if no memory was refused to it, exactly those of its machine without refusals; and no test
 /// run faults.
-pub fn calls_are_told_alone()
-    ensures { CallsAreToldAlone }
+pub fn calls_are_served_alone()
+    ensures { CallsAreServedAlone }
 {
-    unrefused_are_told_alone();
+    unrefused_are_served_alone();
 }
 
 /// A law, by which a later refusal changes nothing in earlier replies. After each number of calls of `Host::handle`, each tenant to which
 /// no memory was refused until then got exactly the replies of its own machine, whatever is refused to it later, and to others.
-pub fn each_is_told_alone_until_refused()
-    ensures { EachIsToldAloneUntilRefused }
+pub fn each_is_served_alone_until_refused()
+    ensures { EachIsServedAloneUntilRefused }
 {
-    calls_are_told_alone();
+    calls_are_served_alone();
 }
 
 /// A law, for tenants to which memory was refused before. In each stretch of calls of `Host::handle` in which none of a tenant's replies
 /// has the status `NoMemory`, these replies are exactly those of its own machine from the state that it has at the stretch's beginning,
 /// whatever is refused to others. Only its own creations and loads can have that status:
 /// `tenant::laws::only_creations_and_loads_are_refused`.
-pub fn each_stretch_is_told_alone()
-    ensures { EachStretchIsToldAlone }
+pub fn each_stretch_is_served_alone()
+    ensures { EachStretchIsServedAlone }
 {
-    calls_are_told_alone();
+    calls_are_served_alone();
     tenant::laws::unrefused_replies_mean_alone();
 }
 

@@ -16,15 +16,15 @@
 //!   except a fault of the writer, which cuts a reply: `alone`, `alone_before` of `serve`.
 //! - Over a whole stream, or the part of it that was read, the replies to each tenant are ones that its own machine may give to
 //!   its own frames, whatever memory is refused: `done`, `fault` of `serve`. For each tenant whose flag is clear they are those
-//!   of its machine without refusals: `unrefused_are_told_alone`.
+//!   of its machine without refusals: `unrefused_are_served_alone`.
 //! - `serve` handles its frames one after another, and there are states of all tenants after each of them (`HandlesInOrder`):
 //!   `done`, `fault` of `serve`. After each of these turns, each tenant whose flag is then clear got exactly the replies of its
-//!   own machine, whatever is refused to it later: `each_is_told_alone_until_refused`.
+//!   own machine, whatever is refused to it later: `each_is_served_alone_until_refused`.
 //! - In each stretch of these turns in which no reply to a tenant has the status -12, the replies to it are exactly those of
 //!   its own machine from the state that it has at the beginning, whether its flag is set or not, and whatever is refused to
-//!   others: `each_stretch_is_told_alone`. Only its own MAP_CREATE and PROG_LOAD can have that status
+//!   others: `each_stretch_is_served_alone`. Only its own MAP_CREATE and PROG_LOAD can have that status
 //!   (`only_creations_and_loads_are_refused` of `tenant`).
-//! - Both also hold for a sequence of calls of `Host::handle` without a stream, and no test run faults: `calls_are_told_alone`.
+//! - Both also hold for a sequence of calls of `Host::handle` without a stream, and no test run faults: `calls_are_served_alone`.
 //! - `serve_new_host` promises the same of a stream that a new host serves, from the states of new tenants.
 //! - A caller can ask whether a tenant's flag is set: `refused`, `unrefused` of `Host::memory_was_refused`. How much a tenant has, what
 //!   a descriptor of it names, what a program of it costs, and all descriptors as the verifier sees them are what its state says:
@@ -96,7 +96,7 @@
 //! - A save is no command of the protocol: the owner of the host requests it, not a tenant.
 //! - Two relations define the replies to each tenant: one allows refused memory and holds whenever a call of `serve` ends; the
 //!   other has no refusals and holds for each tenant whose flag is clear. The second follows from the first by the law
-//!   `unrefused_are_told_alone`, and has clauses of its own in `serve`, so that it can be read without the first. If a write
+//!   `unrefused_are_served_alone`, and has clauses of its own in `serve`, so that it can be read without the first. If a write
 //!   fails, a reply is cut, and the second relation follows from `fault` by the law.
 //! - The clauses of `serve` are the fields of one record, `ServesStream`: the states before and after a call occur once in its
 //!   contract, and each field relates the two.

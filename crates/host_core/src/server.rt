@@ -139,7 +139,7 @@ pub fn serve<R: Source, W: Sink>(
         });
     };
     // For the proof of what each tenant gets: a law, which does nothing.
-    laws::calls_are_told_alone();
+    laws::calls_are_served_alone();
     for frames in 0..limit {
         match serve_frame(host, reader, writer, &mut buffers) {
             Ok(true) => {}

@@ -74,8 +74,8 @@ second_kind _ src rest kind e = absurd cc
 abbrev IsRight : List ℕ → Option FaultKind → Type 0
 IsRight bytes found = (kind : FaultKind) → found ≡ Some kind → HasFault bytes kind
 
-told : (bytes : List ℕ) (found : FaultKind) → HasFault bytes found → IsRight bytes (Some found)
-told bytes found h kind e = subst (HasFault bytes) (same_Some found kind e) h
+seen : (bytes : List ℕ) (found : FaultKind) → HasFault bytes found → IsRight bytes (Some found)
+seen bytes found h kind e = subst (HasFault bytes) (same_Some found kind e) h
 
 by_register : {bytes : List ℕ} {f : OpcodeForm}
     → IsRead bytes f → listed f (slot_of bytes) ≡ true
@@ -88,21 +88,21 @@ by_register {bytes} {f} r ok none =
     (λ few kind e.
     let parts = and_parts (leb s.dst 10) (leb s.src 10) few in
     subst (HasFault bytes) (second_kind f s.src (drop 8 bytes) kind e) (has_first_slot 10 r ok (leb-true _ _ parts.0) (leb-true _ _ parts.1), none))
-    (λ many. told bytes Register (has_first_slot 15 r ok (omega (arith, fields.dst)) (omega (arith, fields.src)), no_register bytes many))
+    (λ many. seen bytes Register (has_first_slot 15 r ok (omega (arith, fields.dst)) (omega (arith, fields.src)), no_register bytes many))
 
 by_form : {bytes : List ℕ} {f : OpcodeForm} → IsRead bytes f → (HasInsn bytes → ⊥) → IsRight bytes (fault_in_form f (slot_of bytes) (drop 8 bytes))
 unfolding fault_in_form
 by_form {bytes} {f} r none =
     let s = slot_of bytes in
     cond_both (listed f s) (cond (leb s.dst 10 && leb s.src 10) (second_fault f s.src (drop 8 bytes)) (Some Register)) (Some Reserved) (IsRight bytes)
-    (λ ok. by_register r ok none) (λ unlisted. told bytes Reserved (r.long, known bytes f (r.fits 0) r.form, not_listed r unlisted))
+    (λ ok. by_register r ok none) (λ unlisted. seen bytes Reserved (r.long, known bytes f (r.fits 0) r.form, not_listed r unlisted))
 
 by_opcode : (bytes : List ℕ)
     → IsBytes bytes → 8 ≤ length bytes
     → (HasInsn bytes → ⊥)
     → (o : Option OpcodeForm) → form_at (slot_of bytes).opcode ≡ o
     → IsRight bytes (fault_by_form o (slot_of bytes) (drop 8 bytes))
-by_opcode bytes fits long none None is = told bytes Opcode (long, unknown bytes is)
+by_opcode bytes fits long none None is = seen bytes Opcode (long, unknown bytes is)
 by_opcode bytes fits long none (Some f) is = by_form (record { fits = fits; long = long; form = is }) none
 
 -- the fault that the code finds at the front of bytes is the fault of the grammar
@@ -111,7 +111,7 @@ unfolding first_fault
 has_fault bytes kind fits e =
     let none : HasInsn bytes → ⊥ = λ (h : HasInsn bytes). none-some kind (sym (no_fault h.0 bytes h.1 h.2) ∙ e) in
     cond_both (ltb (length bytes) 8) (Some Ragged) (fault_by_form (form_at (slot_of bytes).opcode) (slot_of bytes) (drop 8 bytes)) (IsRight bytes)
-    (λ short. told bytes Ragged (ltb-true _ _ short)) (λ long. by_opcode bytes fits (ltb-false _ _ long) none (form_at (slot_of bytes).opcode) refl) kind e
+    (λ short. seen bytes Ragged (ltb-true _ _ short)) (λ long. by_opcode bytes fits (ltb-false _ _ long) none (form_at (slot_of bytes).opcode) refl) kind e
 
 -- if the first slot has valid fields, the fault is that of the second slot
 pub fault_by_second : (f : OpcodeForm) (s t : SlotFields) (rest : List ℕ) (kind : FaultKind)

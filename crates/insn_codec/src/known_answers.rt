@@ -72,7 +72,7 @@ fn kinds_at_front() {
 
 /// In a program of a wide load and an exit, instructions begin at slots 0 and 2, and none at slot 1 or past the end.
 #[tactic(auto, unfolding(insn_set::specs::Program::begins_at))]
-fn places_of_a_program(alloc: Global) -> Result<(), CodecFault> {
+fn first_slots_of_a_program(alloc: Global) -> Result<(), CodecFault> {
     let program = Program::new(alloc, &[wide(7), Insn::Exit])?;
     let slots = program.slots();
     prove!(slots == 3);

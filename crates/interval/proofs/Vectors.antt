@@ -113,7 +113,7 @@ AreEdgeRows rows =
     rows
     ≡ map (λ (row : EdgeRow). (row.4, row.5)) rows
 
-edges_that_are_told : AreEdgeRows (
+edges_that_are_seen : AreEdgeRows (
     (64, Equal, constant 0, constant 1, None, Some ((0, 0), (1, 1)))
     ∷ (64, NotEqual, span 0 3, constant 3, Some ((0, 2), (3, 3)), Some ((3, 3), (3, 3)))
     ∷ (64, Above, span 0 255, constant 7, Some ((8, 255), (7, 7)), Some ((0, 7), (7, 7)))
@@ -122,7 +122,7 @@ edges_that_are_told : AreEdgeRows (
     ∷ (64, BelowOrEqual, span 0 255, constant 7, Some ((0, 7), (7, 7)), Some ((8, 255), (7, 7)))
     ∷ (32, Below, span 0 255, constant 7, Some ((0, 6), (7, 7)), Some ((7, 255), (7, 7)))
     ∷ [])
-edges_that_are_told = refl
+edges_that_are_seen = refl
 
 -- low halves of greater numbers, signs and common bits give no new range
 edges_that_tell_nothing : AreEdgeRows ((

@@ -11,7 +11,7 @@ use Rattle.verifier.specs.declared.fault.VerifyFault.{VerifyFault}
 use Rattle.verifier.specs.Cost.{IsCostOf}
 use Rattle.verifier.specs.Maps.{shapes_of}
 use Rattle.verifier.specs.Shape.{structure_fault}
-use Rattle.verifier.specs.Told.{reached}
+use Rattle.verifier.specs.Seen.{reached}
 use Rattle.verifier.specs.Verdict.{HasNoFault, IsAccepted, IsFirstFault, safety_fault}
 
 -- the facts that were kept, as pairs: a slot, and the facts before the instruction at this slot

@@ -38,7 +38,7 @@ impl Watcher for Recorder {
     ghost use Rattle.log_facts.specs.Known.{facts_by_slot};
 
     // What contracts see of a recorder: the slots and facts that it keeps.
-    ghost told = { λ r. Some (facts_by_slot r.known.items) };
+    ghost seen = { λ r. Some (facts_by_slot r.known.items) };
 
     /// Appends the facts before the instruction at `slot`.
     fn before(&mut self, slot: usize, facts: &Facts) -> Result<(), AllocError> {
@@ -63,7 +63,7 @@ pub struct Judged {
 ///
 /// `AllocError`: out of memory for the verdict or for the facts.
 pub fn judge(alloc: Global, program: &Program, named: &[Named]) -> Result<Judged, AllocError>
-    ensures { IfOk result (λ told. IsJudged program.now named.now told.known.items told.verdict) }
+    ensures { IfOk result (λ seen. IsJudged program.now named.now seen.known.items seen.verdict) }
 {
     let mut recorder = Recorder {
         known: Vec::new(alloc),

@@ -1,7 +1,7 @@
 //! The control-flow graph, in the language of Graphviz.
 
 use crate::control::{block_starts, target_at};
-use crate::lines::Story;
+use crate::lines::ListingInput;
 use crate::steps::Step;
 use bpf_text::write_insn;
 use insn_codec::{Insn, Successors};
@@ -21,20 +21,20 @@ const HEAD: &str =
 #[derive(Clone, Copy)]
 enum Edge<'a> {
     /// Nothing: there was no pass, since the program's shape has a fault.
-    Untold,
+    Unknown,
     /// A run may take it; the text is what is new on it, empty if nothing is.
     Taken(&'a str),
     /// No run takes it.
     Dead,
 }
 
-/// What is known of an edge: `told` is the text of what is new on it, `None` if no run takes it, as far as the pass went, or if there was
+/// What is known of an edge: `seen` is the text of what is new on it, `None` if no run takes it, as far as the pass went, or if there was
 /// no pass.
-fn edge_of<'a>(story: &Story<'_>, told: Option<&'a String>) -> Edge<'a> {
-    match told {
+fn edge_of<'a>(story: &ListingInput<'_>, seen: Option<&'a String>) -> Edge<'a> {
+    match seen {
         Some(text) => Edge::Taken(text.as_str()),
         None if story.has_pass => Edge::Dead,
-        None => Edge::Untold,
+        None => Edge::Unknown,
     }
 }
 
@@ -54,7 +54,7 @@ struct Block {
 fn write_style(text: &mut String, name: &str, edge: Edge<'_>) -> Result<(), AllocError> {
     match edge {
         Edge::Dead => write!(text, " [{UNREACHED}]"),
-        Edge::Taken(told) if !told.is_empty() => write!(text, " [label=\"{name}:\\n{told}\"]"),
+        Edge::Taken(seen) if !seen.is_empty() => write!(text, " [label=\"{name}:\\n{seen}\"]"),
         _ if name.is_empty() => Ok(()),
         _ => write!(text, " [label=\"{name}\"]"),
     }
@@ -78,7 +78,7 @@ fn write_edge(
 /// instruction begins: only a program whose shape has a fault has such edges.
 fn write_edges(
     text: &mut String,
-    story: &Story<'_>,
+    story: &ListingInput<'_>,
     first: usize,
     slot: usize,
     insn: &Insn,
@@ -92,13 +92,13 @@ fn write_edges(
     };
     let next = slot.saturating_add(insn.slots());
     if successors.falls() && program.is_first(next) {
-        let told = step.and_then(|step| step.falling.as_ref());
-        write_edge(text, first, next, not_taken, edge_of(story, told))?;
+        let seen = step.and_then(|step| step.falling.as_ref());
+        write_edge(text, first, next, not_taken, edge_of(story, seen))?;
     }
     match target_at(program, slot) {
         Some(to) if program.is_first(to) => {
-            let told = step.and_then(|step| step.jumping.as_ref());
-            write_edge(text, first, to, taken, edge_of(story, told))
+            let seen = step.and_then(|step| step.jumping.as_ref());
+            write_edge(text, first, to, taken, edge_of(story, seen))
         }
         _ => Ok(()),
     }
@@ -116,7 +116,7 @@ fn write_label(text: &mut String, lines: &str) -> Result<(), AllocError> {
 #[derive(Drop)]
 struct Graph<'a> {
     alloc: Global,
-    story: &'a Story<'a>,
+    story: &'a ListingInput<'a>,
     /// The slot and the reason of the rejection; `None` if the program is accepted.
     fault: Option<VerifyFault>,
     /// The fault in words, as lines; empty if there is none.
@@ -234,7 +234,7 @@ fn write_blocks(text: &mut String, mut graph: Graph<'_>) -> Result<(), AllocErro
 /// Those that no run reaches, as far as the pass went, are dashed; the block with the rejected instruction is red, with `why` in it.
 pub(crate) fn graph_of(
     alloc: Global,
-    story: &Story<'_>,
+    story: &ListingInput<'_>,
     fault: Option<VerifyFault>,
     why: &str,
 ) -> Result<String, AllocError> {

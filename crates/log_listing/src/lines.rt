@@ -11,11 +11,11 @@ use std::alloc::AllocError;
 use std::fmt::Write;
 
 /// The width in bytes to which spaces fill up a line's slot and instruction, so that the notes are aligned. Few instructions are longer.
-const COLUMN: usize = 40;
+const CODE_WIDTH: usize = 40;
 
 /// What is to be written of a program.
 #[derive(Clone, Copy)]
-pub(crate) struct Story<'a> {
+pub(crate) struct ListingInput<'a> {
     pub program: &'a Program,
     /// The steps of the pass: the instructions that it reached, in the order of their slots.
     pub steps: &'a [Step],
@@ -43,12 +43,12 @@ struct Line {
     end: usize,
 }
 
-/// Begins a note: the first one on the line after spaces up to `COLUMN` and ` // `, others after a semicolon.
+/// Begins a note: the first one on the line after spaces up to `CODE_WIDTH` and ` // `, others after a semicolon.
 fn begin_note(text: &mut String, line: Line) -> Result<(), AllocError> {
     if text.len() > line.end {
         return text.push_str("; ");
     }
-    for _ in line.end.saturating_sub(line.begin)..COLUMN {
+    for _ in line.end.saturating_sub(line.begin)..CODE_WIDTH {
         text.push_str(" ")?;
     }
     text.push_str(" // ")
@@ -68,7 +68,7 @@ fn write_note(text: &mut String, line: Line, note: &str) -> Result<(), AllocErro
 fn write_sources(
     text: &mut String,
     line: Line,
-    story: &Story<'_>,
+    story: &ListingInput<'_>,
     cursor: &mut Cursor,
     slot: usize,
 ) -> Result<(), AllocError> {
@@ -105,11 +105,11 @@ fn write_edges(
         (None, None) => Ok(()),
         (None, Some(_)) => write_note(text, line, "always jumps"),
         (Some(_), None) => write_note(text, line, "never jumps"),
-        (Some(_), Some(told)) => {
+        (Some(_), Some(seen)) => {
             match target_at(program, step.slot) {
-                Some(to) if !told.is_empty() => {
+                Some(to) if !seen.is_empty() => {
                     begin_note(text, line)?;
-                    write!(text, "to {to}: {told}")
+                    write!(text, "to {to}: {seen}")
                 }
                 _ => Ok(()),
             }
@@ -122,7 +122,7 @@ fn write_edges(
 fn write_step(
     text: &mut String,
     line: Line,
-    story: &Story<'_>,
+    story: &ListingInput<'_>,
     cursor: &mut Cursor,
     insn: &Insn,
     step: &Step,
@@ -140,7 +140,7 @@ fn write_step(
 /// nothing if there was no pass, since the program's shape has a fault. Moves the cursor past the step.
 fn write_notes(
     text: &mut String,
-    story: &Story<'_>,
+    story: &ListingInput<'_>,
     cursor: &mut Cursor,
     insn: &Insn,
     slot: usize,
@@ -166,7 +166,7 @@ fn write_notes(
 /// Writes the line of the instruction at `slot`, with its notes.
 fn write_line(
     text: &mut String,
-    story: &Story<'_>,
+    story: &ListingInput<'_>,
     cursor: &mut Cursor,
     insn: &Insn,
     slot: usize,
@@ -185,7 +185,7 @@ fn write_line(
 /// instruction has no line. `text` ends with a whole line before, or is empty, as `lines_of` passes it.
 pub(crate) fn write_lines(
     text: &mut String,
-    story: &Story<'_>,
+    story: &ListingInput<'_>,
     last: usize,
 ) -> Result<(), AllocError>
     requires { AreLines (string_bytes text.old) }

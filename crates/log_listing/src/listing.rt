@@ -5,7 +5,7 @@ ghost use Rattle.log_facts.specs.Said.{EndsInVerdict};
 
 use crate::control::live_jumps;
 use crate::graph::graph_of;
-use crate::lines::{Story, write_lines};
+use crate::lines::{ListingInput, write_lines};
 use crate::steps::steps_of;
 use insn_codec::Program;
 use log_facts::{Judged, LogStyle, is_of_shape, write_verdict};
@@ -16,7 +16,7 @@ use verifier::{Cost, VerifyFault};
 /// The lines of the instructions, of a rejected program up to the rejected one, and then the verdict, after a rejection with `why`.
 fn lines_of(
     alloc: Global,
-    story: &Story<'_>,
+    story: &ListingInput<'_>,
     verdict: Result<Cost, VerifyFault>,
     why: &str,
 ) -> Result<String, AllocError>
@@ -50,7 +50,7 @@ pub fn listing_of(
     let Judged { known, verdict } = judged;
     let steps = steps_of(alloc, program, named, known, style == LogStyle::Whole)?;
     let jumps = live_jumps(alloc, program, &steps)?;
-    let story = Story {
+    let story = ListingInput {
         program,
         steps: &steps,
         jumps: &jumps,

@@ -10,7 +10,7 @@ use tagged_model::Named;
 
 /// The program's output and its exit status.
 #[derive(Drop)]
-struct Answer {
+struct Output {
     text: String,
     status: u8,
 }
@@ -23,21 +23,21 @@ fn maps_given(alloc: Global, matches: &ArgMatches<'_>) -> Result<Vec<Named>, Fai
     }
 }
 
-impl Answer {
+impl Output {
     /// The output for a log: its text, and the status of its verdict, 0 if the program is accepted, else 1.
-    fn of_log(text: String, is_accepted: bool) -> Answer {
+    fn of_log(text: String, is_accepted: bool) -> Output {
         let status = if is_accepted { 0 } else { 1 };
-        Answer { text, status }
+        Output { text, status }
     }
 }
 
 /// The output for an input: the log of its program, or the refusal of the slots on hex lines if they are no program. A fault of a
 /// line is a `Failure`, and so has no output.
-fn log_answer<I: Read + Drop>(
+fn log_output<I: Read + Drop>(
     alloc: Global,
     matches: &ArgMatches<'_>,
     input: I,
-) -> Result<Answer, Failure> {
+) -> Result<Output, Failure> {
     let maps = maps_given(alloc, matches)?;
     let input = whole_input(alloc, input)?;
     let style = style_of(matches);
@@ -45,7 +45,7 @@ fn log_answer<I: Read + Drop>(
         ProgramForm::Hex => {
             let slots = hex_slots(alloc, &input)?;
             let SlotsLog { text, is_accepted } = log_of_slots(alloc, &slots, &maps, style)?;
-            Ok(Answer::of_log(text, is_accepted))
+            Ok(Output::of_log(text, is_accepted))
         }
         ProgramForm::Text => {
             let program = text_program(alloc, &input)?;
@@ -55,22 +55,22 @@ fn log_answer<I: Read + Drop>(
                 // The text is written from these.
                 facts: _,
             } = log_of(alloc, &program, &maps, style)?;
-            Ok(Answer::of_log(text, is_accepted))
+            Ok(Output::of_log(text, is_accepted))
         }
     }
 }
 
 /// The output for the arguments: the log, or help, or the version.
-fn answer_of<I: Read + Drop>(
+fn output_of<I: Read + Drop>(
     alloc: Global,
     arguments: &[&str],
     input: I,
-) -> Result<Answer, Failure> {
+) -> Result<Output, Failure> {
     match parse_arguments(alloc, arguments) {
-        Ok(matches) => log_answer(alloc, &matches, input),
+        Ok(matches) => log_output(alloc, &matches, input),
         // An error proper, and not help or the version.
         Err(error) if error.use_stderr() => Err(Failure::from(error)),
-        Err(error) => Ok(Answer {
+        Err(error) => Ok(Output {
             text: error.to_string(alloc)?,
             status: 0,
         }),
@@ -92,7 +92,7 @@ fn run<I: Read + Drop, O: Write + Drop>(
     input: I,
     mut output: O,
 ) -> Result<u8, Failure> {
-    let Answer { text, status } = answer_of(alloc, arguments, input)?;
+    let Output { text, status } = output_of(alloc, arguments, input)?;
     write_out(&mut output, text.as_str())?;
     Ok(status)
 }

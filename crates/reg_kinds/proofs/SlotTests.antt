@@ -76,20 +76,20 @@ spill_at f n p = any_below 64 (λ i. is_touched_spill (slot_at f i) (touches p n
 abbrev pub missing_at : Facts → ℕ → ℕ → Bool
 missing_at f n p = any_below 64 (λ i. lacks (slot_at f i) (bits_in p n i))
 
-abbrev pub told_of : Bool → Bool → Result (Unit {0}) Reason
-told_of a b = if a then Err PartOfSpill else (if b then Err UnwrittenStack else Ok tt)
+abbrev pub seen_of : Bool → Bool → Result (Unit {0}) Reason
+seen_of a b = if a then Err PartOfSpill else (if b then Err UnwrittenStack else Ok tt)
 
 input_at : (f : Facts) (x : ℤ) (n p : ℕ) (a b : Bool)
     → (if is_in_stack x n then Some (byte_index x) else None) ≡ Some p
     → a ≡ spill_at f n p → b ≡ missing_at f n p
-    → told_of a b ≡ stack_input f x n
+    → seen_of a b ≡ stack_input f x n
 input_at f x n p a b at e g =
     let h = cond_some (is_in_stack x n) (byte_index x) p at in
-    ap (λ a. told_of a b) e
-    ∙ ap (told_of (spill_at f n p)) g
-    ∙ sym (ap (λ q. told_of (spill_at f n q) (missing_at f n q)) h.1)
+    ap (λ a. seen_of a b) e
+    ∙ ap (seen_of (spill_at f n p)) g
+    ∙ sym (ap (λ q. seen_of (spill_at f n q) (missing_at f n q)) h.1)
     ∙ sym (ap (λ t.
-    if not t then Err OutsideStack else told_of (spill_at f n (byte_index x)) (missing_at f n (byte_index x)))
+    if not t then Err OutsideStack else seen_of (spill_at f n (byte_index x)) (missing_at f n (byte_index x)))
     h.0)
 
 -- if bytes lie in the stack, only a touched spill or an unwritten byte is a reason against a helper's read of them
@@ -97,7 +97,7 @@ pub input_is : (f : Facts) (x y : ℤ) (n p : ℕ) (a b : Bool)
     → y ≡ x
     → (if is_in_stack y n then Some (byte_index y) else None) ≡ Some p
     → a ≡ spill_at f n p → b ≡ missing_at f n p
-    → told_of a b ≡ stack_input f x n
+    → seen_of a b ≡ stack_input f x n
 input_is f x y n p a b same at e g =
     input_at f x n p a b (subst (λ z. (if is_in_stack z n then Some (byte_index z) else None) ≡ Some p) same at) e g
 

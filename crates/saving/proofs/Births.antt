@@ -387,13 +387,13 @@ module _ {s : TenantState} (h : HoldsItsMaps s) (bs : List Birth) (are : AreBirt
       as_born : (x : Answer) → a ≡ x → Born x → Born a
       as_born x e born_so = subst (λ (y : Answer). Born y) (sym e) born_so
 
-      as_told : (refused : Bool) (fd : ℕ) → table.lowest s.objects ≡ Some fd → LoadsAs refused s fd slots a → Born a
-      as_told true fd low e = as_born (refuses_for_memory s) e (flagged true)
-      as_told false fd low (j, judges, e) = as_born (answer_of_judgement s fd j) e (judged_births fd j low)
+      as_seen : (refused : Bool) (fd : ℕ) → table.lowest s.objects ≡ Some fd → LoadsAs refused s fd slots a → Born a
+      as_seen true fd low e = as_born (refuses_for_memory s) e (flagged true)
+      as_seen false fd low (j, judges, e) = as_born (answer_of_judgement s fd j) e (judged_births fd j low)
 
       under : (o : Option ℕ) → table.lowest s.objects ≡ o → LoadsUnder refused s o slots a → Born a
       under None low e = as_born (refuses TooManyOpen s) e are
-      under (Some fd) low e = as_told refused fd low e
+      under (Some fd) low e = as_seen refused fd low e
 
       by : (socket : Bool)
           → MatchBool socket (LoadsUnder refused s (table.lowest s.objects) slots a) (a ≡ refuses Invalid s)

@@ -15,7 +15,7 @@ use Rattle.tagged_model.specs.declared.shape.MapKind.TheVariants.{Hash, Array}
 use Rattle.tagged_model.specs.declared.shape.MapShape.{MapShape}
 use Rattle.tenant.specs.declared.object.OpenObject.{OpenObject}
 use Rattle.tenant.specs.State.{Map, TenantState, new_tenant, live}
-use Rattle.tenant.specs.Alone.{AnswersFrame, IsToldAlone}
+use Rattle.tenant.specs.Alone.{AnswersFrame, IsServedAlone}
 use Rattle.saving.specs.Births.{Birth, OfMap, OfProgram, number, AreInOrder, IsBorn}
 use Rattle.saving.specs.Filler.{filler}
 use Rattle.tenant.specs.Described.{type_number}
@@ -135,22 +135,22 @@ module _ (law : EncodingInvertsParsing) (tenant : ℕ) where
 
   -- ---- the replies to the walk
 
-  record Told (s : TenantState) (cs : List Command) (t : TenantState) : Type 0 where
+  record Seen (s : TenantState) (cs : List Command) (t : TenantState) : Type 0 where
     replies : List (List ℕ)
-    told : IsToldAlone (Some s) (map (frame_of tenant) cs) replies (Some t)
+    seen : IsServedAlone (Some s) (map (frame_of tenant) cs) replies (Some t)
     good : AreGood (map (frame_of tenant) cs) replies
 
-  told_by : (cs : List Command) (s t : TenantState) → AreCarried cs → Leads s cs t → Told s cs t
-  told_by [] s t carried e = record { replies = []; told = ap (λ (x : TenantState). Some x) e; good = tt }
-  told_by (c ∷ cs) s t carried (a, answers, well, rest) =
-      let later = told_by cs a.after t carried.1 rest in
+  seen_by : (cs : List Command) (s t : TenantState) → AreCarried cs → Leads s cs t → Seen s cs t
+  seen_by [] s t carried e = record { replies = []; seen = ap (λ (x : TenantState). Some x) e; good = tt }
+  seen_by (c ∷ cs) s t carried (a, answers, well, rest) =
+      let later = seen_by cs a.after t carried.1 rest in
       let frame = frame_of tenant c in
       record {
         replies = reply_to frame a.status a.payload ∷ later.replies;
-        told = (
+        seen = (
           Some a.after,
           (a, subst (λ (p : Result Command BadFrame). AnswersFrame false s p a) (sym carried.0) answers, refl, refl),
-          later.told,
+          later.seen,
         );
         good = ((well.0, a.payload, ap (λ (status : ℤ). reply_to frame status a.payload) well.1), later.good);
       }
@@ -160,6 +160,6 @@ pub restored_by_frames : EncodingInvertsParsing → IsProgram filler → Restore
 restored_by_frames encoded fine law tenant s births whole are =
     let (t, leads, alike, holds) = law s births whole are in
     let all =
-    told_by encoded tenant (restored s births) new_tenant t
+    seen_by encoded tenant (restored s births) new_tenant t
     (restored_carried encoded tenant fine s births whole are.order) leads in
-    (t, all.replies, all.told, all.good, alike, holds)
+    (t, all.replies, all.seen, all.good, alike, holds)

@@ -334,37 +334,37 @@ module _ {move : ℕ → ℕ} {s t : TenantState} (h : ArePair move s t) where
       sym (ap (λ (os : List (Option OpenObject)). table.named os fd) h.by.objects ∙ named_moved move s.objects fd)
 
   -- a reply that is a function of the state
-  as_told : (a x y : Answer) → a ≡ x → IsAlikeAnswer x y → (b : Answer) × (b ≡ y) × IsAlikeAnswer a b
-  as_told a x y is alike = (y, refl, subst (λ (z : Answer). IsAlikeAnswer z y) (sym is) alike)
+  as_seen : (a x y : Answer) → a ≡ x → IsAlikeAnswer x y → (b : Answer) × (b ≡ y) × IsAlikeAnswer a b
+  as_seen a x y is alike = (y, refl, subst (λ (z : Answer). IsAlikeAnswer z y) (sym is) alike)
 
   answers_too : (refused : Bool) (command : Command) (a : Answer)
       → Answers refused s command a → AnswersToo refused command a
   answers_too refused (map_create kind key value max flags) a is =
-      as_told a _ _ is (created_too refused (asked_shape (kind_of kind) key value max flags))
+      as_seen a _ _ is (created_too refused (asked_shape (kind_of kind) key value max flags))
   answers_too refused (map_lookup fd key) a is =
-      as_told a _ _ is
+      as_seen a _ _ is
       (on_map_too fd _ _
       (λ handle m named. if_too (length key == m.shape.key_size) (found_too (look_up m key)) (refused_too Invalid)))
   answers_too refused (map_update fd flags bytes) a is =
-      as_told a _ _ is
+      as_seen a _ _ is
       (on_map_too fd _ _
       (λ handle m named. if_too (length bytes == m.shape.key_size + m.shape.value_size)
       (put_too handle m (take m.shape.key_size bytes) (drop m.shape.key_size bytes)
       (verdict m (take m.shape.key_size bytes) flags) named)
       (refused_too Invalid)))
   answers_too refused (map_delete fd key) a is =
-      as_told a _ _ is
+      as_seen a _ _ is
       (on_map_too fd _ _
       (λ handle m named.
       if_too (length key == m.shape.key_size) (taken_too handle m key (removal m key) named) (refused_too Invalid)))
   answers_too refused (map_next_key fd key) a is =
-      as_told a _ _ is
+      as_seen a _ _ is
       (on_map_too fd _ _
       (λ handle m named.
       if_too (length key == 0 || length key == m.shape.key_size) (found_too (next_of m key)) (refused_too Invalid)))
   answers_too refused (prog_load kind slots) a is = loads_too refused kind slots a is
   answers_too refused (prog_test_run fd words packet) a is =
-      as_told a _ _ is (subst (λ (o : Option OpenObject).
+      as_seen a _ _ is (subst (λ (o : Option OpenObject).
       IsAlikeAnswer (run_of s words packet (table.named s.objects fd)) (run_of t words packet o))
       (moved_named fd)
       (run_too words packet (table.named s.objects fd)
@@ -373,7 +373,7 @@ module _ {move : ℕ → ℕ} {s t : TenantState} (h : ArePair move s t) where
         program_in t fd (with_moved l) (sym (moved_named fd) ∙ ap (option_map (moved_object move)) here),
       ))))
   answers_too refused (close fd) a is =
-      as_told a _ _ is
+      as_seen a _ _ is
       (subst (λ (o : Option OpenObject). IsAlikeAnswer (closed s fd (table.named s.objects fd)) (closed t fd o))
       (moved_named fd) (closed_too fd (table.named s.objects fd)))
 

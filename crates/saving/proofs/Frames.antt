@@ -6,7 +6,7 @@ use Rattle.command_frames.specs.Command.{Command, parsed}
 use Rattle.command_frames.specs.Frame.{reply_to}
 use Rattle.tenant.specs.State.{TenantState}
 use Rattle.tenant.specs.Machine.{Answer, refuses}
-use Rattle.tenant.specs.Alone.{frame_errno, AnswersFrame, RepliesUnder, MayReply, RepliesInOrder, IsToldAlone}
+use Rattle.tenant.specs.Alone.{frame_errno, AnswersFrame, RepliesUnder, MayReply, RepliesInOrder, IsServedAlone}
 use Rattle.tenant.specs.Laws.{OneAlone}
 use Rattle.saving.specs.Alike.{IsAlike, HoldsItsMaps}
 use Rattle.saving.specs.Laws.{MapsAreHeld, AlikeIsBisimulation, AlikeStatesReplyAlike}
@@ -57,7 +57,7 @@ module _ (one_alone : OneAlone) (held : MapsAreHeld) (bisimulation : AlikeIsBisi
     left : TenantState
     right : TenantState
     left_is : after ≡ Some left
-    told : tells frame reply (Some t) (Some right)
+    seen : tells frame reply (Some t) (Some right)
     alike : AreAlike left right
 
   reply_under : (refused : Bool) (s t : TenantState) (frame reply : List ℕ) (after : Option TenantState)
@@ -70,7 +70,7 @@ module _ (one_alone : OneAlone) (held : MapsAreHeld) (bisimulation : AlikeIsBisi
         left = a.after;
         right = too.b.after;
         left_is = goes;
-        told = (
+        seen = (
           too.b,
           too.answers,
           said
@@ -84,13 +84,13 @@ module _ (one_alone : OneAlone) (held : MapsAreHeld) (bisimulation : AlikeIsBisi
   may_reply : (s t : TenantState) (frame reply : List ℕ) (after : Option TenantState)
       → AreAlike s t → MayReply frame reply (Some s) after
       → ReplyToo MayReply t frame reply after
-  may_reply s t frame reply after h (refused, told) =
-      let too = reply_under refused s t frame reply after h told in
+  may_reply s t frame reply after h (refused, seen) =
+      let too = reply_under refused s t frame reply after h seen in
       record {
         left = too.left;
         right = too.right;
         left_is = too.left_is;
-        told = (refused, too.told);
+        seen = (refused, too.seen);
         alike = too.alike;
       }
 
@@ -104,16 +104,16 @@ module _ (one_alone : OneAlone) (held : MapsAreHeld) (bisimulation : AlikeIsBisi
   in_order tells each [] [] s t after h is = (Some t, refl)
   in_order tells each [] (reply ∷ replies) s t after h is = absurd is
   in_order tells each (frame ∷ frames) [] s t after h is = absurd is
-  in_order tells each (frame ∷ frames) (reply ∷ replies) s t after h (between, told, rest) =
-      let too = each s t frame reply between h told in
+  in_order tells each (frame ∷ frames) (reply ∷ replies) s t after h (between, seen, rest) =
+      let too = each s t frame reply between h seen in
       let (end, later) =
       in_order tells each frames replies too.left too.right after too.alike
       (subst (λ (x : Option TenantState). RepliesInOrder tells x frames replies after) too.left_is rest) in
-      (end, (Some too.right, too.told, later))
+      (end, (Some too.right, too.seen, later))
 
   alone_too : (s t : TenantState) (frames replies : List (List ℕ)) (after : Option TenantState)
       → HoldsItsMaps s → HoldsItsMaps t
-      → IsAlike s t → IsToldAlone (Some s) frames replies after
+      → IsAlike s t → IsServedAlone (Some s) frames replies after
       → Reaches (RepliesUnder false) t frames replies
   alone_too s t frames replies after one two alike is =
       in_order (RepliesUnder false) (reply_under false) frames replies s t after
@@ -126,6 +126,6 @@ module _ (one_alone : OneAlone) (held : MapsAreHeld) (bisimulation : AlikeIsBisi
     refused = λ s t frames replies after one two alike is.
         in_order MayReply may_reply frames replies s t after (record { one = one; two = two; alike = alike }) is;
     same = λ s t frames replies others after end one two alike is too.
-        let (other, told) = alone_too s t frames replies after one two alike is in
-        (one_alone (Some t) end other frames others replies too told).0;
+        let (other, seen) = alone_too s t frames replies after one two alike is in
+        (one_alone (Some t) end other frames others replies too seen).0;
   }

@@ -29,13 +29,13 @@ pub on_lent : PartsAreApart
     → AnswersCommand command h reply (state_in (part_bytes m t) k)
     (state_in (part_bytes (with_part m t new) t) l) births
     later
-on_lent law {m} {t} {old} {new} {command} {h} {reply} {births} {later} k l lent told =
+on_lent law {m} {t} {old} {new} {command} {h} {reply} {births} {later} k l lent seen =
     let own : part_bytes (with_part m t new) t ≡ new =
     law.own m t new (lent.parts, lent.served.0) (lent.whole ∙ sym lent.served.1) in
     let of_new :
     AnswersCommand command h reply (state_in old k) (state_in (part_bytes (with_part m t new) t) l) births later =
     subst (λ (bytes : List ℕ). AnswersCommand command h reply (state_in old k) (state_in bytes l) births later)
-    (sym own) told in
+    (sym own) seen in
     subst (λ (bytes : List ℕ).
     AnswersCommand command h reply (state_in bytes k) (state_in (part_bytes (with_part m t new) t) l) births later)
     lent.bytes of_new

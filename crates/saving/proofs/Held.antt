@@ -263,15 +263,15 @@ module _ {s : TenantState} (h : HoldsItsMaps s) where
       held_as : (x : Answer) → a ≡ x → HoldsItsMaps x.after → HoldsItsMaps a.after
       held_as x is held = subst (λ (y : Answer). HoldsItsMaps y.after) (sym is) held
 
-      as_told : (refused : Bool) (fd : ℕ)
+      as_seen : (refused : Bool) (fd : ℕ)
           → table.lowest s.objects ≡ Some fd → LoadsAs refused s fd slots a
           → HoldsItsMaps a.after
-      as_told true fd low is = held_as _ is (flag_held true)
-      as_told false fd low (j, judges, is) = held_as _ is (judged_held fd j low)
+      as_seen true fd low is = held_as _ is (flag_held true)
+      as_seen false fd low (j, judges, is) = held_as _ is (judged_held fd j low)
 
       under : (o : Option ℕ) → table.lowest s.objects ≡ o → LoadsUnder refused s o slots a → HoldsItsMaps a.after
       under None low is = held_as _ is h
-      under (Some fd) low is = as_told refused fd low is
+      under (Some fd) low is = as_seen refused fd low is
 
       by : (socket : Bool)
           → MatchBool socket (LoadsUnder refused s (table.lowest s.objects) slots a) (a ≡ refuses Invalid s)

@@ -31,10 +31,10 @@ pub histories_are_restored : BirthsAreKept
 histories_are_restored birth can restores replies tenant commands s births history =
     let is =
     ready_after birth can commands new_tenant s [] births (record { can = can.new; are = birth.new }) history in
-    let (t, given, told, good, alike, holds) = restores tenant s births is.can is.are in (
+    let (t, given, seen, good, alike, holds) = restores tenant s births is.can is.are in (
       t,
       given,
-      told,
+      seen,
       good,
       (λ frames xs after alone. replies.alone s t frames xs after is.can.held holds alike alone),
       (λ frames xs ys after end alone too. replies.same s t frames xs ys after end is.can.held holds alike alone too),

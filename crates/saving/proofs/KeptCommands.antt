@@ -401,14 +401,14 @@ module _ {s : TenantState} (can : IsRestorable s) where
       as_kept : (x : Answer) → a ≡ x → Keeps x → Keeps a
       as_kept x e keeps = subst Keeps (sym e) keeps
 
-      as_told : (refused : Bool) (fd : ℕ) → table.lowest s.objects ≡ Some fd → LoadsAs refused s fd slots a → Keeps a
-      as_told true fd low e = as_kept (refuses_for_memory s) e (flag_kept true)
-      as_told false fd low (j, judges, e) =
+      as_seen : (refused : Bool) (fd : ℕ) → table.lowest s.objects ≡ Some fd → LoadsAs refused s fd slots a → Keeps a
+      as_seen true fd low e = as_kept (refuses_for_memory s) e (flag_kept true)
+      as_seen false fd low (j, judges, e) =
           as_kept (answer_of_judgement s fd j) e (judged_kept law fd slots j low judges)
 
       under : (o : Option ℕ) → table.lowest s.objects ≡ o → LoadsUnder refused s o slots a → Keeps a
       under None low e = as_kept (refuses TooManyOpen s) e (λ holds. can)
-      under (Some fd) low e = as_told refused fd low e
+      under (Some fd) low e = as_seen refused fd low e
 
       by : (socket : Bool)
           → MatchBool socket (LoadsUnder refused s (table.lowest s.objects) slots a) (a ≡ refuses Invalid s)
@@ -446,39 +446,39 @@ answer_kept : MapsAreHeld
     → IsRestorable a.after
 answer_kept held law refused s command a can is = by command is (held.kept refused s command a can.held is)
   where
-    told : (x : Answer)
+    seen : (x : Answer)
         → a ≡ x
         → (HoldsItsMaps x.after → IsRestorable x.after)
         → HoldsItsMaps a.after
         → IsRestorable a.after
-    told x e keeps = subst (λ (y : Answer). HoldsItsMaps y.after → IsRestorable y.after) (sym e) keeps
+    seen x e keeps = subst (λ (y : Answer). HoldsItsMaps y.after → IsRestorable y.after) (sym e) keeps
 
     by : (c : Command) → Answers refused s c a → HoldsItsMaps a.after → IsRestorable a.after
     by (map_create kind key value max flags) is =
-        told _ is (create_kept can refused (asked_shape (kind_of kind) key value max flags))
+        seen _ is (create_kept can refused (asked_shape (kind_of kind) key value max flags))
     by (map_lookup fd key) is =
-        told _ is
+        seen _ is
         (on_map_kept can fd _
         (λ handle t there.
         if_kept can (length key == t.shape.key_size) _ _ (λ e. found_kept can (look_up t key)) (λ holds. can)))
-    by (map_update fd flags bytes) is = told _ is (on_map_kept can fd _ (update_kept can flags bytes))
+    by (map_update fd flags bytes) is = seen _ is (on_map_kept can fd _ (update_kept can flags bytes))
     by (map_delete fd key) is =
-        told _ is
+        seen _ is
         (on_map_kept can fd _
         (λ handle t there.
         if_kept can (length key == t.shape.key_size) _ _
         (λ e. taken_kept can handle t key (removal t key) there refl)
         (λ holds. can)))
     by (map_next_key fd key) is =
-        told _ is
+        seen _ is
         (on_map_kept can fd _
         (λ handle t there.
         if_kept can
         (length key == 0 || length key == t.shape.key_size)
         _ _ (λ e. found_kept can (next_of t key)) (λ holds. can)))
     by (prog_load kind slots) is = loads_kept can law refused kind slots a is
-    by (prog_test_run fd words packet) is = told _ is (run_kept can words packet fd (table.named s.objects fd) refl)
-    by (close fd) is = told _ is (close_kept can fd (table.named s.objects fd))
+    by (prog_test_run fd words packet) is = seen _ is (run_kept can words packet fd (table.named s.objects fd) refl)
+    by (close fd) is = seen _ is (close_kept can fd (table.named s.objects fd))
 
 -- a new tenant can be restored
 none_at : {A : Type 0} (n i : ℕ) → let none : Option A = None in get_or (replicate n none) i none ≡ none

@@ -25,7 +25,7 @@ mod KeptCommands
 mod Histories
 mod FramesHeads
 mod FramesStatuses
-mod FramesTold
+mod FramesReplied
 mod FramesLengths
 mod FramesParts
 mod FramesReplies

@@ -107,11 +107,11 @@ module _ (maps : MapsAreHeld) (law : BirthsAreKept) where
   )
   runs_keep births fd s t [] (r ∷ rs) held are wrong = absurd wrong
   runs_keep births fd s t (input ∷ inputs) [] held are wrong = absurd wrong
-  runs_keep births fd s t (input ∷ inputs) (r ∷ rs) held are (between, told, rest) =
+  runs_keep births fd s t (input ∷ inputs) (r ∷ rs) held are (between, seen, rest) =
       let command = prog_test_run fd input.words input.packet in
       let a = gives (little_bytes 4 r) between in
-      runs_keep births fd between t inputs rs (maps.kept false s command a held told)
-      (law.kept false s command a births held are told) rest
+      runs_keep births fd between t inputs rs (maps.kept false s command a held seen)
+      (law.kept false s command a births held are seen) rest
 
   -- after a batch the invariant still holds, whether the packets were run or the batch was rejected
   pub recorded_runs : {U E : Type 0} (r : Result U E) (k l : KeptTenant) (births : List Birth)

@@ -9,7 +9,7 @@ use Rattle.bpf_maps.specs.Limits.{most_maps}
 use Rattle.tenant.specs.State.{TenantState, new_tenant}
 use Rattle.tenant.specs.Batch.{BatchInput, AreTestRuns}
 use Rattle.tenant.specs.Machine.{Answer, Answers, longest_packet}
-use Rattle.tenant.specs.Alone.{IsToldAlone, AloneWithRefusals}
+use Rattle.tenant.specs.Alone.{IsServedAlone, AloneWithRefusals}
 use Rattle.saving.specs.Alike.{IsAlike, IsAlikeAnswer, HoldsItsMaps}
 use Rattle.saving.specs.Births.{Birth, AreBirths, births_after}
 use Rattle.saving.specs.Restored.{restored, Leads}
@@ -41,8 +41,8 @@ pub record AlikeStatesReplyAlike : Type 0 where
       → HoldsItsMaps s
       → HoldsItsMaps t
       → IsAlike s t
-      → IsToldAlone (Some s) frames replies after
-      → (end : Option TenantState) × IsToldAlone (Some t) frames replies end
+      → IsServedAlone (Some s) frames replies after
+      → (end : Option TenantState) × IsServedAlone (Some t) frames replies end
   pub refused : (s t : TenantState) (frames replies : List (List ℕ)) (after : Option TenantState)
       → HoldsItsMaps s
       → HoldsItsMaps t
@@ -54,8 +54,8 @@ pub record AlikeStatesReplyAlike : Type 0 where
       → HoldsItsMaps s
       → HoldsItsMaps t
       → IsAlike s t
-      → IsToldAlone (Some s) frames replies after
-      → IsToldAlone (Some t) frames others end
+      → IsServedAlone (Some s) frames replies after
+      → IsServedAlone (Some t) frames others end
       → others ≡ replies
 
 -- the births of a tenant's objects: a new tenant has none; if a list is that of the births before a
@@ -107,7 +107,7 @@ RestoredByFrames =
     (tenant : ℕ) (s : TenantState) (births : List Birth) → IsRestorable s → AreBirths s births
     → (t : TenantState)
     × (replies : List (List ℕ))
-    × IsToldAlone (Some new_tenant) (map (frame_of tenant) (restored s births)) replies (Some t)
+    × IsServedAlone (Some new_tenant) (map (frame_of tenant) (restored s births)) replies (Some t)
     × AreGood (map (frame_of tenant) (restored s births)) replies × IsAlike s t × HoldsItsMaps t
 
 -- the precondition of restoring a state (`IsRestorable`) holds for a new tenant, and each command
@@ -133,14 +133,14 @@ abbrev pub IsRestoredBy : TenantState → List (List ℕ) → Type 0
 IsRestoredBy s saved =
     (t : TenantState)
     × (given : List (List ℕ))
-    × IsToldAlone (Some new_tenant) saved given (Some t)
+    × IsServedAlone (Some new_tenant) saved given (Some t)
     × AreGood saved given
     × ((frames replies : List (List ℕ)) (after : Option TenantState)
-    → IsToldAlone (Some s) frames replies after
-    → (end : Option TenantState) × IsToldAlone (Some t) frames replies end)
+    → IsServedAlone (Some s) frames replies after
+    → (end : Option TenantState) × IsServedAlone (Some t) frames replies end)
     × ((frames replies others : List (List ℕ)) (after end : Option TenantState)
-    → IsToldAlone (Some s) frames replies after
-    → IsToldAlone (Some t) frames others end
+    → IsServedAlone (Some s) frames replies after
+    → IsServedAlone (Some t) frames others end
     → others ≡ replies)
 
 -- the state after any history of a new tenant is restored by the frames of its save

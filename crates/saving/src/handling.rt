@@ -54,7 +54,7 @@ fn reply_to_command(
     requires short { tail_length (shown_command headed.command) ≤ longest_frame }
     requires part { IsPartOf number arena.old }
     requires recorded { IsRecorded (record { kept = tenant.old; births = births.old }) }
-    ensures told { AnswersCommand (shown_command headed.entry.command) headed.entry.head reply.new
+    ensures seen { AnswersCommand (shown_command headed.entry.command) headed.entry.head reply.new
         (state_in (part_bytes arena.old number) tenant.old)
         (state_in (part_bytes arena.new number) tenant.new) births.old births.new }
     ensures changes { ChangesPart number arena.old arena.new }
@@ -130,7 +130,7 @@ impl SavableTenant {
     )
         requires head { head_of frame.now ≡ Some head }
         requires part { IsPartOf tenant arena.old }
-        ensures told { MayReply frame.now reply.new
+        ensures seen { MayReply frame.now reply.new
             (Some (tenant_state (part_bytes arena.old tenant) self.old))
             (Some (tenant_state (part_bytes arena.new tenant) self.new)) }
         ensures recorded { RecordsFrame frame.now reply.new

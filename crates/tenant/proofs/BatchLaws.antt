@@ -23,9 +23,9 @@ batch_is_its_frames fd [] (input ∷ inputs) results before after tests runs = a
 batch_is_its_frames fd (frame ∷ frames) [] results before after tests runs = absurd tests
 batch_is_its_frames fd (frame ∷ frames) (input ∷ inputs) [] before after tests runs = absurd runs
 batch_is_its_frames fd (frame ∷ frames) (input ∷ inputs) (result ∷ results) before after tests runs =
-    let (between, told, rest) = runs in
+    let (between, seen, rest) = runs in
     let answer = gives (little_bytes 4 result) between in
-    let answers = subst (λ (r : Result Command BadFrame). AnswersFrame false before r answer) (sym tests.0) told in (
+    let answers = subst (λ (r : Result Command BadFrame). AnswersFrame false before r answer) (sym tests.0) seen in (
       Some between,
       (false, (answer, answers, refl, refl)),
       batch_is_its_frames fd frames inputs results between after tests.1 rest,
@@ -38,7 +38,7 @@ one_result_each fd [] [] before after runs = refl
 one_result_each fd [] (result ∷ results) before after runs = absurd runs
 one_result_each fd (input ∷ inputs) [] before after runs = absurd runs
 one_result_each fd (input ∷ inputs) (result ∷ results) before after runs =
-    let (between, told, rest) = runs in ap (λ (n : ℕ). suc n) (one_result_each fd inputs results between after rest)
+    let (between, seen, rest) = runs in ap (λ (n : ℕ). suc n) (one_result_each fd inputs results between after rest)
 
 refused_by : (s : TenantState) (answer : Errno) (errno : Errno)
     → Some answer ≡ Some errno → refuses errno s ≡ refuses answer s

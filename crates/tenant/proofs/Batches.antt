@@ -19,7 +19,7 @@ use Rattle.tenant.specs.Loaded.{LoadedProgram, map_handles}
 use Rattle.tenant.specs.Machine.{longest_packet}
 use Rattle.tenant.specs.State.{TenantState}
 use Rattle.tenant.proofs.StillKept.{with_live}
-use Rattle.tenant.proofs.TestRunEnds.{told_of}
+use Rattle.tenant.proofs.TestRunEnds.{seen_of}
 use Rattle.tenant.proofs.TestRunKept.{kept_after}
 
 -- ---- rejections
@@ -77,10 +77,10 @@ module _ (listed : MapsAreListed) (fd : ℕ) (k : KeptTenant) (l : LoadedProgram
   unfolding RunsInOrder RunsOnEach
   runs_in_order [] [] before after kept short none = ap stood_for none
   runs_in_order (input ∷ inputs) (result ∷ results) before after kept short (between, one, rest) =
-      let told =
-      told_of listed fd kept opened (short 0 input (omega arith)) handles same refl one.runs one.maps one.values in (
+      let seen =
+      seen_of listed fd kept opened (short 0 input (omega arith)) handles same refl one.runs one.maps one.values in (
         stood_for between,
-        told,
+        seen,
         runs_in_order inputs results between after (kept_after kept one.maps)
             (λ i d lt. short (suc i) d (omega arith)) rest,
       )

@@ -71,7 +71,7 @@ pub unremoved_kept : {k : KeptTenant} {t : LiveMaps} {fd m : ℕ} {key : List �
     → IsWellFormedTenant k → IsRemoved k t fd m key (Err f)
     → IsWellFormedTenant (with_live k t)
 unremoved_kept {k} {t} {fd} {m} {key} {f} is c =
-    let (told, same) =
+    let (seen, same) =
     refused_delete f (removal (table_of (keys_at k.live m)) key) key (keys_at k.live m) (keys_at t m) c.removed in
     keys_kept is c.found.live c.rest (ap (λ (p : KeyTable). p.kept) same ∙ is.maps.ended m)
 
@@ -108,12 +108,12 @@ pub delete_refused : LiveMapsRefineValues
     → IsRemoved k t fd m key (Err f)
     → refuses (map_errno f) (state_in part (with_live k t)) ≡ element_deleted (state_in part k) fd key
 delete_refused along calls part {k} {t} {fd} {m} {key} {f} c =
-    let (told, same) =
+    let (seen, same) =
     refused_delete f (removal (table_of (keys_at k.live m)) key) key (keys_at k.live m) (keys_at t m) c.removed in
     let here = (along part k.live t m c.rest.areas c.rest.live).same same in
     let state =
     no_map part part k t (each_same part k.live t m c.found.live c.rest.live here c.rest.others) c.refused in
-    ap (refuses (map_errno f)) state ∙ ap (taken_out part k m key) (sym told) ∙ sym (delete_is calls part c)
+    ap (refuses (map_errno f)) state ∙ ap (taken_out part k m key) (sym seen) ∙ sym (delete_is calls part c)
 
 -- the reply to a deletion that succeeds, and the state after it, are those of the machine
 pub deleted : LiveMapsRefineValues
@@ -123,7 +123,7 @@ pub deleted : LiveMapsRefineValues
     → gives [] (state_in part (with_live k u)) ≡ element_deleted (state_in part k) fd key
 deleted along calls part {k} {t} {u} {fd} {m} {key} c e =
     let T = map_in part k.live m in
-    let (p, told, kept) =
+    let (p, seen, kept) =
     done_delete (removal (table_of (keys_at k.live m)) key) key (keys_at k.live m) (keys_at t m) c.removed in
     let rest = keys_along m k.live t u c.rest e.rest in
     let changed : map_in part u m ≡ call.after_run (with_deleted T key) =
@@ -133,4 +133,4 @@ deleted along calls part {k} {t} {u} {fd} {m} {key} c e =
     one_map part part k u m c.found.within rest.live
     (λ other apart. same_live part k.live u other (rest.others other apart))
     changed (e.refused ∙ c.refused) in
-    ap (gives []) state ∙ ap (taken_out part k m key) (sym told) ∙ sym (delete_is calls part c)
+    ap (gives []) state ∙ ap (taken_out part k m key) (sym seen) ∙ sym (delete_is calls part c)

@@ -147,14 +147,14 @@ bare_judged : (s : TenantState) (fd : ℕ) (j : Result (List Insn) Refusal) → 
 bare_judged s fd (Ok insns) e = refl
 bare_judged s fd (Err refusal) e = absurd (cause_other refusal.cause e)
 
-bare_told : (a b : Answer) → a ≡ b → IsBare b → IsBare a
-bare_told a b same bare = subst IsBare (sym same) bare
+bare_seen : (a b : Answer) → a ≡ b → IsBare b → IsBare a
+bare_seen a b same bare = subst IsBare (sym same) bare
 
 bare_load : (b : Bool) (s : TenantState) (o : Option ℕ) (slots : List ℕ) (a : Answer)
     → LoadsUnder b s o slots a → IsBare a
-bare_load b s None slots a h = bare_told a _ h (λ e. refl)
-bare_load true s (Some fd) slots a h = bare_told a _ h (λ e. refl)
-bare_load false s (Some fd) slots a (j, is, told) = bare_told a _ told (bare_judged s fd j)
+bare_load b s None slots a h = bare_seen a _ h (λ e. refl)
+bare_load true s (Some fd) slots a h = bare_seen a _ h (λ e. refl)
+bare_load false s (Some fd) slots a (j, is, seen) = bare_seen a _ seen (bare_judged s fd j)
 
 bare_loads : (right b : Bool) (s : TenantState) (slots : List ℕ) (a x : Answer)
     → x.payload ≡ []
@@ -183,25 +183,25 @@ bare_closed s fd (Some o) e = refl
 bare_answer : (refused : Bool) (s : TenantState) (command : Command) (a : Answer)
     → Answers refused s command a → IsBare a
 bare_answer refused s (map_create kind key value max flags) a h =
-    bare_told a _ h (bare_created refused s (asked_shape (kind_of kind) key value max flags))
+    bare_seen a _ h (bare_created refused s (asked_shape (kind_of kind) key value max flags))
 bare_answer refused s (map_lookup fd key) a h =
-    bare_told a _ h (bare_tested s fd (has_size key) _ (λ handle t. bare_found s (look_up t key)))
+    bare_seen a _ h (bare_tested s fd (has_size key) _ (λ handle t. bare_found s (look_up t key)))
 bare_answer refused s (map_update fd flags bytes) a h =
-    bare_told a _ h (bare_tested s fd (has_sizes bytes) (put_of s flags bytes)
+    bare_seen a _ h (bare_tested s fd (has_sizes bytes) (put_of s flags bytes)
     (λ handle t.
     bare_put s handle t (key_of t.shape bytes) (value_of t.shape bytes) (verdict t (key_of t.shape bytes) flags)))
 bare_answer refused s (map_delete fd key) a h =
-    bare_told a _ h (bare_tested s fd (has_size key) _ (λ handle t. bare_taken s handle t key (removal t key)))
+    bare_seen a _ h (bare_tested s fd (has_size key) _ (λ handle t. bare_taken s handle t key (removal t key)))
 bare_answer refused s (map_next_key fd key) a h =
-    bare_told a _ h (bare_tested s fd (is_empty_or_fits key) _ (λ handle t. bare_found s (next_of t key)))
+    bare_seen a _ h (bare_tested s fd (is_empty_or_fits key) _ (λ handle t. bare_found s (next_of t key)))
 bare_answer refused s (prog_load kind slots) a h = bare_loads (kind == 1) refused s slots a (refuses Invalid s) refl h
 bare_answer refused s (prog_test_run fd words packet) a h =
-    bare_told a _ h (bare_run s words packet (table.named s.objects fd))
-bare_answer refused s (close fd) a h = bare_told a _ h (bare_closed s fd (table.named s.objects fd))
+    bare_seen a _ h (bare_run s words packet (table.named s.objects fd))
+bare_answer refused s (close fd) a h = bare_seen a _ h (bare_closed s fd (table.named s.objects fd))
 
 bare_frame : (refused : Bool) (s : TenantState) (r : Result Command BadFrame) (a : Answer)
     → AnswersFrame refused s r a → IsBare a
-bare_frame refused s (Err fault) a h = bare_told a _ h (λ e. refl)
+bare_frame refused s (Err fault) a h = bare_seen a _ h (λ e. refl)
 bare_frame refused s (Ok command) a h = bare_answer refused s command a h
 
 -- ---- replies
@@ -222,9 +222,9 @@ same_status frame status payload e none =
     e
 
 pub faults_have_no_payload : FaultsHaveNoPayload
-faults_have_no_payload frame reply None after (refused, (goes, told)) e =
-    absurd (unserved (nat_lt (length frame) 4) frame (subst IsFault told e))
-faults_have_no_payload frame reply (Some s) after (refused, (a, answers, told, goes)) e =
-    let fault = subst IsFault told e in
+faults_have_no_payload frame reply None after (refused, (goes, seen)) e =
+    absurd (unserved (nat_lt (length frame) 4) frame (subst IsFault seen e))
+faults_have_no_payload frame reply (Some s) after (refused, (a, answers, seen, goes)) e =
+    let fault = subst IsFault seen e in
     let bare = bare_frame refused s (parsed frame) a answers (ap (λ (b : List ℕ). get_or b 0 0) fault) in
-    told ∙ same_status frame a.status a.payload fault bare
+    seen ∙ same_status frame a.status a.payload fault bare

@@ -34,7 +34,7 @@ use Rattle.tenant.specs.declared.errno.Errno.TheVariants.{NoEntry, TooBig, BadDe
 use Rattle.tenant.specs.declared.object.OpenObject.{OpenObject}
 use Rattle.tenant.specs.declared.object.OpenObject.TheVariants as object
 use Rattle.tenant.specs.Errno.{status_of}
-use Rattle.tenant.specs.Laws.{takes_memory, IsNoRefusal, RefusalsAreTold}
+use Rattle.tenant.specs.Laws.{takes_memory, IsNoRefusal, RefusalsAreReported}
 use Rattle.tenant.specs.Machine.{Answer, refuses, refuses_for_memory, codec_errno, verdict_errno, cause_errno, created_as, created_under, created, room_for}
 use Rattle.tenant.specs.Machine.{shape_where, kind_of, asked_shape, of_object, of_handle, on_map, gives_or_no_entry, element_put, element_taken_out, targets}
 use Rattle.tenant.specs.Machine.{answer_of_judgement, LoadsUnder, outcome_answer, maps_given, maps_left, ran, run_of, longest_packet, closed, Answers}
@@ -47,7 +47,7 @@ use Rattle.tenant.proofs.Updates.{has_sizes, key_of, value_of, put_of}
 
 -- the result without a refusal, or that memory was refused
 abbrev OrRefused : TenantState → Answer → Answer → Type 0
-OrRefused s told refused = (refused ≡ told) ⊎ (refused ≡ refuses_for_memory s)
+OrRefused s seen refused = (refused ≡ seen) ⊎ (refused ≡ refuses_for_memory s)
 
 refused_as : (s : TenantState) (shape : MapShape) (fd : ℕ) (o : Option ℕ)
     → OrRefused s (created_as false s shape fd o) (created_as true s shape fd o)
@@ -63,32 +63,32 @@ refused_create : (s : TenantState) (r : Result MapShape Errno) → OrRefused s (
 refused_create s (Err errno) = inl refl
 refused_create s (Ok shape) = refused_under s shape (table.lowest s.objects)
 
-create_told : (s : TenantState) (a told refused : Answer)
-    → a ≡ refused → OrRefused s told refused
-    → (a ≡ told) ⊎ ((true ≡ true) × (a ≡ refuses_for_memory s))
-create_told s a told refused is (inl same) = inl (is ∙ same)
-create_told s a told refused is (inr same) = inr (refl, is ∙ same)
+create_seen : (s : TenantState) (a seen refused : Answer)
+    → a ≡ refused → OrRefused s seen refused
+    → (a ≡ seen) ⊎ ((true ≡ true) × (a ≡ refuses_for_memory s))
+create_seen s a seen refused is (inl same) = inl (is ∙ same)
+create_seen s a seen refused is (inr same) = inr (refl, is ∙ same)
 
-load_told : (s : TenantState) (o : Option ℕ) (slots : List ℕ) (a : Answer)
+load_seen : (s : TenantState) (o : Option ℕ) (slots : List ℕ) (a : Answer)
     → LoadsUnder true s o slots a
     → LoadsUnder false s o slots a ⊎ ((true ≡ true) × (a ≡ refuses_for_memory s))
-load_told s None slots a is = inl is
-load_told s (Some fd) slots a is = inr (refl, is)
+load_seen s None slots a is = inl is
+load_seen s (Some fd) slots a is = inr (refl, is)
 
 load_by : (socket : Bool) (s : TenantState) (o : Option ℕ) (slots : List ℕ) (a x : Answer)
     → MatchBool socket (LoadsUnder true s o slots a) (a ≡ x)
     → MatchBool socket (LoadsUnder false s o slots a) (a ≡ x) ⊎ ((true ≡ true) × (a ≡ refuses_for_memory s))
-load_by true s o slots a x is = load_told s o slots a is
+load_by true s o slots a x is = load_seen s o slots a is
 load_by false s o slots a x is = inl is
 
 -- a result is that without a refusal of memory, or memory is refused to a command that takes some
-pub told_or_refused : (refused : Bool) (s : TenantState) (command : Command) (a : Answer) → Answers refused s command a
+pub seen_or_refused : (refused : Bool) (s : TenantState) (command : Command) (a : Answer) → Answers refused s command a
     → Answers false s command a ⊎ ((takes_memory command ≡ true) × (a ≡ refuses_for_memory s))
-told_or_refused false s command a is = inl is
-told_or_refused true s (map_create kind key value max flags) a is =
-    create_told s a _ _ is (refused_create s (asked_shape (kind_of kind) key value max flags))
-told_or_refused true s (prog_load kind slots) a is = load_by (kind == 1) s (table.lowest s.objects) slots a _ is
-told_or_refused true s other a is = inl is
+seen_or_refused false s command a is = inl is
+seen_or_refused true s (map_create kind key value max flags) a is =
+    create_seen s a _ _ is (refused_create s (asked_shape (kind_of kind) key value max flags))
+seen_or_refused true s (prog_load kind slots) a is = load_by (kind == 1) s (table.lowest s.objects) slots a _ is
+seen_or_refused true s other a is = inl is
 
 -- ---- without a refusal
 
@@ -354,9 +354,9 @@ module _ (law : NoVerdictIsMemory) (s : TenantState) where
   answer_spared (prog_load kind slots) a is = loads_spared (kind == 1) (table.lowest s.objects) slots a is
   answer_spared other a is = spared s a (answer_other s false other a is refl)
 
-pub refusals_are_told : NoVerdictIsMemory → RefusalsAreTold
-refusals_are_told law = record {
-  refused = λ s command a is. told_or_refused true s command a is;
+pub refusals_are_reported : NoVerdictIsMemory → RefusalsAreReported
+refusals_are_reported law = record {
+  refused = λ s command a is. seen_or_refused true s command a is;
   unrefused = λ s command a is. answer_spared law s command a is;
   others = λ refused s command a is other. spared s a (answer_other s refused command a is other);
 }

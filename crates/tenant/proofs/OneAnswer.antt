@@ -8,7 +8,7 @@ use Rattle.fd_table.specs.Table as table
 use Rattle.verifier.specs.Laws.{OneJudgement}
 use Rattle.tenant.specs.State.{TenantState}
 use Rattle.tenant.specs.Machine.{Answer, answer_of_judgement, targets, LoadsAs, LoadsUnder}
-use Rattle.tenant.specs.Alone.{AnswersFrame, IsToldAlone}
+use Rattle.tenant.specs.Alone.{AnswersFrame, IsServedAlone}
 use Rattle.tenant.specs.Laws.{OneAnswer, OneReply, OneAlone}
 
 loads_as : OneJudgement
@@ -16,8 +16,8 @@ loads_as : OneJudgement
     → LoadsAs refused s fd slots a → LoadsAs refused s fd slots b
     → a ≡ b
 loads_as one true s fd slots a b x y = x ∙ sym y
-loads_as one false s fd slots a b (j, is, told) (k, is_too, told_too) =
-    told ∙ ap (answer_of_judgement s fd) (one (targets s) slots j k is is_too) ∙ sym told_too
+loads_as one false s fd slots a b (j, is, seen) (k, is_too, seen_too) =
+    seen ∙ ap (answer_of_judgement s fd) (one (targets s) slots j k is is_too) ∙ sym seen_too
 
 loads_under : OneJudgement
     → (refused : Bool) (s : TenantState) (o : Option ℕ) (slots : List ℕ) (a b : Answer)
@@ -65,8 +65,8 @@ one_alone_is one before a b [] (x ∷ xs) ys h k = absurd h
 one_alone_is one before a b [] [] (y ∷ ys) h k = absurd k
 one_alone_is one before a b (f ∷ fs) [] ys h k = absurd h
 one_alone_is one before a b (f ∷ fs) (x ∷ xs) [] h k = absurd k
-one_alone_is one before a b (f ∷ fs) (x ∷ xs) (y ∷ ys) (m, told, h) (n, told_too, k) =
-    let here = one false f x y before m n told told_too in
+one_alone_is one before a b (f ∷ fs) (x ∷ xs) (y ∷ ys) (m, seen, h) (n, seen_too, k) =
+    let here = one false f x y before m n seen seen_too in
     let rest =
-    one_alone_is one m a b fs xs ys h (subst (λ (o : Option TenantState). IsToldAlone o fs ys b) (sym here.1) k) in
+    one_alone_is one m a b fs xs ys h (subst (λ (o : Option TenantState). IsServedAlone o fs ys b) (sym here.1) k) in
     (ap₂ (λ (z : List ℕ) (zs : List (List ℕ)). z ∷ zs) here.0 rest.0, rest.1)

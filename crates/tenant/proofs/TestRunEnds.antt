@@ -73,7 +73,7 @@ IsTold before part fd words packet outcome later after =
     outcome_answer outcome (state_in later after) ≡ run_of (state_in part before) words packet (named before.objects fd)
 
 -- the outcome of the code's run of an open program is that of the machine, and so is the state after it
-pub told_of : MapsAreListed
+pub seen_of : MapsAreListed
     → {part later words packet bind context : List ℕ} {k : KeptTenant} {l : LoadedProgram}
     {new : LiveMaps} {code : List Insn} {before steps : ℕ}
     {outcome : Outcome} (fd : ℕ)
@@ -86,7 +86,7 @@ pub told_of : MapsAreListed
     → RunKeepsMaps bind k.live new
     → KeepsValues bind (stood k.live part before) (stood new later steps)
     → IsTold k part fd words packet outcome later (with_live k new)
-told_of listed {part} {later} {words} {packet} {bind} {context} {k} {l} {new} {code} {before}
+seen_of listed {part} {later} {words} {packet} {bind} {context} {k} {l} {new} {code} {before}
     {steps} {outcome} fd kept opened fits handles same given runs keeps values =
     let found = stood k.live part before in
     let left = stood new later steps in

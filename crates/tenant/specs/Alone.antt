@@ -82,9 +82,9 @@ RepliesInOrder tells before [] (reply ∷ replies) after = ⊥
 RepliesInOrder tells before (frame ∷ frames) [] after = ⊥
 
 -- the replies are those of the tenant's machine, without refusals of memory
-abbrev pub IsToldAlone : Option TenantState → List (List ℕ) → List (List ℕ) → Option TenantState
+abbrev pub IsServedAlone : Option TenantState → List (List ℕ) → List (List ℕ) → Option TenantState
     → Type 0
-IsToldAlone before frames replies after =
+IsServedAlone before frames replies after =
     RepliesInOrder (RepliesUnder false) before frames replies after
 
 -- the replies are those of the tenant's machine, if memory may be refused to each command

@@ -7,7 +7,7 @@ use Rattle.tenant.specs.Machine.{Answer, Answers, refuses_for_memory}
 use Rattle.command_frames.specs.Frame.{reply_to}
 use Rattle.tenant.specs.declared.errno.Errno.TheVariants.{NoMemory, BadAddress}
 use Rattle.tenant.specs.Errno.{status_of}
-use Rattle.tenant.specs.Alone.{RepliesUnder, MayReply, IsFault, IsRefusedMemory, NoneIsRefusedMemory, IsToldAlone, AloneWithRefusals}
+use Rattle.tenant.specs.Alone.{RepliesUnder, MayReply, IsFault, IsRefusedMemory, NoneIsRefusedMemory, IsServedAlone, AloneWithRefusals}
 
 -- a command has one result, if it is known whether memory is refused to it
 abbrev pub OneAnswer : Type 0
@@ -26,8 +26,8 @@ OneReply =
 abbrev pub OneAlone : Type 0
 OneAlone =
     (before a b : Option TenantState) (frames xs ys : List (List ℕ))
-    → IsToldAlone before frames xs a
-    → IsToldAlone before frames ys b
+    → IsServedAlone before frames xs a
+    → IsServedAlone before frames ys b
     → (xs ≡ ys) × (a ≡ b)
 
 -- if a tenant's flag is clear after a command, its result is that without refusals of memory
@@ -41,7 +41,7 @@ abbrev pub ClearFlagMeansAlone : Type 0
 ClearFlagMeansAlone =
     (before : Option TenantState) (after : TenantState) (frames replies : List (List ℕ))
     → AloneWithRefusals before frames replies (Some after)
-    → after.refused ≡ false → IsToldAlone before frames replies (Some after)
+    → after.refused ≡ false → IsServedAlone before frames replies (Some after)
 
 -- ---- the status of refused memory
 
@@ -60,7 +60,7 @@ IsNoRefusal s a = (a.status ≢ status_of NoMemory) × (a.after.refused ≡ s.re
 -- A refusal of memory changes only what a creation or a load does: its status is ENOMEM, and only
 -- the flag changes. Nothing else has this status or sets the flag: no command to which memory is
 -- not refused, and no other command.
-pub record RefusalsAreTold : Type 0 where
+pub record RefusalsAreReported : Type 0 where
   pub refused : (s : TenantState) (command : Command) (a : Answer) → Answers true s command a
       → Answers false s command a ⊎ ((takes_memory command ≡ true) × (a ≡ refuses_for_memory s))
   pub unrefused : (s : TenantState) (command : Command) (a : Answer)
@@ -81,7 +81,7 @@ abbrev pub UnrefusedRepliesMeanAlone : Type 0
 UnrefusedRepliesMeanAlone =
     (before after : Option TenantState) (frames replies : List (List ℕ))
     → AloneWithRefusals before frames replies after → NoneIsRefusedMemory replies
-    → IsToldAlone before frames replies after
+    → IsServedAlone before frames replies after
 
 -- a reply with the status of a fault has no payload
 abbrev pub FaultsHaveNoPayload : Type 0

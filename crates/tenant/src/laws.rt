@@ -2,7 +2,7 @@
 
 ghost use Rattle.tenant.specs.Batch.{BatchIsItsFrames, RefusedAsItsFrame, OneResultEach};
 ghost use Rattle.tenant.specs.Laws.{OneAnswer, OneReply, OneAlone, ClearFlagMeansNoRefusal, ClearFlagMeansAlone};
-ghost use Rattle.tenant.specs.Laws.{RefusalsAreTold, OnlyCreationsAndLoadsAreRefused, UnrefusedRepliesMeanAlone, FaultsHaveNoPayload};
+ghost use Rattle.tenant.specs.Laws.{RefusalsAreReported, OnlyCreationsAndLoadsAreRefused, UnrefusedRepliesMeanAlone, FaultsHaveNoPayload};
 
 /// A law: in a state, a command has one result (status, payload and next state) if memory is refused to it, and one if it is not.
 pub fn one_answer()
@@ -39,8 +39,8 @@ pub fn clear_flag_means_alone()
 /// A refusal of memory changes only what a creation or a load does: its status is `NoMemory`, and only the flag changes. No
 /// other command, and none to which memory is not refused, has the status `NoMemory` or sets the flag; so no verdict on a program is
 /// `NoMemory`.
-pub fn refusals_are_told()
-    ensures { RefusalsAreTold }
+pub fn refusals_are_reported()
+    ensures { RefusalsAreReported }
 {
     insn_codec::laws::one_fault();
     verifier::laws::refused_by_a_rule();

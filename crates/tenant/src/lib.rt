@@ -24,7 +24,7 @@
 //! - A command to which memory is refused has one result, and so has one to which it is not; likewise a frame has one reply.
 //!   Without refusals a tenant's frames have one list of replies and lead to one state: `one_answer`, `one_reply`, `one_alone`.
 //! - A refusal of memory changes only what a creation or a load does, which then has the status -12, and changes only the
-//!   flag. Nothing else has this status or sets the flag: `refusals_are_told`, `only_creations_and_loads_are_refused`.
+//!   flag. Nothing else has this status or sets the flag: `refusals_are_reported`, `only_creations_and_loads_are_refused`.
 //! - If none of a tenant's replies has the status -12, they are those of its machine without refusals, whatever its flag was:
 //!   `unrefused_replies_mean_alone`. The same holds if its flag is clear at the end: `clear_flag_means_no_refusal`,
 //!   `clear_flag_means_alone`.

@@ -362,8 +362,8 @@ module _ (shapes : Shapes) (at : ℕ) (f : Facts) where
   witness i (Err other) reason h e = let same : other ≡ reason = cc in subst (IsReasonFor shapes i) same h
 
 -- an instruction is rejected only for a reason that applies to it
-pub reasons_told : TransferReasons
-reasons_told shapes at i f reason e =
+pub reasons_seen : TransferReasons
+reasons_seen shapes at i f reason e =
     witness shapes at f (view i) (effect shapes at i f) reason (view_tells shapes at f (view i)) e
 
 -- no instruction is rejected because memory runs out

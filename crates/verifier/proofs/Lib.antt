@@ -3,7 +3,7 @@ pub mod Inflow
 pub mod Numbers
 pub mod PartJoins
 pub mod NumberedSteps
-pub mod Telling
+pub mod Watching
 pub mod OneVerdict
 pub mod Judgements
 pub mod Reached

@@ -162,28 +162,28 @@ module _ (law : TransferReasons) (shapes : Shapes) (code : List Insn) (slot : �
     begins : begins_at code slot ≡ Some insn
     is : IsReasonOf shapes insn reason
 
-  effect_told : (i : Insn) (f : Facts) (r : Result Edges Reason)
+  effect_seen : (i : Insn) (f : Facts) (r : Result Edges Reason)
       → effect shapes slot i f ≡ r → reason_of r ≡ Some reason
       → IsReasonOf shapes i reason
-  effect_told i f (Ok edges) e h = absurd (none-some reason h)
-  effect_told i f (Err told) e h = law shapes slot i f reason (e ∙ ap Err (same_Some told reason h))
+  effect_seen i f (Ok edges) e h = absurd (none-some reason h)
+  effect_seen i f (Err seen) e h = law shapes slot i f reason (e ∙ ap Err (same_Some seen reason h))
 
-  insn_told : (f : Facts) (o : Option Insn)
+  insn_seen : (f : Facts) (o : Option Insn)
       → begins_at code slot ≡ o
       → and_then o (λ i. reason_of (effect shapes slot i f)) ≡ Some reason
       → IsTold
-  insn_told f None e h = absurd (none-some reason h)
-  insn_told f (Some i) e h = record { insn = i; begins = e; is = effect_told i f (effect shapes slot i f) refl h }
+  insn_seen f None e h = absurd (none-some reason h)
+  insn_seen f (Some i) e h = record { insn = i; begins = e; is = effect_seen i f (effect shapes slot i f) refl h }
 
-  facts_told : (known : Option Facts)
+  facts_seen : (known : Option Facts)
       → and_then known (λ f. and_then (begins_at code slot) (λ i. reason_of (effect shapes slot i f))) ≡ Some reason
       → IsTold
-  facts_told None h = absurd (none-some reason h)
-  facts_told (Some f) h = insn_told f (begins_at code slot) refl h
+  facts_seen None h = absurd (none-some reason h)
+  facts_seen (Some f) h = insn_seen f (begins_at code slot) refl h
 
-  safety_told : safety_fault shapes code slot ≡ Some reason → IsTold
+  safety_seen : safety_fault shapes code slot ≡ Some reason → IsTold
   unfolding safety_fault
-  safety_told h = facts_told (facts_before shapes code slot) h
+  safety_seen h = facts_seen (facts_before shapes code slot) h
 
 -- a function that is called is known
 none_unknown : (r : Reference) → is_unknown_helper r ≡ false → IsUnknownHelper r → ⊥
@@ -225,14 +225,14 @@ kept_shape code named n i begins fd e =
 pub safety_follows : TransferReasons → SafetyFollowsShape
 safety_follows law = record {
   helpers = λ code named slot none h.
-      let t = safety_told law (shapes_of code named) code slot UnknownHelper h in
+      let t = safety_seen law (shapes_of code named) code slot UnknownHelper h in
       none_unknown (profile t.insn).reference (each_is_fine code named none slot t.insn t.begins).known t.is;
   maps = λ code named slot none h.
-      let t = safety_told law (shapes_of code named) code slot DescriptorNotMap h in
+      let t = safety_seen law (shapes_of code named) code slot DescriptorNotMap h in
       none_unshaped (shapes_of code named) (profile t.insn).reference
       (shaped_in code named none slot t.insn t.begins) t.is;
   values = λ code named slot none h.
-      let t = safety_told law (shapes_of code named) code slot NoDirectValue h in
+      let t = safety_seen law (shapes_of code named) code slot NoDirectValue h in
       none_lacking (shapes_of code named) named (profile t.insn).reference
       (kept_shape code named slot t.insn t.begins)
       (each_is_fine code named none slot t.insn t.begins).value

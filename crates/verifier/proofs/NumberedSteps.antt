@@ -74,8 +74,8 @@ ranged_twice x dst (Reg s) p q =
     y)
     (kinds_twice x.facts.registers dst s (Scalar p.0) (Scalar p.1) (Scalar q.0) (Scalar q.1))
 
-ranged_facts : (x : NumberedFacts) (dst : ℕ) (src : Operand) (told : Option RangePair)
-    → facts_on (option_map (with_ranges x dst src) told) ≡ option_map (with_pair x.facts dst src) told
+ranged_facts : (x : NumberedFacts) (dst : ℕ) (src : Operand) (seen : Option RangePair)
+    → facts_on (option_map (with_ranges x dst src) seen) ≡ option_map (with_pair x.facts dst src) seen
 ranged_facts x dst src None = refl
 ranged_facts x dst src (Some pair) = refl
 
@@ -197,10 +197,10 @@ module _ (stacks : Stacks) (n m : ℕ) (lt : n < m) (some : 0 < n) where
   source_stack f dst (Imm z) pair = refl
   source_stack f dst (Reg r) pair = refl
 
-  ranged_numbered : (x : NumberedFacts) (dst : ℕ) (src : Operand) (told : Option RangePair)
+  ranged_numbered : (x : NumberedFacts) (dst : ℕ) (src : Operand) (seen : Option RangePair)
       → IsNumbered stacks n x
-      → IsNumberedIf (with_stack stacks n (stack_on (option_map (with_ranges x dst src) told))) m
-      (option_map (with_ranges x dst src) told)
+      → IsNumberedIf (with_stack stacks n (stack_on (option_map (with_ranges x dst src) seen))) m
+      (option_map (with_ranges x dst src) seen)
   ranged_numbered x dst src None h = tt
   ranged_numbered x dst src (Some pair) h =
       more (with_ranges x dst src pair)

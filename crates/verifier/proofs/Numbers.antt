@@ -118,7 +118,7 @@ module _ (absorb : SlotsAbsorb) (held : ℕ → Slot) (n m : ℕ) (lt : n < m) (
       let low = hy.below in
       let low_x = hx.below in
       let some_x = hx.some in
-      let told : 0 < m' → (m' < m) × (slot_join s' (all m') ≡ s') =
+      let seen : 0 < m' → (m' < m) × (slot_join s' (all m') ≡ s') =
       λ some. (omega (arith, includes, low, lt), subst (λ (x : Slot). slot_join s' x ≡ s') (sym other) again) in
       record {
         slot = slot;
@@ -129,7 +129,7 @@ module _ (absorb : SlotsAbsorb) (held : ℕ → Slot) (n m : ℕ) (lt : n < m) (
               is = sym (ap all fresh ∙ held_there held n s');
               some = omega (arith, fresh, first);
               below = omega (arith, fresh, lt);
-              includes = told;
+              includes = seen;
             }
             in r)
             (λ (same : (n' ≡ a) × (s' ≡ s)).
@@ -139,7 +139,7 @@ module _ (absorb : SlotsAbsorb) (held : ℕ → Slot) (n m : ℕ) (lt : n < m) (
               is = same.1 ∙ hx.is ∙ sym (ap all same.0 ∙ held_below held n a s' low_x);
               some = omega (arith, e, some_x);
               below = omega (arith, e, low_x, lt);
-              includes = told;
+              includes = seen;
             }
             in r)
             number;

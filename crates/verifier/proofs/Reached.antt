@@ -24,9 +24,9 @@ no_reason : (reason : Reason) → Some reason ≡ None → ⊥
 no_reason reason e = cc
 
 -- if the first two conditions give a reason, it is the first of all
-pub told_early : (first second : Bool × Reason) (lines : List (Bool × Reason)) (r : Reason)
+pub seen_early : (first second : Bool × Reason) (lines : List (Bool × Reason)) (r : Reason)
     → Some r ≡ first_reason (first ∷ second ∷ []) → Some r ≡ first_reason (first ∷ second ∷ lines)
-told_early first second lines r is =
+seen_early first second lines r is =
     elim (cases_Bool first.0) [
       | inl holds ↦
           is

@@ -25,7 +25,7 @@ IsRule reason = Unit {0}
 
 -- a reason of a verdict is not `Memory`
 abbrev ByRule : Option Reason → Type 0
-ByRule told = (reason : Reason) → told ≡ Some reason → reason ≢ Memory
+ByRule seen = (reason : Reason) → seen ≡ Some reason → reason ≢ Memory
 
 -- the premise about the transfer function
 abbrev EffectsNeedNone : Type 0
@@ -38,7 +38,7 @@ rule_is_other : (reason : Reason) → IsRule reason → reason ≢ Memory
 rule_is_other reason h same = subst IsRule same h
 
 by_this : (reason : Reason) → IsRule reason → ByRule (Some reason)
-by_this told h reason e = let same : told ≡ reason = cc in rule_is_other reason (subst IsRule same h)
+by_this seen h reason e = let same : seen ≡ reason = cc in rule_is_other reason (subst IsRule same h)
 
 by_none : ByRule None
 by_none reason e = absurd (let z : ⊥ = cc in z)
@@ -74,7 +74,7 @@ module _ (effects : EffectsNeedNone) where
     effect_rule : (at : ℕ) (i : Insn) (f : Facts) (r : Result Edges Reason)
         → effect shapes at i f ≡ r → ByRule (reason_of r)
     effect_rule at i f (Ok edges) e reason same = by_none reason same
-    effect_rule at i f (Err told) e reason same =
+    effect_rule at i f (Err seen) e reason same =
         effects shapes at i f reason (let z : effect shapes at i f ≡ Err reason = cc in z)
 
     insn_rule : (at : ℕ) (f : Facts) (o : Option Insn) → ByRule (and_then o (λ i. reason_of (effect shapes at i f)))

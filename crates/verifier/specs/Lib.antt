@@ -4,7 +4,7 @@ pub mod Maps
 pub mod Before
 pub mod Verdict
 pub mod Judgement
-pub mod Told
+pub mod Seen
 pub mod Laws
 pub mod Cost
 pub mod Sound

@@ -4,6 +4,6 @@ pub mod Descriptors
 pub mod Jumps
 pub mod Longest
 pub mod Arriving
-pub mod Telling
+pub mod Watching
 pub mod Kept
 pub mod Numbers

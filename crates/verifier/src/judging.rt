@@ -3,7 +3,7 @@
 ghost use Rattle.std.specs.Prelude.{◌≡◌, IfErr, IfOk, OnOk};
 ghost use Rattle.verifier.specs.Cost.{IsCostOf};
 ghost use Rattle.verifier.specs.Maps.{maps_of, entries_of};
-ghost use Rattle.verifier.specs.Told.{IsToldRefused, IsToldWhole};
+ghost use Rattle.verifier.specs.Seen.{SeesRefused, SeesAll};
 ghost use Rattle.verifier.specs.Verdict.{IsAccepted, IsFaultOf};
 
 use crate::cost::Cost;
@@ -43,10 +43,10 @@ pub(crate) fn judge<W: Watcher>(
         ≡ entries_of (maps_of program.now) named.now) }
     ensures cost { IfOk result (λ found. IsCostOf found.cost program.now) }
     ensures refused { IfErr result (IsFaultOf program.now named.now) }
-    ensures told { OnOk result
-        (IsToldWhole program.now named.now (W.told watcher.old) (W.told watcher.new)) }
-    ensures told_refused { IfErr result
-        (IsToldRefused program.now named.now (W.told watcher.old) (W.told watcher.new)) }
+    ensures seen { OnOk result
+        (SeesAll program.now named.now (W.seen watcher.old) (W.seen watcher.new)) }
+    ensures seen_refused { IfErr result
+        (SeesRefused program.now named.now (W.seen watcher.old) (W.seen watcher.new)) }
 {
     let cost = check_shape(program, named, &mut working.jumping)?;
     let maps = loaded_maps(alloc, program, named)?;

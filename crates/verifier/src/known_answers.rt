@@ -3,7 +3,7 @@
 ghost use Rattle.std.specs.Prelude.{◌≡◌, ◌≢◌, ◌<◌, ℕ, slice_index_or, None, IfOk, OnOk};
 ghost use Rattle.insn_set.specs.Program.{slot_count};
 ghost use Rattle.verifier.specs.Maps.{shapes_of};
-ghost use Rattle.verifier.specs.Told.{reached};
+ghost use Rattle.verifier.specs.Seen.{reached};
 
 use crate::fault::VerifyFault;
 use crate::numbered_facts::NumberedFacts;
@@ -39,7 +39,7 @@ struct Notes {
 impl Watcher for Notes {
     ghost use Rattle.std.specs.Prelude.{Some};
 
-    ghost told = { λ n. Some n.notes.items };
+    ghost seen = { λ n. Some n.notes.items };
 
     fn before(&mut self, slot: usize, facts: &Facts) -> Result<(), AllocError> {
         self.notes.push((slot, *facts))?;

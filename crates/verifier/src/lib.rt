@@ -5,7 +5,7 @@
 //! each instruction is checked against the facts before it. Each check is one pass over the slots.
 //!
 //! The definitions are `Shape` (the shape of a program), `Before` (the facts before each slot, a recursion over the slots
-//! below), `Maps` (the maps that a program loads), `Verdict`, `Told` (the facts that a watcher gets), `Cost` (paths, and what a
+//! below), `Maps` (the maps that a program loads), `Verdict`, `Seen` (the facts that a watcher gets), `Cost` (paths, and what a
 //! program costs), and `Runs` (what a run executes).
 //!
 //! # What is proved
@@ -20,7 +20,7 @@
 //!   output of `Refusal`.
 //! - A watcher gets the facts of the definition before each slot that a run may reach, each slot once and in order (`reached`):
 //!   for an accepted program before all of them; up to the slot of a fault of safety; for a fault of shape before none; out of
-//!   memory, up to some slot. The verdict is that of `verify`: `told`, `told_refused`, `accepted`, `refused` of
+//!   memory, up to some slot. The verdict is that of `verify`: `seen`, `seen_refused`, `accepted`, `refused` of
 //!   `verify_watched`.
 //! - A `Verified` is an accepted program, the one that was passed in, with the shapes that its descriptors named: `accepted` of
 //!   `verify`; `accepted`, `entries` of `verify_slots`; `verified` of `Verified::program`.

@@ -12,10 +12,10 @@ ghost use Rattle.verifier.specs.inside.Arriving.{Brings, arriving_at};
 ghost use Rattle.verifier.specs.inside.Jumps.{JumpsLand};
 ghost use Rattle.verifier.specs.inside.Numbers.{facts_on, with_ranges, at_entry, falls_settled, jumps_settled};
 ghost use Rattle.verifier.specs.inside.Numbers.{on_falling_edge, on_jumping_edge, IsSent, IsSentIf, IsPast, IsPastIf, AreNumbered};
-ghost use Rattle.verifier.specs.inside.Telling.{IsFaultTold, IsFirstTold, StopsTelling};
+ghost use Rattle.verifier.specs.inside.Watching.{SeesFault, SeesFirstFault, StopsWatching};
 ghost use Rattle.insn_set.specs.Flow.{jump_target};
 ghost use Rattle.insn_set.specs.Program.{slot_count};
-ghost use Rattle.verifier.specs.Told.{known_at, with_more, IsToldBelow};
+ghost use Rattle.verifier.specs.Seen.{known_at, with_more, SeesBelow};
 ghost use Rattle.verifier.specs.Verdict.{HasNoFault, safety_fault};
 
 use crate::edge_facts::EdgeFacts;
@@ -237,12 +237,12 @@ fn run_past<W: Watcher>(
     ensures ok { OnOk result (MayRun (shapes_named named.now) slot insn.now (Some hand.old.facts)) }
     ensures past { IfOk result (λ falling. IsPast (shapes_named named.now) slot insn.now hand.old
         entries.old (if falling then Some hand.new else None) entries.new) }
-    ensures told { OnOk result (W.told watcher.new
-        ≡ with_more (W.told watcher.old) (known_at slot (Some hand.old.facts))) }
-    ensures refused { IfErr result (λ e. StopsTelling (W.told watcher.old) (W.told watcher.new)
+    ensures seen { OnOk result (W.seen watcher.new
+        ≡ with_more (W.seen watcher.old) (known_at slot (Some hand.old.facts))) }
+    ensures refused { IfErr result (λ e. StopsWatching (W.seen watcher.old) (W.seen watcher.new)
         slot (Some hand.old.facts) e
-        ⊎ IsFaultTold (shapes_named named.now) slot insn.now (Some hand.old.facts)
-        (W.told watcher.old) (W.told watcher.new) e) }
+        ⊎ SeesFault (shapes_named named.now) slot insn.now (Some hand.old.facts)
+        (W.seen watcher.old) (W.seen watcher.new) e) }
 {
     watcher.before(slot, &hand.facts)?;
     match apply(&mut hand.facts, named, slot, insn) {
@@ -302,12 +302,12 @@ impl Pass {
             (MayRun (shapes_named named.now) slot insn.now (facts_on self.old.falling)) }
         ensures past { OnOk result (IsPastIf (shapes_named named.now) slot insn.now
             self.old.falling self.old.entries self.new.falling self.new.entries) }
-        ensures told { OnOk result (W.told watcher.new
-            ≡ with_more (W.told watcher.old) (known_at slot (facts_on self.old.falling))) }
-        ensures refused { IfErr result (λ e. StopsTelling (W.told watcher.old) (W.told watcher.new)
+        ensures seen { OnOk result (W.seen watcher.new
+            ≡ with_more (W.seen watcher.old) (known_at slot (facts_on self.old.falling))) }
+        ensures refused { IfErr result (λ e. StopsWatching (W.seen watcher.old) (W.seen watcher.new)
             slot (facts_on self.old.falling) e
-            ⊎ IsFaultTold (shapes_named named.now) slot insn.now (facts_on self.old.falling)
-            (W.told watcher.old) (W.told watcher.new) e) }
+            ⊎ SeesFault (shapes_named named.now) slot insn.now (facts_on self.old.falling)
+            (W.seen watcher.old) (W.seen watcher.new) e) }
     {
         if self.falling.is_known {
             self.falling.is_known = run_past(
@@ -346,12 +346,12 @@ impl Pass {
             self.old.entries self.new.entries i) }
         ensures numbered { OnOk result
             (AreNumbered (slot + 1) (8 * slot + 10) self.new.falling self.new.entries) }
-        ensures told { OnOk result (W.told watcher.new
-            ≡ with_more (W.told watcher.old) (known_at slot (arriving_at slot self.old))) }
-        ensures refused { IfErr result (λ e. StopsTelling (W.told watcher.old) (W.told watcher.new)
+        ensures seen { OnOk result (W.seen watcher.new
+            ≡ with_more (W.seen watcher.old) (known_at slot (arriving_at slot self.old))) }
+        ensures refused { IfErr result (λ e. StopsWatching (W.seen watcher.old) (W.seen watcher.new)
             slot (arriving_at slot self.old) e
-            ⊎ IsFaultTold (shapes_named named.now) slot insn.now (arriving_at slot self.old)
-            (W.told watcher.old) (W.told watcher.new) e) }
+            ⊎ SeesFault (shapes_named named.now) slot insn.now (arriving_at slot self.old)
+            (W.seen watcher.old) (W.seen watcher.new) e) }
     {
         self.entries.join_at(slot, &mut self.falling, 8 * slot + 2)?;
         self.go_past(named, insn, slot, watcher)
@@ -370,10 +370,10 @@ pub(crate) fn check_safety<W: Watcher>(
 ) -> Result<(), VerifyFault>
     requires { JumpsLand program.now }
     ensures sound { OnOk result (HasNoFault (safety_fault (shapes_named named.now) program.now)) }
-    ensures told { OnOk result (IsToldBelow (slot_count program.now) (shapes_named named.now)
-        program.now (W.told watcher.old) (W.told watcher.new)) }
-    ensures refused { IfErr result (λ e. IsFirstTold (shapes_named named.now) program.now
-        (W.told watcher.old) (W.told watcher.new) e) }
+    ensures seen { OnOk result (SeesBelow (slot_count program.now) (shapes_named named.now)
+        program.now (W.seen watcher.old) (W.seen watcher.new)) }
+    ensures refused { IfErr result (λ e. SeesFirstFault (shapes_named named.now) program.now
+        (W.seen watcher.old) (W.seen watcher.new) e) }
 {
     laws::joins_commute();
     laws::joins_associate();

@@ -9,7 +9,7 @@ ghost use Rattle.verifier.specs.Judgement.{Judges};
 ghost use Rattle.verifier.specs.Maps.{maps_of, entries_of};
 ghost use Rattle.verifier.specs.Runs.{RunsArePaths, RunsCostAtMost};
 ghost use Rattle.verifier.specs.Sound.{AreRunInputs};
-ghost use Rattle.verifier.specs.Told.{IsToldRefused, IsToldWhole};
+ghost use Rattle.verifier.specs.Seen.{SeesRefused, SeesAll};
 ghost use Rattle.verifier.specs.Verdict.{IsAccepted, IsFaultOf};
 ghost use Rattle.verifier.specs.Verified.{IsAcceptedAs, IsVerified, GoesAhead, shapes_in};
 
@@ -179,10 +179,10 @@ pub fn verify_watched<W: Watcher>(
     ensures accepted { OnOk result (IsAccepted program.now named.now) }
     ensures cost { IfOk result (λ cost. IsCostOf cost program.now) }
     ensures refused { IfErr result (IsFaultOf program.now named.now) }
-    ensures told { OnOk result
-        (IsToldWhole program.now named.now (W.told watcher.old) (W.told watcher.new)) }
-    ensures told_refused { IfErr result
-        (IsToldRefused program.now named.now (W.told watcher.old) (W.told watcher.new)) }
+    ensures seen { OnOk result
+        (SeesAll program.now named.now (W.seen watcher.old) (W.seen watcher.new)) }
+    ensures seen_refused { IfErr result
+        (SeesRefused program.now named.now (W.seen watcher.old) (W.seen watcher.new)) }
 {
     let mut working = WorkingMemory::new(alloc);
     let found = judge(alloc, program, named, watcher, &mut working)?;

@@ -2,7 +2,7 @@
 
 ghost use Rattle.std.specs.Prelude.{◌≡◌, ◌⊎◌, ◌∷◌, [], ℕ, List, None, OnErr, OnOk, Option};
 ghost use Rattle.reg_kinds.specs.declared.facts.Facts.{Facts as AnyFacts};
-ghost use Rattle.verifier.specs.Told.{with_more};
+ghost use Rattle.verifier.specs.Seen.{with_more};
 
 use reg_kinds::Facts;
 use std::alloc::AllocError;
@@ -10,7 +10,7 @@ use std::alloc::AllocError;
 /// A receiver of the facts before each instruction that a run may reach, in the pass over a program, each slot once and in order.
 pub trait Watcher {
     // The slots and facts that it has received so far; `None` of a watcher that does not say which, as one that only counts.
-    ghost told: { Self → Option (List (ℕ × AnyFacts)) } = { λ _. None };
+    ghost seen: { Self → Option (List (ℕ × AnyFacts)) } = { λ _. None };
 
     /// Receives the facts before the instruction at `slot`. They are borrowed from the pass.
     ///
@@ -19,9 +19,9 @@ pub trait Watcher {
     /// `AllocError`: out of memory. The pass ends there.
     fn before(&mut self, slot: usize, facts: &Facts) -> Result<(), AllocError>
         ensures ok { OnOk result
-            (told self.new ≡ with_more (told self.old) ((slot, facts.now) ∷ [])) }
-        ensures err { OnErr result ((told self.new ≡ told self.old)
-            ⊎ (told self.new ≡ with_more (told self.old) ((slot, facts.now) ∷ []))) };
+            (seen self.new ≡ with_more (seen self.old) ((slot, facts.now) ∷ [])) }
+        ensures err { OnErr result ((seen self.new ≡ seen self.old)
+            ⊎ (seen self.new ≡ with_more (seen self.old) ((slot, facts.now) ∷ []))) };
 }
 
 /// A watcher that ignores what it receives.

@@ -9,9 +9,9 @@ use Rattle.tagged_model.specs.Helpers.{negative, errno, packet_bytes, packet_res
 use Rattle.arena.specs.Memory.{Memory, base, part_start, with_bytes}
 use Rattle.bpf_maps.specs.KeyTable.{table_of, Claims, Removes}
 use Rattle.bpf_maps.specs.Live.{LiveMaps, keys_at, shape_at, offset_at, OnlyKeysChange}
-use Rattle.bpf_helpers.specs.Named.{NamedKey, NamedPair, key_named, unnamed_answer}
+use Rattle.bpf_helpers.specs.Named.{NamedKey, NamedPair, key_named, unnamed_result}
 use Rattle.bpf_helpers.specs.declared.caller.Caller.{Caller}
-use Rattle.bpf_helpers.specs.States.{CallSite, CallAnswer, site}
+use Rattle.bpf_helpers.specs.States.{CallSite, CallResult, site}
 
 -- the inputs of a call by this caller
 abbrev pub site_of : Caller → Memory → LiveMaps → CallSite
@@ -70,7 +70,7 @@ with_claimed site pair (Err fault) = site.memory
 -- the value is written there. After a fault no byte has changed; of the live maps only the keys of
 -- that map may change
 pub record Updates (site : CallSite) (pair : NamedPair) (flags : ℕ)
-    (answer : CallAnswer) : Type 0 where
+    (answer : CallResult) : Type 0 where
   pub claim : Result ℕ MapFault
   pub claimed : Claims (verdict (table_of (keys_at site.maps pair.map)) pair.key flags) pair.key
       (keys_at site.maps pair.map) claim (keys_at answer.maps pair.map)
@@ -79,9 +79,9 @@ pub record Updates (site : CallSite) (pair : NamedPair) (flags : ℕ)
   pub memory_is : answer.memory ≡ with_claimed site pair claim
 
 -- an update of what its words name; if that is nothing, the error is returned and nothing changes
-abbrev pub UpdatesNamed : CallSite → Option NamedPair → ℕ → CallAnswer → Type 0
+abbrev pub UpdatesNamed : CallSite → Option NamedPair → ℕ → CallResult → Type 0
 UpdatesNamed site None flags answer =
-    (answer.word ≡ unnamed_answer Update) × (answer.memory ≡ site.memory)
+    (answer.word ≡ unnamed_result Update) × (answer.memory ≡ site.memory)
     × (answer.maps ≡ site.maps)
 UpdatesNamed site (Some pair) flags answer = Updates site pair flags answer
 
@@ -104,7 +104,7 @@ pub record Deletes (old : LiveMaps) (named : NamedKey) (word : ℕ) (new : LiveM
 -- a deletion of what its words name; if that is nothing, the error is returned and nothing
 -- changes
 abbrev pub DeletesNamed : LiveMaps → Option NamedKey → ℕ → LiveMaps → Type 0
-DeletesNamed old None word new = (word ≡ unnamed_answer Delete) × (new ≡ old)
+DeletesNamed old None word new = (word ≡ unnamed_result Delete) × (new ≡ old)
 DeletesNamed old (Some named) word new = Deletes old named word new
 
 -- ---- bytes of the packet
@@ -113,7 +113,7 @@ DeletesNamed old (Some named) word new = Deletes old named word new
 -- words name no bytes of the part: the error is returned, and nothing changes
 abbrev pub LoadsAt : CallSite → ℕ → ℕ → Option ℕ → ℕ → Memory → Type 0
 LoadsAt site offset n None word after =
-    (word ≡ unnamed_answer LoadBytes) × (after ≡ site.memory)
+    (word ≡ unnamed_result LoadBytes) × (after ≡ site.memory)
 LoadsAt site offset n (Some q) word after =
     (word ≡ packet_result site.packet offset n)
     × (after ≡ with_bytes site.memory (part_start site.memory site.tenant + q)

@@ -13,7 +13,7 @@ use Rattle.tagged_model.specs.Step.{map_at_start, map_after_run}
 use Rattle.arena.specs.Memory.{base, part_start, with_bytes}
 use Rattle.bpf_maps.specs.KeyTable.{table_of, after_run, IsSound}
 use Rattle.bpf_maps.specs.Live.{LiveMaps, live_at, keys_at, shape_at, offset_at}
-use Rattle.bpf_helpers.specs.States.{Environment, FlatState, CallAnswer, with_memory, with_held, site_in, answers, with_answer}
+use Rattle.bpf_helpers.specs.States.{Environment, FlatState, CallResult, with_memory, with_held, site_in, answers, with_result}
 use Rattle.bpf_helpers.specs.Layout.{Layout, IsWord, HasStack}
 use Rattle.bpf_helpers.specs.Stands.{IsRoom, HasMap, Simulates, element_bytes, stored_maps}
 use Rattle.bpf_helpers.specs.Calls.{Extends}
@@ -93,7 +93,7 @@ update_reply asked = updated asked.given.map asked.key asked.value asked.flags
 -- objects of l the words and bytes after it represent the machine's state after it; register 0 does
 -- not have the result yet
 pub record UpdateKeepsSimulation (env : Environment) (l : Layout) (flat : FlatState) (s : RunState)
-    (asked : TaggedUpdate) (answer : CallAnswer) : Type 0 where
+    (asked : TaggedUpdate) (answer : CallResult) : Type 0 where
   pub layout : Layout
   pub extends : Extends l layout
   pub answer_is : answer.word ≡ (update_reply asked).answer
@@ -104,7 +104,7 @@ pub record UpdateKeepsSimulation (env : Environment) (l : Layout) (flat : FlatSt
 abbrev pub UpdatesKeepSimulation : Type 0
 UpdatesKeepSimulation =
     (env : Environment) (l : Layout) (flat : FlatState) (s : RunState)
-    (i : ℕ) (asked : TaggedUpdate) (answer : CallAnswer)
+    (i : ℕ) (asked : TaggedUpdate) (answer : CallResult)
     → IsRoom env.memory env.tenant → Simulates env l flat s
     → slice_get env.descriptors i ≡ Some asked.given.descriptor
     → s.maps asked.given.descriptor ≡ Some asked.given.map
@@ -151,7 +151,7 @@ abbrev pub ReturnsKeepSimulation : Type 0
 ReturnsKeepSimulation =
     (env : Environment) (l : Layout) (flat : FlatState) (s : RunState) (v : Tagged) (w : ℕ)
     → Simulates env l flat s → IsWord env l v w
-    → Simulates env l (with_answer flat (answers w flat.memory flat.maps)) (returns s v)
+    → Simulates env l (with_result flat (answers w flat.memory flat.maps)) (returns s v)
 
 -- ---- one map at the start and the end of a run
 

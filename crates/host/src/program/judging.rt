@@ -25,10 +25,10 @@ use verifier::{Refusal, WorkingMemory, laws, verify_slots};
 fn refusal_of_input(alloc: Global, maps: &[Named], input: &[u8]) -> Result<Option<Refusal>, Failure>
     ensures judged { IfOk result (λ refusal. IsJudgement maps.now input.now refusal) }
     ensures only { (refusal : Option AnyRefusal) → IsJudgement maps.now input.now refusal
-        → Gives (λ told. told) result refusal }
+        → Gives (λ seen. seen) result refusal }
     ensures fault { FailsOnly result (IsUnreadable input.now) }
     ensures faulty { (failure : AnyFailure) → IsUnreadable input.now failure
-        → Fails result (λ told. told ≡ failure) }
+        → Fails result (λ seen. seen ≡ failure) }
 {
     // A law, which does nothing when it runs: slots have at most one judgement. So the one found is that of `only`.
     laws::one_judgement();

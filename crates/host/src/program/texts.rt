@@ -65,7 +65,7 @@ fn assembled(alloc: Global, input: &[u8]) -> Result<String, Failure>
 pub(crate) fn slots_on(alloc: Global, input: &[u8]) -> Result<Vec<u8>, Failure>
     ensures read { IfOk result (λ slots. IsSlotText input.now slots.items) }
     ensures only { (slots : List ℕ) → IsSlotText input.now slots
-        → Gives (λ told. told.items) result slots }
+        → Gives (λ seen. seen.items) result slots }
     ensures fault { FailsOnly result (IsUnreadable input.now) }
     ensures faulty { (refusal : AnyFailure) → IsUnreadable input.now refusal
         → Fails result (λ failure. failure ≡ refusal) }

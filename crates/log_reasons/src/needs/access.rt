@@ -16,7 +16,7 @@ use words::{STACK_SIZE, STACK_SLOTS};
 
 /// What an access does.
 #[derive(Clone, Copy, PartialEq, Eq)]
-enum Deed {
+enum AccessKind {
     Load,
     /// A load that extends the sign.
     SignedLoad,
@@ -25,13 +25,13 @@ enum Deed {
     Change,
 }
 
-impl Deed {
+impl AccessKind {
     /// What the instruction does with the bytes, as a verb of which it is the subject.
     fn verb(self) -> &'static str {
         match self {
-            Deed::Load | Deed::SignedLoad => "reads",
-            Deed::Store => "writes",
-            Deed::Change => "changes",
+            AccessKind::Load | AccessKind::SignedLoad => "reads",
+            AccessKind::Store => "writes",
+            AccessKind::Change => "changes",
         }
     }
 }
@@ -47,12 +47,12 @@ struct Access {
     bytes: i64,
     /// The number of the source register of a store or of an atomic operation; `None` for a load, and for a store of a constant.
     given: Option<u8>,
-    deed: Deed,
+    deed: AccessKind,
 }
 
 /// The access to `size` bytes, `off` bytes from the address in `base`. `given` is the number of the register whose value it stores or
 /// computes with; `None` for a load, and for a store of a constant.
-fn access_at(base: Reg, off: i16, size: AccessSize, given: Option<u8>, deed: Deed) -> Access {
+fn access_at(base: Reg, off: i16, size: AccessSize, given: Option<u8>, deed: AccessKind) -> Access {
     Access {
         base: base.number(),
         offset: i64::from(off),
@@ -63,11 +63,11 @@ fn access_at(base: Reg, off: i16, size: AccessSize, given: Option<u8>, deed: Dee
 }
 
 /// What a load does, which extends the sign if `is_signed`.
-fn load_deed(is_signed: bool) -> Deed {
+fn load_deed(is_signed: bool) -> AccessKind {
     if is_signed {
-        Deed::SignedLoad
+        AccessKind::SignedLoad
     } else {
-        Deed::Load
+        AccessKind::Load
     }
 }
 
@@ -86,14 +86,20 @@ fn access_of(insn: &Insn) -> Option<Access> {
             dst,
             src,
             off,
-        } => Some(access_at(dst, off, size, register_of(src), Deed::Store)),
+        } => Some(access_at(dst, off, size, register_of(src), AccessKind::Store)),
         Insn::Atomic {
             size,
             dst,
             src,
             off,
             ..
-        } => Some(access_at(dst, off, size.access(), Some(src.number()), Deed::Change)),
+        } => Some(access_at(
+            dst,
+            off,
+            size.access(),
+            Some(src.number()),
+            AccessKind::Change,
+        )),
         _ => None,
     }
 }
@@ -243,8 +249,8 @@ pub(crate) fn write_outside_value(
 fn write_context(text: &mut String, access: Access) -> Result<(), AllocError> {
     let (verb, bytes, offset) = (access.deed.verb(), access.bytes, access.offset);
     let sign = match access.deed {
-        Deed::Load => "",
-        Deed::SignedLoad => " with their sign",
+        AccessKind::Load => "",
+        AccessKind::SignedLoad => " with their sign",
         _ => return write!(text, "it {verb} the context, which may be read only"),
     };
     let many = if bytes == 1 { "byte" } else { "bytes" };
@@ -313,7 +319,7 @@ fn write_stack_need(
             )
         }
         (Reason::UnwrittenStack, _) => write_unwritten(text, refusal, first, last),
-        (_, Some(register)) if access.deed == Deed::Store => {
+        (_, Some(register)) if access.deed == AccessKind::Store => {
             write_part_stored(text, refusal.facts, register, bytes)
         }
         _ => write_part_of_spill(text, refusal.facts, verb, first, last),

@@ -15,7 +15,7 @@ use Rattle.bpf_helpers.specs.Calls.{SameApart}
 use Rattle.bpf_helpers.specs.inside.Flat.{key_word, UpdatesNamed, DeletesNamed, LoadsAt}
 use Rattle.bpf_helpers.proofs.Followed.{look_up_follows, update_follows, delete_follows, load_follows}
 use Rattle.bpf_helpers.proofs.calls.call.Goals as goal
-use Rattle.bpf_helpers.specs.States.{CallSite, CallAnswer, answers, site}
+use Rattle.bpf_helpers.specs.States.{CallSite, CallResult, answers, site}
 
 -- an update keeps no element apart
 
@@ -26,7 +26,7 @@ claims_apart (Present p) key old answer new claims = ap (λ (t : KeyTable). t.ke
 claims_apart New key old (Ok p) new claims = ap (λ (t : KeyTable). t.kept) claims.1
 claims_apart New key old (Err fault) new claims = absurd claims
 
-updates_apart : (here : CallSite) (pair : Option NamedPair) (flags : ℕ) (answer : CallAnswer)
+updates_apart : (here : CallSite) (pair : Option NamedPair) (flags : ℕ) (answer : CallResult)
     → UpdatesNamed here pair flags answer → SameApart here.maps answer.maps
 updates_apart here None flags answer nothing key = ap (λ (maps : LiveMaps). (keys_at maps key).kept) nothing.2
 updates_apart here (Some pair) flags answer updates key =
@@ -48,8 +48,8 @@ of_helper : (P : Helper → Type 0) (h : Helper) {id : ℤ} {found : Option Help
     → P h
     → (helper : Helper) → helper_of id ≡ Some helper
     → P helper
-of_helper P h {id} {field = field} fits by is told holds helper known =
-    subst P (sym told ∙ same_Some field helper (sym is ∙ by ∙ ap helper_of (to_z-of_z w32 id fits) ∙ known)) holds
+of_helper P h {id} {field = field} fits by is seen holds helper known =
+    subst P (sym seen ∙ same_Some field helper (sym is ∙ by ∙ ap helper_of (to_z-of_z w32 id fits) ∙ known)) holds
 
 pub returns-in-Some-LookUp-clause-follows : goal.returns-in-Some-LookUp-clause-follows
 returns-in-Some-LookUp-clause-follows c =

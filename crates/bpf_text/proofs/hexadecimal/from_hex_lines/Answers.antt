@@ -3,7 +3,7 @@ use Rattle.bpf_text.specs.Lines.{text_lines}
 use Rattle.bpf_text.specs.HexText.{hex_bytes, hex_fault_at}
 use Rattle.std.proofs.lemmas.Bool.Decides.{nat_tests}
 use Rattle.bpf_text.proofs.HexLines.{none_at_all}
-use Rattle.bpf_text.proofs.OneFault.{told, faultless}
+use Rattle.bpf_text.proofs.OneFault.{seen, faultless}
 use Rattle.bpf_text.specs.Fault.{empty_fault}
 use Rattle.bpf_text.proofs.hexadecimal.from_hex_lines.Goals as goal
 
@@ -27,7 +27,7 @@ returns-then-is_empty-clause-fault c =
 
 pub returns-then-is_empty-clause-faulty : goal.returns-then-is_empty-clause-faulty
 returns-then-is_empty-clause-faulty c = λ fault has.
-    told c.args.text.now empty_fault fault (returns-then-is_empty-clause-fault c) has
+    seen c.args.text.now empty_fault fault (returns-then-is_empty-clause-fault c) has
 
 pub returns-clause-found : goal.returns-clause-found
 returns-clause-found c =

@@ -1,6 +1,6 @@
 use Rattle.std.proofs.Common.{ℕ, List}
 use Rattle.host_core.specs.Handled.{Handles}
-use Rattle.host_core.proofs.ToldAlone.{one_more_told}
+use Rattle.host_core.proofs.ServedAlone.{one_more_seen}
 use Rattle.host_core.proofs.contract_clients.handle_after_a_refusal.Goals as goal
 
 pub returns : goal.returns
@@ -22,5 +22,5 @@ returns c =
       c.handle.new.reply,
       c.handle.new.self.states,
       first,
-      one_more_told c.each_stretch_is_told_alone.ensures first second,
+      one_more_seen c.each_stretch_is_served_alone.ensures first second,
     )

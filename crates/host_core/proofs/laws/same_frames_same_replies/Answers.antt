@@ -1,4 +1,4 @@
-use Rattle.host_core.proofs.ToldAlone.{same_frames_same_replies}
+use Rattle.host_core.proofs.ServedAlone.{same_frames_same_replies}
 use Rattle.host_core.proofs.laws.same_frames_same_replies.Goals as goal
 
 pub returns : goal.returns

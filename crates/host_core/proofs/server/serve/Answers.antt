@@ -24,7 +24,7 @@ returns-in_default g c = ends_unread c.args.limit _
 
 pub returns-in-Ok-false : goal.returns-in-Ok-false
 returns-in-Ok-false g c =
-    ends_served c.calls_are_told_alone.ensures c.args.limit c.loop-frames.frames _ _ (omega arith)
+    ends_served c.calls_are_served_alone.ensures c.args.limit c.loop-frames.frames _ _ (omega arith)
     (end_stays_flushed _ _ _ c.loop-frames.invariant.flushed
     (subst (ServesFrameOrEnds _ _) c.in-Ok-false.field-0-test c.in-Ok-false.ensures.done))
     (frame_done _ _ _ c.loop-frames.frames c.loop-frames.invariant.answered
@@ -33,7 +33,7 @@ returns-in-Ok-false g c =
 
 pub returns-in-Err : goal.returns-in-Err
 returns-in-Err g c =
-    ends_stopped c.calls_are_told_alone.ensures c.args.limit _ _ _ (omega arith)
+    ends_stopped c.calls_are_served_alone.ensures c.args.limit _ _ _ (omega arith)
     (frame_stays_flushed _ _ _ c.in-Err.kind c.loop-frames.invariant.flushed c.in-Err.ensures.fault)
     (λ cut. omega arith)
     (frame_is_no_limit _ _ c.in-Err.kind c.in-Err.ensures.fault)
@@ -44,7 +44,7 @@ pub returns-in-Ok-true-is_at_end : goal.returns-in-Ok-true-is_at_end
 returns-in-Ok-true-is_at_end g c =
     let same : c.loop-frames.frames ≡ c.args.limit = omega arith in
     let (read, end) = c.in-Ok-true-is_at_end.ensures.end c.in-Ok-true-is_at_end.field-0-test in
-    ends_served c.calls_are_told_alone.ensures c.args.limit c.args.limit _ _ (omega arith)
+    ends_served c.calls_are_served_alone.ensures c.args.limit c.args.limit _ _ (omega arith)
     (record { again = c.loop-frames.invariant.flushed.again })
     (end_done _ _ _ c.loop-frames.frames c.args.limit same c.loop-frames.invariant.answered
     c.loop-frames.invariant.sound read refl refl refl end
@@ -54,7 +54,7 @@ pub returns-in-Ok-false-is_at_end : goal.returns-in-Ok-false-is_at_end
 returns-in-Ok-false-is_at_end g c =
     let same : c.loop-frames.frames ≡ c.args.limit = omega arith in
     let (byte, read) = c.in-Ok-false-is_at_end.ensures.more c.in-Ok-false-is_at_end.field-0-test in
-    ends_stopped c.calls_are_told_alone.ensures c.args.limit _ _ _ (omega arith)
+    ends_stopped c.calls_are_served_alone.ensures c.args.limit _ _ _ (omega arith)
     (λ other. record { again = c.loop-frames.invariant.flushed.again })
     (λ cut. cc cut) (λ full. refl)
     (end_more _ _ _ c.loop-frames.frames c.args.limit byte same c.loop-frames.invariant.answered
@@ -63,7 +63,7 @@ returns-in-Ok-false-is_at_end g c =
 pub returns : goal.returns
 returns g c =
     let same : c.loop-frames.frames ≡ c.args.limit = omega arith in
-    ends_stopped c.calls_are_told_alone.ensures c.args.limit _ _ _ (omega arith)
+    ends_stopped c.calls_are_served_alone.ensures c.args.limit _ _ _ (omega arith)
     (λ other. record { again = c.loop-frames.invariant.flushed.again })
     (λ cut. cc (cut, c.in-Err-is_at_end.ensures.kind)) (λ full. refl)
     (end_fails _ _ _ c.loop-frames.frames c.args.limit c.in-Err-is_at_end.kind

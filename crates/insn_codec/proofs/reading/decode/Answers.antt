@@ -19,8 +19,8 @@ pub returns-in-Ok-clause-faulty : goal.returns-in-Ok-clause-faulty
 returns-in-Ok-clause-faulty c = λ kind fault.
     absurd (insn_has_no_fault c.args.bytes.now kind (c.read_front.new.entry, c.in-Ok.ensures.found.0, c.in-Ok.ensures.found.1) fault)
 
-told : (c : goal.In-Err) → HasFault c.args.bytes.now c.in-Err.kind
-told c = has_fault c.args.bytes.now c.in-Err.kind (λ k. omega (arith, c.type_inv.bytes k)) c.in-Err.ensures.fault
+seen : (c : goal.In-Err) → HasFault c.args.bytes.now c.in-Err.kind
+seen c = has_fault c.args.bytes.now c.in-Err.kind (λ k. omega (arith, c.type_inv.bytes k)) c.in-Err.ensures.fault
 
 pub returns-in-Err-clause-only : goal.returns-in-Err-clause-only
 returns-in-Err-clause-only c = λ insn fits begins.
@@ -28,7 +28,7 @@ returns-in-Err-clause-only c = λ insn fits begins.
     absurd (cc (none, c.in-Err.ensures.fault))
 
 pub returns-in-Err-clause-fault : goal.returns-in-Err-clause-fault
-returns-in-Err-clause-fault c = (refl, told c)
+returns-in-Err-clause-fault c = (refl, seen c)
 
 pub returns-in-Err-clause-faulty : goal.returns-in-Err-clause-faulty
-returns-in-Err-clause-faulty c = λ kind fault. one_kind c.args.bytes.now c.in-Err.kind kind (told c) fault
+returns-in-Err-clause-faulty c = λ kind fault. one_kind c.args.bytes.now c.in-Err.kind kind (seen c) fault

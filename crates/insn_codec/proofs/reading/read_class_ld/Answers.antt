@@ -18,7 +18,7 @@ returns-in_err-next-clause-fault c =
     let s = fields c.args.slot.now in
     let ok : listed Wide s ≡ true = search rules in
     let form : form_at c.args.slot.now.opcode ≡ Some Wide = ap form_at c.if-slot-ne24.false ∙ at_wide in
-    let told =
+    let seen =
     fault_by_second Wide s s c.args.rest.now c.in_err-next.field-0.0 refl ok c.in_ok-check_fields.ensures.dst
     c.in_ok-check_fields.ensures.src c.in_err-next.ensures.fault in
-    rw (p.1, p.2) (ap (λ (o : Option OpcodeForm). fault_by_form o s c.args.rest.now) form ∙ told)
+    rw (p.1, p.2) (ap (λ (o : Option OpcodeForm). fault_by_form o s c.args.rest.now) form ∙ seen)

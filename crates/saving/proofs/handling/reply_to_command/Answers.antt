@@ -12,7 +12,7 @@ use Rattle.tenant.specs.State.{TenantState}
 use Rattle.saving.specs.Births.{Birth, lives}
 use Rattle.saving.specs.inside.Frames.{tail_length}
 use Rattle.saving.proofs.FramesParts.{IsLent, on_lent}
-use Rattle.saving.proofs.FramesTold.{told, shown_after}
+use Rattle.saving.proofs.FramesReplied.{seen, shown_after}
 use Rattle.saving.proofs.Recorded.{births_opened, few_after}
 use Rattle.saving.proofs.handling.reply_to_command.Goals as goal
 
@@ -45,8 +45,8 @@ note-requires-in-ProgLoad c =
 
 -- ---- commands that borrow the part to write it
 
-pub returns-in-MapCreate-clause-told : goal.returns-in-MapCreate-clause-told
-returns-in-MapCreate-clause-told c =
+pub returns-in-MapCreate-clause-seen : goal.returns-in-MapCreate-clause-seen
+returns-in-MapCreate-clause-seen c =
     let e = c.create-answer.ensures in
     let lent : IsLent c.args.arena.now c.args.number c.part_mut-part.result.now c.create-answer.new.part = record {
       parts = c.memory_is_its_parts.ensures.parts;
@@ -55,14 +55,14 @@ returns-in-MapCreate-clause-told c =
       whole = e.length;
     } in
     on_lent c.parts_are_apart.ensures c.args.tenant.now c.create-answer.new.self lent
-    (told e.answer.0 c.create-answer.result c.in-MapCreate.is e.answer.1 e.writable c.write_answer.ensures
+    (seen e.answer.0 c.create-answer.result c.in-MapCreate.is e.answer.1 e.writable c.write_answer.ensures
     (c.note.ensures
     ∙ births_opened c.create-answer.result
     (state_in c.create-answer.new.part c.create-answer.new.self)
     c.args.births.now))
 
-pub returns-in-MapUpdate-clause-told : goal.returns-in-MapUpdate-clause-told
-returns-in-MapUpdate-clause-told c =
+pub returns-in-MapUpdate-clause-seen : goal.returns-in-MapUpdate-clause-seen
+returns-in-MapUpdate-clause-seen c =
     let e = c.update-answer.ensures in
     let lent : IsLent c.args.arena.now c.args.number c.part_mut.result.now c.update-answer.new.part = record {
       parts = c.memory_is_its_parts.ensures.parts;
@@ -71,10 +71,10 @@ returns-in-MapUpdate-clause-told c =
       whole = e.length;
     } in
     on_lent c.parts_are_apart.ensures c.args.tenant.now c.update-answer.new.self lent
-    (told false c.update-answer.result c.in-MapUpdate.is e.answer e.writable c.write_answer-in-MapUpdate.ensures refl)
+    (seen false c.update-answer.result c.in-MapUpdate.is e.answer e.writable c.write_answer-in-MapUpdate.ensures refl)
 
-pub returns-in-Close-clause-told : goal.returns-in-Close-clause-told
-returns-in-Close-clause-told c =
+pub returns-in-Close-clause-seen : goal.returns-in-Close-clause-seen
+returns-in-Close-clause-seen c =
     let e = c.close-answer.ensures in
     let lent : IsLent c.args.arena.now c.args.number c.part_mut-in-Close.result.now c.close-answer.new.part = record {
       parts = c.memory_is_its_parts.ensures.parts;
@@ -83,36 +83,36 @@ returns-in-Close-clause-told c =
       whole = e.length;
     } in
     on_lent c.parts_are_apart.ensures c.args.tenant.now c.close-answer.new.self lent
-    (told false c.close-answer.result c.in-Close.is e.answer e.writable c.write_answer-in-Close.ensures
+    (seen false c.close-answer.result c.in-Close.is e.answer e.writable c.write_answer-in-Close.ensures
     (c.keep_living.ensures c.close-answer.new.part
     ∙ ap (λ (s : TenantState). filter (lives s) c.args.births.now)
     (shown_after c.close-answer.result (state_in c.close-answer.new.part c.close-answer.new.self))))
 
 -- ---- commands that read the part, or do not borrow it
 
-pub returns-in-MapLookup-clause-told : goal.returns-in-MapLookup-clause-told
-returns-in-MapLookup-clause-told c =
+pub returns-in-MapLookup-clause-seen : goal.returns-in-MapLookup-clause-seen
+returns-in-MapLookup-clause-seen c =
     let a = c.in-MapLookup in
     let e = c.look_up-answer.ensures in
     let k = c.args.tenant.now in
-    told false c.look_up-answer.result a.is
+    seen false c.look_up-answer.result a.is
     (subst (λ (bytes : List ℕ).
     Answers false (state_in bytes k) (map_lookup a.fd a.key.now)
     (shown_answer c.look_up-answer.result (state_in bytes k)))
     c.part.ensures.bytes e.answer)
     e.writable c.write_answer-in-MapLookup.ensures refl
 
-pub returns-in-MapDelete-clause-told : goal.returns-in-MapDelete-clause-told
-returns-in-MapDelete-clause-told c =
+pub returns-in-MapDelete-clause-seen : goal.returns-in-MapDelete-clause-seen
+returns-in-MapDelete-clause-seen c =
     let e = c.delete-answer.ensures in
-    told false c.delete-answer.result c.in-MapDelete.is
+    seen false c.delete-answer.result c.in-MapDelete.is
     (e.answer (part_bytes c.args.arena.now c.args.number))
     e.writable c.write_answer-in-MapDelete.ensures refl
 
-pub returns-in-MapNextKey-clause-told : goal.returns-in-MapNextKey-clause-told
-returns-in-MapNextKey-clause-told c =
+pub returns-in-MapNextKey-clause-seen : goal.returns-in-MapNextKey-clause-seen
+returns-in-MapNextKey-clause-seen c =
     let e = c.next_key-answer.ensures in
-    told false c.next_key-answer.result c.in-MapNextKey.is
+    seen false c.next_key-answer.result c.in-MapNextKey.is
     (e.answer (part_bytes c.args.arena.now c.args.number))
     e.writable c.write_answer-in-MapNextKey.ensures refl
 
@@ -122,21 +122,21 @@ write_answer-requires-in-ProgLoad c =
     subst (λ (x : CodeCommand). tail_length (shown_command x) ≤ longest_frame) c.in-ProgLoad.is c.requires.short in
     c.load-loaded.ensures.writable (omega (arith, short))
 
-pub returns-in-ProgLoad-clause-told : goal.returns-in-ProgLoad-clause-told
-returns-in-ProgLoad-clause-told c =
+pub returns-in-ProgLoad-clause-seen : goal.returns-in-ProgLoad-clause-seen
+returns-in-ProgLoad-clause-seen c =
     let e = c.load-loaded.ensures in
     let short =
     subst (λ (x : CodeCommand). tail_length (shown_command x) ≤ longest_frame) c.in-ProgLoad.is c.requires.short in
     let (refused, loads) = e.answer (part_bytes c.args.arena.now c.args.number) in
-    told refused c.load-loaded.result c.in-ProgLoad.is loads (e.writable (omega (arith, short)))
+    seen refused c.load-loaded.result c.in-ProgLoad.is loads (e.writable (omega (arith, short)))
     c.write_answer-in-ProgLoad.ensures
     (c.note-in-ProgLoad.ensures
     ∙ births_opened c.load-loaded.result
     (state_in (part_bytes c.args.arena.now c.args.number) c.load-loaded.new.self)
     c.args.births.now)
 
-pub returns-in-ProgTestRun-clause-told : goal.returns-in-ProgTestRun-clause-told
-returns-in-ProgTestRun-clause-told c =
+pub returns-in-ProgTestRun-clause-seen : goal.returns-in-ProgTestRun-clause-seen
+returns-in-ProgTestRun-clause-seen c =
     let e = c.test_run-answer.ensures in
-    told false c.test_run-answer.result c.in-ProgTestRun.is e.answer e.writable
+    seen false c.test_run-answer.result c.in-ProgTestRun.is e.answer e.writable
     c.write_answer-in-ProgTestRun.ensures refl

@@ -19,10 +19,10 @@ loop-fd-preserved c =
     let so_far = c.loop-fd.invariant in
     let more : handles_from objects (take (i + 1) fds) ≡ before ++ handle_at (named objects fd) fd =
     handles_more objects fds i fd c.loop-fd-test.true refl in
-    let told : listed c.map_named.result fd ≡ handle_at (named objects fd) fd =
+    let seen : listed c.map_named.result fd ≡ handle_at (named objects fd) fd =
     ap (λ (o : Option ℕ). listed o fd) c.map_named.ensures ∙ sym (listed_at (named objects fd) fd) in
     let all : seconds (before ++ listed c.map_named.result fd) ≡ seconds (handles_from objects (take (i + 1) fds)) =
-    ap (λ (ms : List (ℕ × ℕ)). seconds (before ++ ms)) told ∙ ap seconds (sym more) in
+    ap (λ (ms : List (ℕ × ℕ)). seconds (before ++ ms)) seen ∙ ap seconds (sym more) in
     elim c.match-map_named.branch [
       | in-Some+in_ok-push w ↦
           ap (λ (v : Vec ℕ Global). v.items) w.found-is ∙ w.in_ok-push.ensures.items

@@ -17,8 +17,8 @@ returns-in_err-pointer-in-MapValue-clause-refused c =
     let m = unsigned 32 c.in-MapValue.fd in
     let off = c.in-MapValue.off in
     let same : c.cast_unsigned-in-MapValue.result ≡ m = search rules in
-    let told : value_of m off (shapes m) ≡ Err c.in_err-pointer-in-MapValue.field-0.0 =
+    let seen : value_of m off (shapes m) ≡ Err c.in_err-pointer-in-MapValue.field-0.0 =
     ap (λ (n : ℕ). value_of n off (shapes n)) (sym same) ∙ sym c.value_of.ensures ∙ c.in_err-pointer-in-MapValue.was in
     rw (p.1, p.2)
     (ap (λ (i : Insn). effect shapes c.args.slot i c.args.facts.now) c.in-MapValue.is
-    ∙ ap (assigns c.args.facts.now c.in-MapValue.dst) told)
+    ∙ ap (assigns c.args.facts.now c.in-MapValue.dst) seen)

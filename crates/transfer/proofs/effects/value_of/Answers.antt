@@ -25,6 +25,6 @@ returns c =
     let has : has_direct_value shape offset ≡ true =
     sym c.has_direct_value.ensures.value ∙ c.if-not-has_direct_value.false in
     let named : shapes_named c.args.named.now fd ≡ Some shape = sym c.shape_of.ensures ∙ c.in-Some.is in
-    let told : value_of fd offset (Some shape) ≡ Ok (Value (value_span fd (pos offset) (pos offset))) =
+    let seen : value_of fd offset (Some shape) ≡ Ok (Value (value_span fd (pos offset) (pos offset))) =
     cond-true (has_direct_value shape offset) _ _ has in
-    ap (λ (p : ValuePointer). Ok (Value p)) spanned ∙ sym (ap (value_of fd offset) named ∙ told)
+    ap (λ (p : ValuePointer). Ok (Value p)) spanned ∙ sym (ap (value_of fd offset) named ∙ seen)

@@ -4,40 +4,40 @@ use Rattle.insn_set.specs.Program.{slot_count}
 use Rattle.tagged_model.specs.Named.{shapes_named}
 use Rattle.tagged_model.specs.declared.shape.Named.{Named}
 use Rattle.verifier.specs.Maps.{entries_of}
-use Rattle.verifier.specs.Told.{IsToldBelow}
-use Rattle.verifier.proofs.Telling.{none_told_at_memory, none_told_of_shape}
+use Rattle.verifier.specs.Seen.{SeesBelow}
+use Rattle.verifier.proofs.Watching.{none_seen_at_memory, none_seen_of_shape}
 use Rattle.verifier.proofs.judging.judge.Goals as goal
 
-pub returns-in_err-cost-clause-told_refused : goal.returns-in_err-cost-clause-told_refused
-returns-in_err-cost-clause-told_refused g c =
+pub returns-in_err-cost-clause-seen_refused : goal.returns-in_err-cost-clause-seen_refused
+returns-in_err-cost-clause-seen_refused g c =
     let p = err_from_is_err_and c.from_residual.result c.from_residual.ensures.1 in
     rw (p.1, p.2)
-    (none_told_of_shape c.args.program.now c.args.named.now (g.W.Watcher.told c.args.watcher.now) _
+    (none_seen_of_shape c.args.program.now c.args.named.now (g.W.Watcher.seen c.args.watcher.now) _
     c.in_err-cost.ensures.refused)
 
-pub returns-in_err-maps-clause-told_refused : goal.returns-in_err-maps-clause-told_refused
-returns-in_err-maps-clause-told_refused g c =
+pub returns-in_err-maps-clause-seen_refused : goal.returns-in_err-maps-clause-seen_refused
+returns-in_err-maps-clause-seen_refused g c =
     let p = err_from_is_err_and c.from_residual-in_err-maps.result c.from_residual-in_err-maps.ensures.1 in
-    rw (p.1, p.2) (none_told_at_memory c.args.program.now c.args.named.now (g.W.Watcher.told c.args.watcher.now) _ refl)
+    rw (p.1, p.2) (none_seen_at_memory c.args.program.now c.args.named.now (g.W.Watcher.seen c.args.watcher.now) _ refl)
 
-pub returns-in_err-entries-clause-told_refused : goal.returns-in_err-entries-clause-told_refused
-returns-in_err-entries-clause-told_refused g c =
+pub returns-in_err-entries-clause-seen_refused : goal.returns-in_err-entries-clause-seen_refused
+returns-in_err-entries-clause-seen_refused g c =
     let p = err_from_is_err_and c.from_residual-in_err-entries.result c.from_residual-in_err-entries.ensures.1 in
-    rw (p.1, p.2) (none_told_at_memory c.args.program.now c.args.named.now (g.W.Watcher.told c.args.watcher.now) _ refl)
+    rw (p.1, p.2) (none_seen_at_memory c.args.program.now c.args.named.now (g.W.Watcher.seen c.args.watcher.now) _ refl)
 
-pub returns-in_err-pass-clause-told_refused : goal.returns-in_err-pass-clause-told_refused
-returns-in_err-pass-clause-told_refused g c =
+pub returns-in_err-pass-clause-seen_refused : goal.returns-in_err-pass-clause-seen_refused
+returns-in_err-pass-clause-seen_refused g c =
     let p = err_from_is_err_and c.from_residual-in_err-pass.result c.from_residual-in_err-pass.ensures.1 in
-    rw (p.1, p.2) (none_told_at_memory c.args.program.now c.args.named.now (g.W.Watcher.told c.args.watcher.now) _ refl)
+    rw (p.1, p.2) (none_seen_at_memory c.args.program.now c.args.named.now (g.W.Watcher.seen c.args.watcher.now) _ refl)
 
-pub returns-clause-told : goal.returns-clause-told
-returns-clause-told g c =
+pub returns-clause-seen : goal.returns-clause-seen
+returns-clause-seen g c =
     let code = c.args.program.now in
-    let old = g.W.Watcher.told c.args.watcher.now in
-    let new = g.W.Watcher.told c.check_safety-verdict.new.watcher in
+    let old = g.W.Watcher.seen c.args.watcher.now in
+    let new = g.W.Watcher.seen c.check_safety-verdict.new.watcher in
     let is =
     c.in_ok-entries.ensures
     ∙ ap (λ (fds : List ℕ). entries_of fds c.args.named.now) (c.deref.ensures.value ∙ c.in_ok-maps.ensures) in
     let entries = c.deref-2.ensures.value ∙ is in
-    subst (λ (es : List Named). IsToldBelow (slot_count code) (shapes_named es) code old new)
-    entries c.in_ok-verdict.ensures.told
+    subst (λ (es : List Named). SeesBelow (slot_count code) (shapes_named es) code old new)
+    entries c.in_ok-verdict.ensures.seen

@@ -10,8 +10,8 @@ use Rattle.insn_set.specs.Flow.{jump_target}
 use Rattle.verifier.specs.Verdict.{safety_fault}
 use Rattle.verifier.specs.declared.pass.Pass.{Pass}
 use Rattle.verifier.proofs.Inflow.{IsBefore, at_start, here_is, after_insn, after_none, safety_is, safe_none, first_at}
-use Rattle.verifier.specs.Told.{IsToldBelow}
-use Rattle.verifier.proofs.Telling.{told_first, told_next, told_past, told_or_not}
+use Rattle.verifier.specs.Seen.{SeesBelow}
+use Rattle.verifier.proofs.Watching.{seen_first, seen_next, seen_past, seen_or_not}
 use Rattle.verifier.proofs.pass.check_safety.Goals.{in-Some+in_ok-step, in_default}
 use Rattle.verifier.proofs.pass.check_safety.Goals as goal
 
@@ -23,7 +23,7 @@ loop-slot-init g c =
     record {
       known = at_start (shapes_named c.args.named.now) code _ some c.begin.ensures.falling c.begin.ensures.entries;
       none_below = λ n lt. absurd (omega arith);
-      told = told_first (shapes_named c.args.named.now) code _;
+      seen = seen_first (shapes_named c.args.named.now) code _;
     }
 
 -- a target within the program is within all programs
@@ -55,27 +55,27 @@ returns-in_err-step-clause-refused g c =
     let known = c.loop-slot.invariant.known in
     let lt : slot < slot_count code = omega (arith, c.slots-slots.ensures.count) in
     let here = here_is _ known begins lt in
-    let old = g.W.Watcher.told c.args.watcher.now in
-    let mid = g.W.Watcher.told c.loop-slot.watcher in
-    let new = g.W.Watcher.told c.step.new.watcher in
+    let old = g.W.Watcher.seen c.args.watcher.now in
+    let mid = g.W.Watcher.seen c.loop-slot.watcher in
+    let new = g.W.Watcher.seen c.step.new.watcher in
     rw (p.1, p.2)
     (elim c.in_err-step.ensures.refused [
       | inl memory ↦
           let (n, part) =
-          told_or_not (shapes_named c.args.named.now) code slot c.in-Some.insn.now _ old mid new
-          begins here c.loop-slot.invariant.told memory.1 in
+          seen_or_not (shapes_named c.args.named.now) code slot c.in-Some.insn.now _ old mid new
+          begins here c.loop-slot.invariant.seen memory.1 in
           inl (memory.0, n, part)
-      | inr told ↦
+      | inr seen ↦
           inr (
             first_at (shapes_named c.args.named.now)
                 (safety_fault (shapes_named c.args.named.now) code)
                 c.in_err-step.field-0.0.slot slot c.in_err-step.field-0.0.reason
-                told.0.0
-                (safety_is _ code slot here begins told.0.1)
+                seen.0.0
+                (safety_is _ code slot here begins seen.0.1)
                 c.loop-slot.invariant.none_below,
-            subst (λ (n : ℕ). IsToldBelow (n + 1) (shapes_named c.args.named.now) code old new) (sym told.0.0)
-                (told_next (shapes_named c.args.named.now) code slot c.in-Some.insn.now _ old mid
-                new begins here c.loop-slot.invariant.told told.1),
+            subst (λ (n : ℕ). SeesBelow (n + 1) (shapes_named c.args.named.now) code old new) (sym seen.0.0)
+                (seen_next (shapes_named c.args.named.now) code slot c.in-Some.insn.now _ old mid
+                new begins here c.loop-slot.invariant.seen seen.1),
           )
     ])
 
@@ -89,18 +89,18 @@ loop-slot-preserved g c =
       | in-Some+in_ok-step w ↦
           let begins : begins_at code slot ≡ Some w.in-Some.insn.now =
           sym c.get.ensures ∙ ap option_copied w.in-Some.is in
-          let told = w.in_ok-step.ensures in
+          let seen = w.in_ok-step.ensures in
           let here = here_is _ known begins lt in
           record {
             known =
                 subst (λ (p : Pass). IsBefore (shapes_named c.args.named.now) code (slot + 1) p) (sym w.pass-is)
                 (after_insn _ c.joins_commute.ensures.facts c.joins_associate.ensures.facts _ known
-                begins lt told.falling told.sent told.numbered);
-            none_below = below_more _ _ c.loop-slot.invariant.none_below (safety_is _ code slot here begins told.ok);
-            told =
-                told_next (shapes_named c.args.named.now) code slot w.in-Some.insn.now _ _ _ _
-                begins here c.loop-slot.invariant.told
-                (ap g.W.Watcher.told w.watcher-is ∙ told.told);
+                begins lt seen.falling seen.sent seen.numbered);
+            none_below = below_more _ _ c.loop-slot.invariant.none_below (safety_is _ code slot here begins seen.ok);
+            seen =
+                seen_next (shapes_named c.args.named.now) code slot w.in-Some.insn.now _ _ _ _
+                begins here c.loop-slot.invariant.seen
+                (ap g.W.Watcher.seen w.watcher-is ∙ seen.seen);
           }
       | in_default w ↦
           let begins : begins_at code slot ≡ None = sym c.get.ensures ∙ ap option_copied w.in_default.is in
@@ -111,9 +111,9 @@ loop-slot-preserved g c =
             none_below =
                 below_more _ _ c.loop-slot.invariant.none_below
                 (safe_none (shapes_named c.args.named.now) code slot begins);
-            told =
-                ap g.W.Watcher.told w.watcher-is
-                ∙ told_past (shapes_named c.args.named.now) code slot _ _ begins c.loop-slot.invariant.told;
+            seen =
+                ap g.W.Watcher.seen w.watcher-is
+                ∙ seen_past (shapes_named c.args.named.now) code slot _ _ begins c.loop-slot.invariant.seen;
           }
     ]
 
@@ -125,10 +125,10 @@ returns-clause-sound g c = λ n.
           (none_begins_past c.args.program.now n past)
     ]
 
-pub returns-clause-told : goal.returns-clause-told
-returns-clause-told g c =
+pub returns-clause-seen : goal.returns-clause-seen
+returns-clause-seen g c =
     let end : c.loop-slot.slot ≡ slot_count c.args.program.now = omega (arith, c.slots-slots.ensures.count) in
-    let old = g.W.Watcher.told c.args.watcher.now in
-    let new = g.W.Watcher.told c.loop-slot.watcher in
-    subst (λ (n : ℕ). IsToldBelow n (shapes_named c.args.named.now) c.args.program.now old new) end
-    c.loop-slot.invariant.told
+    let old = g.W.Watcher.seen c.args.watcher.now in
+    let new = g.W.Watcher.seen c.loop-slot.watcher in
+    subst (λ (n : ℕ). SeesBelow n (shapes_named c.args.named.now) c.args.program.now old new) end
+    c.loop-slot.invariant.seen

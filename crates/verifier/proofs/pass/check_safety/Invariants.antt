@@ -1,6 +1,6 @@
 use Rattle.std.proofs.Common.{◌≡◌, ℕ, ◌<◌, None}
 use Rattle.tagged_model.specs.Named.{shapes_named}
-use Rattle.verifier.specs.Told.{IsToldBelow}
+use Rattle.verifier.specs.Seen.{SeesBelow}
 use Rattle.verifier.specs.Verdict.{safety_fault}
 use Rattle.verifier.proofs.Inflow.{IsBefore}
 use Rattle.verifier.proofs.pass.check_safety.Given as goal
@@ -12,6 +12,6 @@ invariant-loop-slot g l =
     record {
       known : IsBefore (shapes_named l.named) l.program l.slot l.pass;
       none_below : (n : ℕ) → n < l.slot → safety_fault (shapes_named l.named) l.program n ≡ None;
-      told : IsToldBelow l.slot (shapes_named l.named) l.program (g.W.Watcher.told l.fn.watcher)
-          (g.W.Watcher.told l.watcher);
+      seen : SeesBelow l.slot (shapes_named l.named) l.program (g.W.Watcher.seen l.fn.watcher)
+          (g.W.Watcher.seen l.watcher);
     }

@@ -6,7 +6,7 @@ use Rattle.reg_kinds.specs.declared.reason.Reason.TheVariants.{JumpOutside, Jump
 use Rattle.reg_kinds.specs.declared.reason.Reason.TheVariants.{FramePointerWritten, DescriptorNotOpen, DescriptorNotMap, NoDirectValue}
 use Rattle.insn_set.specs.Flow.{falls_to, jumps_to, falls, jumps, written_register, descriptor}
 use Rattle.verifier.specs.Shape.{is_reachable, is_number, calls_unknown, is_not_open, is_not_map, lacks_value, leads_outside, leads_backward}
-use Rattle.verifier.proofs.Reached.{told_early}
+use Rattle.verifier.proofs.Reached.{seen_early}
 use Rattle.verifier.proofs.shape.other_reason.Goals as goal
 
 pub returns-in-Some : goal.returns-in-Some
@@ -24,6 +24,6 @@ returns-in-Some c =
     ∷ (is_not_map named (descriptor i), DescriptorNotMap)
     ∷ (lacks_value named i, NoDirectValue)
     ∷ [] in
-    told_early (jumps i && leads_outside code (jumps_to i at), JumpOutside)
+    seen_early (jumps i && leads_outside code (jumps_to i at), JumpOutside)
     (jumps i && leads_backward (jumps_to i at) at, JumpBackward)
     later c.in-Some.reason c.in-Some.ensures

@@ -1,7 +1,7 @@
 use Rattle.std.proofs.Common.{◌<◌, IfOk, subst, ◌∙◌}
 use Rattle.bpf_maps.specs.KeyTable.{KeyTable}
 use Rattle.bpf_maps.proofs.ByHandle.{has_key}
-use Rattle.bpf_maps.proofs.Changes.{told_of, is_under, live_under}
+use Rattle.bpf_maps.proofs.Changes.{seen_of, is_under, live_under}
 use Rattle.bpf_maps.proofs.KeyChanges.{IsKeyChange, keys_before, keys_after, keys_whole, only_keys}
 use Rattle.bpf_maps.proofs.Along.{claims_shape, claims_along}
 use Rattle.bpf_maps.proofs.maps.Maps.claim.Goals as goal
@@ -15,7 +15,7 @@ claim-requires c =
     let here =
     live_under (is_under c.self.view_is c.self.invariant c.map.view_is c.key-at.ensures
     c.index_mut-stored.ensures.value) in
-    record { size = c.requires.size ∙ told_of (λ l. l.keys.shape.key_size) here }
+    record { size = c.requires.size ∙ seen_of (λ l. l.keys.shape.key_size) here }
 
 -- the table of the map changes
 change : (c : After-claim)

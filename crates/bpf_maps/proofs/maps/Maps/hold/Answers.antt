@@ -2,7 +2,7 @@ use Rattle.std.proofs.Common.{refl, ap, sym, ◌∙◌, ◌+◌, arith, option_m
 use Rattle.bpf_maps.specs.Live.{one_more}
 use Rattle.bpf_maps.specs.declared.stored_map.StoredMap.{StoredMap}
 use Rattle.bpf_maps.proofs.ByHandle.{has_key}
-use Rattle.bpf_maps.proofs.Changes.{told_of, IsUnder, is_under, live_under, placed_under, IsChange, live_old}
+use Rattle.bpf_maps.proofs.Changes.{seen_of, IsUnder, is_under, live_under, placed_under, IsChange, live_old}
 use Rattle.bpf_maps.proofs.Changes.{live_new, others_stay, areas_stay, whole_stays, laid_stays, room_stays, part_stays}
 use Rattle.bpf_maps.proofs.maps.Maps.hold.Goals as goal
 
@@ -12,7 +12,7 @@ key-key-requires c = has_key c.self.inside c.self.view_is c.map.view_is c.requir
 pub overflow_add-stored : goal.overflow_add-stored
 overflow_add-stored c =
     let held =
-    told_of (λ l. l.holds)
+    seen_of (λ l. l.holds)
     (live_under (is_under c.self.view_is c.self.invariant c.map.view_is c.key-key.ensures
     c.index_mut-stored.ensures.value)) in
     let few = c.requires.few in
@@ -54,8 +54,8 @@ returns-clause-live c = ap is_some (live_new (change c))
 
 pub returns-clause-holds : goal.returns-clause-holds
 returns-clause-holds c =
-    told_of (λ l. l.holds) (live_new (change c))
-    ∙ sym (ap (λ (n : ℕ). n + 1) (told_of (λ l. l.holds) (live_old (change c))))
+    seen_of (λ l. l.holds) (live_new (change c))
+    ∙ sym (ap (λ (n : ℕ). n + 1) (seen_of (λ l. l.holds) (live_old (change c))))
 
 pub returns-clause-shape : goal.returns-clause-shape
 returns-clause-shape c = part_stays (change c) (λ l. l.keys.shape) refl

@@ -4,7 +4,7 @@ use Rattle.bpf_maps.specs.Live.{holds_at, without_area, area_by, area_of}
 use Rattle.bpf_maps.specs.InMaps.{live_of}
 use Rattle.bpf_maps.specs.declared.stored_map.StoredMap.{StoredMap}
 use Rattle.bpf_maps.proofs.ByHandle.{has_key}
-use Rattle.bpf_maps.proofs.Changes.{told_of, IsUnder, is_under, live_under, placed_under, IsChange, live_old, live_new, others_stay, areas_stay}
+use Rattle.bpf_maps.proofs.Changes.{seen_of, IsUnder, is_under, live_under, placed_under, IsChange, live_old, live_new, others_stay, areas_stay}
 use Rattle.bpf_maps.proofs.Changes.{whole_stays, laid_stays, room_stays, part_stays, values_stay, others_keep, itself_keeps, one_held_less, not_more}
 use Rattle.bpf_maps.proofs.Released.{IsTaken, IsLeft, Goes, gone_within, left_keys, size_most, whole_gone, laid_gone}
 use Rattle.bpf_maps.proofs.Released.{less_gone, others_gone, closes_up, none_now, freed_gone, values_gone, others_kept, front_gone}
@@ -43,7 +43,7 @@ module _ (c : goal.After-self-1) where
   -- in this case the map had more than one reference
   not_last : holds_at c.args.self.now c.args.map ≤ 1 → ⊥
   not_last last =
-      let held = told_of (λ l. l.holds) (live_old change) in
+      let held = seen_of (λ l. l.holds) (live_old change) in
       let more = c.if-stored-gt-LAST.true in
       absurd (omega arith)
 

@@ -1,6 +1,6 @@
 use Rattle.std.proofs.Common.{◌∙◌}
 use Rattle.bpf_maps.proofs.ByHandle.{has_key}
-use Rattle.bpf_maps.proofs.Changes.{told_of, is_under, live_under}
+use Rattle.bpf_maps.proofs.Changes.{seen_of, is_under, live_under}
 use Rattle.bpf_maps.proofs.KeyChanges.{IsKeyChange, keys_before, keys_after, keys_whole, only_keys}
 use Rattle.bpf_maps.proofs.Along.{removes_shape, removes_along}
 use Rattle.bpf_maps.proofs.maps.Maps.remove.Goals as goal
@@ -13,7 +13,7 @@ remove-requires c =
     let here =
     live_under (is_under c.self.view_is c.self.invariant c.map.view_is c.key-at.ensures
     c.index_mut-stored.ensures.value) in
-    record { size = c.requires.size ∙ told_of (λ l. l.keys.shape.key_size) here }
+    record { size = c.requires.size ∙ seen_of (λ l. l.keys.shape.key_size) here }
 
 change : (c : goal.After-self-1)
     → IsKeyChange c.self.inside c.args.self.now c.map.inside.handle c.args.map c.key-at.result

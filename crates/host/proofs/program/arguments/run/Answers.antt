@@ -7,8 +7,8 @@ use Rattle.host.proofs.program.arguments.run.Goals as goal
 
 pub returns-clause-accepted : goal.returns-clause-accepted
 returns-clause-accepted g c =
-    let told : asked_by_arguments (texts c.args.arguments.now) ≡ Some (Verifies (texts_given c.in-Verify.maps)) =
+    let seen : asked_by_arguments (texts c.args.arguments.now) ≡ Some (Verifies (texts_given c.in-Verify.maps)) =
     search rules in
     accepts_asked (texts_given c.in-Verify.maps) (asked_by_arguments (texts c.args.arguments.now))
     (g.I.Read.remaining c.args.input) c.judge_streams.result
-    told c.judge_streams.ensures.accepted
+    seen c.judge_streams.ensures.accepted

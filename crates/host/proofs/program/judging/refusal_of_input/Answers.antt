@@ -1,13 +1,13 @@
 use Rattle.std.proofs.Common.{◌≡◌, ◌∙◌, Ok, Err, rules}
 use Rattle.host.specs.declared.program.failure.Failure.TheVariants.{Memory}
-use Rattle.host.proofs.Judgements.{memory_told, one_verdict}
+use Rattle.host.proofs.Judgements.{memory_seen, one_verdict}
 use Rattle.host.proofs.Results.{of_err, of_ok}
 use Rattle.host.proofs.program.judging.refusal_of_input.Goals as goal
 
 pub returns-in_err-slots-clause-only : goal.returns-in_err-slots-clause-only
 returns-in_err-slots-clause-only c = λ refusal is.
-    let told : c.in_err-slots.field-0.0 ≡ Memory =
-    memory_told c.args.maps.now c.args.input.now c.in_err-slots.field-0.0 c.in_err-slots.ensures.only refusal is in
+    let seen : c.in_err-slots.field-0.0 ≡ Memory =
+    memory_seen c.args.maps.now c.args.input.now c.in_err-slots.field-0.0 c.in_err-slots.ensures.only refusal is in
     search rules
 
 pub returns-in-Ok-clause-only : goal.returns-in-Ok-clause-only

@@ -2,12 +2,12 @@ use Rattle.std.proofs.Common.{◌≡◌, ◌∙◌, ap, sym, Option, Some, None,
 use Rattle.host.proofs.program.shapes.read_shape.Goals as goal
 
 -- if `ok_or` returns a value, the option has this value
-told : {A E : Type 0} (o : Option A) (e : E) (a : A) → ok_or o e ≡ Ok a → o ≡ Some a
-told None e a is = absurd (cc is)
-told (Some x) e a is = let same : x ≡ a = cc is in ap Some same
+seen : {A E : Type 0} (o : Option A) (e : E) (a : A) → ok_or o e ≡ Ok a → o ≡ Some a
+seen None e a is = absurd (cc is)
+seen (Some x) e a is = let same : x ≡ a = cc is in ap Some same
 
 pub returns : goal.returns
 returns c = λ map. (
-  (λ is. (c.map_of.ensures map).0 (told c.map_of.result _ map (sym c.ok_or.ensures.value ∙ is))),
+  (λ is. (c.map_of.ensures map).0 (seen c.map_of.result _ map (sym c.ok_or.ensures.value ∙ is))),
   (λ is. c.ok_or.ensures.value ∙ ap (λ o. ok_or o _) ((c.map_of.ensures map).1 is)),
 )

@@ -15,7 +15,7 @@ returns-in_err-program-clause-only c = λ output is.
 
 pub returns-in_err-program-clause-faulty : goal.returns-in_err-program-clause-faulty
 returns-in_err-program-clause-faulty c = λ refusal refused.
-    let told : (text_failure c.in_err-program.field-0.0 ≡ refusal) ⊎ (text_failure c.in_err-program.field-0.0 ≡ Memory)
+    let seen : (text_failure c.in_err-program.field-0.0 ≡ refusal) ⊎ (text_failure c.in_err-program.field-0.0 ≡ Memory)
     =
     refused_by_fault c.args.input.now c.in_err-program.field-0.0 c.in_ok-text_in.ensures.0
     c.in_ok-text_in.ensures.1 c.in_err-program.ensures.faulty

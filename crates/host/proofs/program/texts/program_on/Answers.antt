@@ -7,7 +7,7 @@ use Rattle.host.proofs.program.texts.program_on.Goals as goal
 pub returns-in_err-slots-clause-faulty : goal.returns-in_err-slots-clause-faulty
 returns-in_err-slots-clause-faulty c = λ refusal refused.
     let failure = c.in_err-slots.field-0.0 in
-    let told : (failure ≡ refusal) ⊎ (failure ≡ Memory)
+    let seen : (failure ≡ refusal) ⊎ (failure ≡ Memory)
     =
     input_refused c.args.input.now failure c.in_err-slots.ensures.faulty
     c.in_err-slots.ensures.only refusal refused in
@@ -16,7 +16,7 @@ returns-in_err-slots-clause-faulty c = λ refusal refused.
 pub returns-in_err-program-clause-faulty : goal.returns-in_err-program-clause-faulty
 returns-in_err-program-clause-faulty c = λ refusal refused.
     let fault = c.in_err-program.field-0.0 in
-    let told : (codec_failure fault ≡ refusal) ⊎ (codec_failure fault ≡ Memory)
+    let seen : (codec_failure fault ≡ refusal) ⊎ (codec_failure fault ≡ Memory)
     = slots_refused c.args.input.now c.deref.result.now fault c.in_ok-slots.ensures.faulty
     (λ other is. c.deref.ensures.value ∙ c.in_ok-slots.ensures.only other is) c.in_err-program.ensures.faulty
     refusal refused in

@@ -9,7 +9,7 @@ pub returns-in_err-slots-clause-faulty : goal.returns-in_err-slots-clause-faulty
 returns-in_err-slots-clause-faulty c = λ refusal refused.
     let same = sym c.in_ok-text_in.ensures.0 in
     let fault = c.in_err-slots.field-0.0 in
-    let told : (text_failure fault ≡ refusal) ⊎ (text_failure fault ≡ Memory)
+    let seen : (text_failure fault ≡ refusal) ⊎ (text_failure fault ≡ Memory)
     =
     lines_refused c.in_ok-text_in.field-0.now fault
     (subst IsUtf8 same c.in_ok-text_in.ensures.1) c.in_err-slots.ensures.faulty

@@ -20,8 +20,8 @@ module _ (c : goal.After-write_reply) where
   headless : head_of c.args.frame.now ≡ None
   headless = sym c.head.ensures ∙ c.in_default.is
 
-  told_headless : c.write_reply.new.reply ≡ reply_to c.args.frame.now (status_of (unserved_errno c.args.frame.now)) []
-  told_headless =
+  seen_headless : c.write_reply.new.reply ≡ reply_to c.args.frame.now (status_of (unserved_errno c.args.frame.now)) []
+  seen_headless =
       c.write_reply.ensures
       ∙ ap (λ (status : ℤ). reply_bytes 65535 65535 (to_z w32 (of_z w32 status)) []) c.status.ensures
       ∙ refused_headless c.args.frame.now headless
@@ -39,7 +39,7 @@ returns-in_default-clause-own c =
       ap length (states_are c.self.inside.arena c.self.inside.tenants.items c.args.self.now c.self.view_is),
       c.self.invariant,
     )) in
-    tells_none c.args.self.now.states (owner frame) frame c.write_reply.new.reply unserved (told_headless c)
+    tells_none c.args.self.now.states (owner frame) frame c.write_reply.new.reply unserved (seen_headless c)
 
 pub returns-in_default-clause-recorded : goal.returns-in_default-clause-recorded
 returns-in_default-clause-recorded c =
@@ -56,7 +56,7 @@ returns-in_default-clause-recorded c =
     )))
 
 pub returns-in_default-clause-no_fault : goal.returns-in_default-clause-no_fault
-returns-in_default-clause-no_fault c = refusal_is_no_fault c.args.frame.now c.write_reply.new.reply (told_headless c)
+returns-in_default-clause-no_fault c = refusal_is_no_fault c.args.frame.now c.write_reply.new.reply (seen_headless c)
 
 -- ---- a tenant that is not served
 
@@ -64,9 +64,9 @@ module _ (c : goal.After-write_reply-then-tenant-served) where
   found : head_of c.args.frame.now ≡ Some c.in-Some.head
   found = sym c.head.ensures ∙ c.in-Some.is
 
-  told_unserved : c.write_reply-then-tenant-served.new.reply
+  seen_unserved : c.write_reply-then-tenant-served.new.reply
       ≡ reply_to c.args.frame.now (status_of (unserved_errno c.args.frame.now)) []
-  told_unserved =
+  seen_unserved =
       let head = c.in-Some.head in
       c.write_reply-then-tenant-served.ensures
       ∙ ap (λ (status : ℤ). reply_bytes head.tenant head.command (to_z w32 (of_z w32 status)) [])
@@ -89,7 +89,7 @@ returns-then-tenant-served-clause-own c =
       c.if-tenant-served.true,
     )) in
     tells_none c.args.self.now.states (owner frame) frame c.write_reply-then-tenant-served.new.reply
-    unserved (told_unserved c)
+    unserved (seen_unserved c)
 
 pub returns-then-tenant-served-clause-recorded : goal.returns-then-tenant-served-clause-recorded
 returns-then-tenant-served-clause-recorded c =
@@ -109,7 +109,7 @@ returns-then-tenant-served-clause-recorded c =
 
 pub returns-then-tenant-served-clause-no_fault : goal.returns-then-tenant-served-clause-no_fault
 returns-then-tenant-served-clause-no_fault c =
-    refusal_is_no_fault c.args.frame.now c.write_reply-then-tenant-served.new.reply (told_unserved c)
+    refusal_is_no_fault c.args.frame.now c.write_reply-then-tenant-served.new.reply (seen_unserved c)
 
 -- ---- a tenant that is served
 
@@ -136,7 +136,7 @@ returns-clause-own c =
     (owner c.args.frame.now) c.index_mut.result.now c.handle.new.self
     c.args.frame.now c.handle.new.reply
     (states_are c.self.inside.arena c.self.inside.tenants.items c.args.self.now c.self.view_is)
-    own room found c.handle.ensures.told
+    own room found c.handle.ensures.seen
 
 pub returns-clause-others : goal.returns-clause-others
 returns-clause-others c = λ other ne.
@@ -171,7 +171,7 @@ returns-clause-no_fault c =
     served_is_no_fault c.faults_have_no_payload.ensures c.args.frame.now c.handle.new.reply
     (Some (tenant_state (part_bytes c.self.inside.arena t) c.index_mut.result.now))
     (Some (tenant_state (part_bytes c.handle.new.arena t) c.handle.new.self))
-    c.handle.ensures.told c.handle.ensures.no_fault
+    c.handle.ensures.seen c.handle.ensures.no_fault
 
 -- each tenant still has a history
 pub invariant_of-self : goal.invariant_of-self
@@ -188,7 +188,7 @@ invariant_of-self c =
     let handles : Handles (states_in m ks) frame reply (states_in n (set ks t c.handle.new.self)) = record {
       own =
           tells_own m n ks (states_in m ks) t (owner frame) c.index_mut.result.now c.handle.new.self
-          frame reply refl own room found c.handle.ensures.told;
+          frame reply refl own room found c.handle.ensures.seen;
       others = λ other ne.
           let apart = λ (e : other ≡ t). ne (e ∙ own) in
           others_stay m n ks t other c.handle.new.self apart (c.handle.ensures.others other apart);
@@ -197,7 +197,7 @@ invariant_of-self c =
           served_is_no_fault c.faults_have_no_payload.ensures frame reply
           (Some (tenant_state (part_bytes m t) c.index_mut.result.now))
           (Some (tenant_state (part_bytes n t) c.handle.new.self))
-          c.handle.ensures.told c.handle.ensures.no_fault;
+          c.handle.ensures.seen c.handle.ensures.no_fault;
     } in
     let records =
     records_own m n ks (host_state m ks) t c.index_mut.result.now c.handle.new.self frame reply refl

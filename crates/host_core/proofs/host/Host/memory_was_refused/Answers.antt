@@ -2,7 +2,7 @@ use Rattle.std.proofs.Common.{◌≡◌, List, length, Some, sym, ap, subst, ari
 use Rattle.std.specs.Prelude.{slice_get}
 use Rattle.std.proofs.lemmas.Bool.{ltb-true, ltb-false}
 use Rattle.saving.specs.Recorded.{RecordedTenant}
-use Rattle.host_core.proofs.Tenants.{slice_get_in, states_length, states_are, told_refused, told_unrefused, none_unrefused}
+use Rattle.host_core.proofs.Tenants.{slice_get_in, states_length, states_are, seen_refused, seen_unrefused, none_unrefused}
 use Rattle.host_core.proofs.host.Host.memory_was_refused.Goals as goal
 
 -- the tenant that was found has this number
@@ -17,14 +17,14 @@ found_is c =
 
 pub returns-in-Some-clause-refused : goal.returns-in-Some-clause-refused
 returns-in-Some-clause-refused c =
-    told_refused c.self.inside.arena c.self.inside.tenants.items c.args.self.now.states
+    seen_refused c.self.inside.arena c.self.inside.tenants.items c.args.self.now.states
     c.args.tenant c.in-Some.tenant.now
     (states_are c.self.inside.arena c.self.inside.tenants.items c.args.self.now c.self.view_is)
     (found_is c) c.memory_was_refused.result c.memory_was_refused.ensures
 
 pub returns-in-Some-clause-unrefused : goal.returns-in-Some-clause-unrefused
 returns-in-Some-clause-unrefused c =
-    told_unrefused c.self.inside.arena c.self.inside.tenants.items c.args.self.now.states
+    seen_unrefused c.self.inside.arena c.self.inside.tenants.items c.args.self.now.states
     c.args.tenant c.in-Some.tenant.now
     (states_are c.self.inside.arena c.self.inside.tenants.items c.args.self.now c.self.view_is)
     (found_is c) c.memory_was_refused.result c.memory_was_refused.ensures

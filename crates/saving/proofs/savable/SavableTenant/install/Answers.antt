@@ -11,7 +11,7 @@ use Rattle.saving.specs.Births.{Birth}
 use Rattle.saving.specs.Installs.{load_frame, load_reply}
 use Rattle.saving.specs.Recorded.{RecordedTenant, RecordsFrame, tenant_state}
 use Rattle.saving.specs.Restored.{load_of}
-use Rattle.saving.proofs.FramesTold.{shown_after}
+use Rattle.saving.proofs.FramesReplied.{shown_after}
 use Rattle.saving.proofs.Installs.{command_loaded, frame_replied, frame_recorded, frame_no_fault}
 use Rattle.saving.proofs.Recorded.{births_opened, few_after, recorded_after}
 use Rattle.saving.proofs.savable.SavableTenant.install.Goals as goal

@@ -27,7 +27,7 @@ loop-fd-preserved c = λ part.
     ≡ targets_from s first_descriptor (take (fd - first_descriptor) xs)
     ++ entry_of fd (and_then (named xs fd) (object_target s)) =
     targets-more s xs fd (named xs fd) (omega arith) (omega arith) refl in
-    let told : entry_of fd c.target.result ≡ entry_of fd (and_then (named xs fd) (object_target s)) =
+    let seen : entry_of fd c.target.result ≡ entry_of fd (and_then (named xs fd) (object_target s)) =
     ap (entry_of fd) (c.target.ensures part) in
     let before_all = targets_from s first_descriptor (take (fd - first_descriptor) xs) in
     elim c.match-target.branch [
@@ -35,14 +35,14 @@ loop-fd-preserved c = λ part.
           ap (λ (v : Vec Named Global). v.items) w.found-is ∙ w.in_ok-push.ensures.items
           ∙ ap (λ (ns : List Named). ns ++ entry_of fd (Some w.in-Some.target)) before
           ∙ ap (λ (o : Option Target). before_all ++ entry_of fd o) (sym w.in-Some.is)
-          ∙ ap (λ (ns : List Named). before_all ++ ns) told
+          ∙ ap (λ (ns : List Named). before_all ++ ns) seen
           ∙ sym more
       | in_default w ↦
           ap (λ (v : Vec Named Global). v.items) w.found-is
           ∙ before
           ∙ sym (append-nil before_all)
           ∙ ap (λ (o : Option Target). before_all ++ entry_of fd o) (sym w.in_default.is)
-          ∙ ap (λ (ns : List Named). before_all ++ ns) told
+          ∙ ap (λ (ns : List Named). before_all ++ ns) seen
           ∙ sym more
     ]
 

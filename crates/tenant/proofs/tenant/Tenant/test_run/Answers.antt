@@ -6,7 +6,7 @@ use Rattle.tagged_model.specs.declared.value.Outcome.{Outcome}
 use Rattle.tenant.specs.Kept.{KeptTenant, state_in}
 use Rattle.tenant.specs.Machine.{outcome_answer, run_of}
 use Rattle.tenant.proofs.StillKept.{kept_in, with_live}
-use Rattle.tenant.proofs.TestRunEnds.{told_of}
+use Rattle.tenant.proofs.TestRunEnds.{seen_of}
 use Rattle.tenant.proofs.TestRunKept.{kept_after}
 use Rattle.tenant.proofs.TestRunKeys.{are_bound, bound_of}
 use Rattle.tenant.proofs.tenant.Tenant.test_run.Goals as goal
@@ -34,7 +34,7 @@ returns-clause-answer c =
     let later = part_bytes run.new.arena t in
     let after = state_in later (with_live k run.new.maps) in
     let is =
-    told_of c.maps_are_listed.ensures c.args.fd c.self.invariant c.in_ok-program.ensures.found
+    seen_of c.maps_are_listed.ensures c.args.fd c.self.invariant c.in_ok-program.ensures.found
     c.if-packet-gt-LONGEST_PACKET.false
     c.maps.ensures c.program.ensures.code c.context_words-context.ensures run.ensures.runs
     run.ensures.maps run.ensures.values in

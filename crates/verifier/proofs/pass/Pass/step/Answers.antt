@@ -3,8 +3,8 @@ use Rattle.std.proofs.lemmas.Result.{on_ok_weaker}
 use Rattle.reg_kinds.specs.declared.facts.Facts.{Facts}
 use Rattle.tagged_model.specs.Named.{shapes_named}
 use Rattle.verifier.specs.inside.Edges.{MayRun}
-use Rattle.verifier.specs.inside.Telling.{IsFaultTold, StopsTelling}
-use Rattle.verifier.specs.Told.{known_at, with_more}
+use Rattle.verifier.specs.inside.Watching.{SeesFault, StopsWatching}
+use Rattle.verifier.specs.Seen.{known_at, with_more}
 use Rattle.verifier.proofs.NumberedSteps.{arrived, stepped}
 use Rattle.verifier.proofs.pass.Pass.step.Goals as goal
 
@@ -43,19 +43,19 @@ returns-clause-ok g c =
     subst (λ (known : Option Facts). MayRun (shapes_named c.args.named.now) c.args.slot c.args.insn.now known) here may)
     c.go_past.ensures.ok
 
-pub returns-clause-told : goal.returns-clause-told
-returns-clause-told g c =
+pub returns-clause-seen : goal.returns-clause-seen
+returns-clause-seen g c =
     let here =
     (arrived c.requires.absorb (shapes_named c.args.named.now) c.args.slot c.args.insn.now
     c.requires.numbered.stacks _ _ _ _ c.requires.numbered.in_hand
     c.requires.numbered.ahead c.in_ok-join_at.ensures).facts in
     on_ok_weaker c.go_past.result
-    (λ told.
+    (λ seen.
     subst (λ (known : Option Facts).
-    g.W.Watcher.told c.go_past.new.watcher
-    ≡ with_more (g.W.Watcher.told c.args.watcher.now) (known_at c.args.slot known))
-    here told)
-    c.go_past.ensures.told
+    g.W.Watcher.seen c.go_past.new.watcher
+    ≡ with_more (g.W.Watcher.seen c.args.watcher.now) (known_at c.args.slot known))
+    here seen)
+    c.go_past.ensures.seen
 
 pub returns-clause-refused : goal.returns-clause-refused
 returns-clause-refused g c =
@@ -63,12 +63,12 @@ returns-clause-refused g c =
     (arrived c.requires.absorb (shapes_named c.args.named.now) c.args.slot c.args.insn.now
     c.requires.numbered.stacks _ _ _ _ c.requires.numbered.in_hand
     c.requires.numbered.ahead c.in_ok-join_at.ensures).facts in
-    let told = g.W.Watcher.told c.args.watcher.now in
-    let more = g.W.Watcher.told c.go_past.new.watcher in
+    let seen = g.W.Watcher.seen c.args.watcher.now in
+    let more = g.W.Watcher.seen c.go_past.new.watcher in
     subst (λ (known : Option Facts).
     IfErr c.go_past.result
     (λ e.
-    StopsTelling told more c.args.slot known e
-    ⊎ IsFaultTold (shapes_named c.args.named.now) c.args.slot c.args.insn.now known told more e))
+    StopsWatching seen more c.args.slot known e
+    ⊎ SeesFault (shapes_named c.args.named.now) c.args.slot c.args.insn.now known seen more e))
     here
     c.go_past.ensures.refused

@@ -20,7 +20,7 @@ shown_after (Ok reply.Done) s = refl
 shown_after (Ok other) s = refl
 
 -- if the parsed command is known, the reply that is written of its result is a reply to it, with the births after it
-pub told : {command known : CodeCommand} {h : Head} {bytes : List ℕ} {before after : TenantState}
+pub seen : {command known : CodeCommand} {h : Head} {bytes : List ℕ} {before after : TenantState}
     {births later : List Birth} (refused : Bool) (r : Result Reply Errno)
     → command ≡ known
     → Answers refused before (shown_command known) (shown_answer r after)
@@ -28,7 +28,7 @@ pub told : {command known : CodeCommand} {h : Head} {bytes : List ℕ} {before a
     → ((s : TenantState) → Writes h bytes (shown_answer r s))
     → later ≡ births_after (shown_command known) (shown_answer r after) births
     → AnswersCommand (shown_command command) h bytes before after births later
-told {command} {known} {h} {bytes} {before} {after} {births} {later} refused r is answers writable
+seen {command} {known} {h} {bytes} {before} {after} {births} {later} refused r is answers writable
     written recorded = record {
       refused = refused;
       answer = shown_answer r after;

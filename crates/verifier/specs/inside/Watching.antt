@@ -5,28 +5,28 @@ use Rattle.reg_kinds.specs.declared.facts.Facts.{Facts}
 use Rattle.tagged_model.specs.Named.{Shapes}
 use Rattle.verifier.specs.declared.fault.VerifyFault.{VerifyFault}
 use Rattle.verifier.specs.inside.Edges.{IsFaultFrom}
-use Rattle.verifier.specs.Told.{known_at, with_more, IsToldBelow}
+use Rattle.verifier.specs.Seen.{known_at, with_more, SeesBelow}
 use Rattle.verifier.specs.Verdict.{IsFirstFault, safety_fault, memory_fault}
 
 -- out of memory at a slot: what the watcher has received is as before (`old`), or it has the facts
 -- at this slot too
-abbrev pub StopsTelling : Option (List (ℕ × Facts)) → Option (List (ℕ × Facts)) → ℕ → Option Facts
+abbrev pub StopsWatching : Option (List (ℕ × Facts)) → Option (List (ℕ × Facts)) → ℕ → Option Facts
     → VerifyFault → Type 0
-StopsTelling old new slot known fault =
+StopsWatching old new slot known fault =
     (fault ≡ memory_fault) × ((new ≡ old) ⊎ (new ≡ with_more old (known_at slot known)))
 
 -- the instruction at a slot may not be run, and the watcher has received the facts before it, in
 -- addition to `old`
-abbrev pub IsFaultTold : Shapes → ℕ → Insn → Option Facts → Option (List (ℕ × Facts))
+abbrev pub SeesFault : Shapes → ℕ → Insn → Option Facts → Option (List (ℕ × Facts))
     → Option (List (ℕ × Facts)) → VerifyFault → Type 0
-IsFaultTold shapes slot insn known old new fault =
+SeesFault shapes slot insn known old new fault =
     IsFaultFrom shapes slot insn known fault × (new ≡ with_more old (known_at slot known))
 
 -- `fault` is the first fault of safety, and the watcher has received the facts up to its slot, in
 -- addition to `old`; or it is out of memory, and it has received those below some slot
-abbrev pub IsFirstTold : Shapes → List Insn → Option (List (ℕ × Facts)) → Option (List (ℕ × Facts))
-    → VerifyFault → Type 0
-IsFirstTold shapes code old new fault =
-    ((fault ≡ memory_fault) × (n : ℕ) × IsToldBelow n shapes code old new)
+abbrev pub SeesFirstFault : Shapes → List Insn → Option (List (ℕ × Facts))
+    → Option (List (ℕ × Facts)) → VerifyFault → Type 0
+SeesFirstFault shapes code old new fault =
+    ((fault ≡ memory_fault) × (n : ℕ) × SeesBelow n shapes code old new)
     ⊎ (IsFirstFault (safety_fault shapes code) fault.slot fault.reason
-    × IsToldBelow (fault.slot + 1) shapes code old new)
+    × SeesBelow (fault.slot + 1) shapes code old new)

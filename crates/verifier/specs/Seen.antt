@@ -27,45 +27,45 @@ reached shapes code (suc n) =
 
 -- what the watcher had received, and more; None if it does not say what it receives
 abbrev pub with_more : Option (List (ℕ × Facts)) → List (ℕ × Facts) → Option (List (ℕ × Facts))
-with_more told more = option_map (λ notes. notes ++ more) told
+with_more seen more = option_map (λ notes. notes ++ more) seen
 
 -- the watcher has received the facts before the slots below n, in addition to `old`, and nothing
 -- else
-abbrev pub IsToldBelow : ℕ → Shapes → List Insn → Option (List (ℕ × Facts))
+abbrev pub SeesBelow : ℕ → Shapes → List Insn → Option (List (ℕ × Facts))
     → Option (List (ℕ × Facts)) → Type 0
-IsToldBelow n shapes code old new = new ≡ with_more old (reached shapes code n)
+SeesBelow n shapes code old new = new ≡ with_more old (reached shapes code n)
 
 -- for an accepted program: the watcher has received the facts before all slots that a run may
 -- reach, in addition to `old`
-abbrev pub IsToldWhole : List Insn → List Named → Option (List (ℕ × Facts))
+abbrev pub SeesAll : List Insn → List Named → Option (List (ℕ × Facts))
     → Option (List (ℕ × Facts)) → Type 0
-IsToldWhole code named old new = IsToldBelow (slot_count code) (shapes_of code named) code old new
+SeesAll code named old new = SeesBelow (slot_count code) (shapes_of code named) code old new
 
 -- out of memory: the watcher has received the facts before the slots below some slot, in addition
 -- to `old`
-abbrev pub IsToldPart : List Insn → List Named → Option (List (ℕ × Facts))
+abbrev pub SeesPart : List Insn → List Named → Option (List (ℕ × Facts))
     → Option (List (ℕ × Facts)) → VerifyFault → Type 0
-IsToldPart code named old new fault =
-    (fault ≡ memory_fault) × (n : ℕ) × IsToldBelow n (shapes_of code named) code old new
+SeesPart code named old new fault =
+    (fault ≡ memory_fault) × (n : ℕ) × SeesBelow n (shapes_of code named) code old new
 
 -- a fault of the shape: the watcher has received nothing
-abbrev pub IsToldOfShape : List Insn → List Named → Option (List (ℕ × Facts))
+abbrev pub SeesShapeFault : List Insn → List Named → Option (List (ℕ × Facts))
     → Option (List (ℕ × Facts)) → VerifyFault → Type 0
-IsToldOfShape code named old new fault =
+SeesShapeFault code named old new fault =
     IsFirstFault (structure_fault code named) fault.slot fault.reason × (new ≡ old)
 
 -- a fault of safety: the watcher has received the facts before the slots up to the fault's, in
 -- addition to `old`
-abbrev pub IsToldOfSafety : List Insn → List Named → Option (List (ℕ × Facts))
+abbrev pub SeesSafetyFault : List Insn → List Named → Option (List (ℕ × Facts))
     → Option (List (ℕ × Facts)) → VerifyFault → Type 0
-IsToldOfSafety code named old new fault =
+SeesSafetyFault code named old new fault =
     HasNoFault (structure_fault code named)
     × IsFirstFault (safety_fault (shapes_of code named) code) fault.slot fault.reason
-    × IsToldBelow (fault.slot + 1) (shapes_of code named) code old new
+    × SeesBelow (fault.slot + 1) (shapes_of code named) code old new
 
 -- what the watcher has received if the program is not accepted: out of memory, or a fault
-abbrev pub IsToldRefused : List Insn → List Named → Option (List (ℕ × Facts))
+abbrev pub SeesRefused : List Insn → List Named → Option (List (ℕ × Facts))
     → Option (List (ℕ × Facts)) → VerifyFault → Type 0
-IsToldRefused code named old new fault =
-    IsToldPart code named old new fault
-    ⊎ (IsToldOfShape code named old new fault ⊎ IsToldOfSafety code named old new fault)
+SeesRefused code named old new fault =
+    SeesPart code named old new fault
+    ⊎ (SeesShapeFault code named old new fault ⊎ SeesSafetyFault code named old new fault)

@@ -1,5 +1,0 @@
-use Rattle.host_core.proofs.Serving.{calls_are_told_alone}
-use Rattle.host_core.proofs.laws.calls_are_told_alone.Goals as goal
-
-pub returns : goal.returns
-returns c = calls_are_told_alone c.unrefused_are_told_alone.ensures

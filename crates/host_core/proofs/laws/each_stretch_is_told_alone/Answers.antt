@@ -1,5 +1,0 @@
-use Rattle.host_core.proofs.ToldAlone.{each_stretch}
-use Rattle.host_core.proofs.laws.each_stretch_is_told_alone.Goals as goal
-
-pub returns : goal.returns
-returns c = each_stretch c.unrefused_replies_mean_alone.ensures c.calls_are_told_alone.ensures

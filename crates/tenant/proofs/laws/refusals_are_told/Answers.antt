@@ -1,5 +1,0 @@
-use Rattle.tenant.proofs.Memory.{refusals_are_told}
-use Rattle.tenant.proofs.laws.refusals_are_told.Goals as goal
-
-pub returns : goal.returns
-returns c = refusals_are_told (record { slots = c.one_fault.ensures.no_memory; rules = c.refused_by_a_rule.ensures })

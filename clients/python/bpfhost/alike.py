@@ -6,7 +6,6 @@ A caller that sends many frames mostly sends such ones: test runs of packets of 
 from __future__ import annotations
 
 import struct
-from itertools import repeat
 
 from bpfhost.numbers import REPLY_HEAD, Command
 from bpfhost.tenancy import BODY
@@ -25,10 +24,11 @@ def size_of_alike(stream: bytes | bytearray) -> int:
     if len(stream) < _LEAST * size or len(stream) % size or size < BODY:
         return 0
     count = len(stream) // size
-    # Each frame begins after the end of the one before, as all lengths are that of the first frame. Up to `_FEW` frames are compared one
-    # after the other, more of them by each byte of their heads.
+    # Each frame begins after the end of the one before, as all lengths are that of the first frame. Up to `_FEW` frames are compared by
+    # their heads, more of them by each byte of the heads: for these `struct` would read a long format.
     if count <= _FEW:
-        return size if all(map(stream.startswith, repeat(bytes(stream[:BODY])), range(size, len(stream), size))) else 0
+        heads = struct.unpack(f"{BODY}s{size - BODY}x" * count, stream)
+        return size if heads.count(heads[0]) == count else 0
     return size if all(stream[at::size] == stream[at : at + 1] * count for at in range(BODY)) else 0
 
 

@@ -25,7 +25,7 @@ _SECONDS_TO_CONNECT, _READ_AT_ONCE = 5.0, 1 << 16
 _OF_TCP = {"TCP_KEEPIDLE": 4, "TCP_KEEPINTVL": 2, "TCP_KEEPCNT": 3, "TCP_USER_TIMEOUT": 10_000}
 _WATCHED = [(socket.IPPROTO_TCP, getattr(socket, name), value) for name, value in _OF_TCP.items() if hasattr(socket, name)]
 _WATCHED += [(socket.SOL_SOCKET, socket.SO_KEEPALIVE, 1)]
-_LONGEST_NAME, _SILENT = 64, "it does not answer in time"
+_SILENT = "it does not answer in time"
 # What Redis's errors begin with, and what is raised. With those of the second kind a server, or its cluster, can't run a command now, and
 # has run nothing of it.
 _ERRORS: tuple[tuple[str, type[RedisError], str], ...] = (
@@ -59,17 +59,15 @@ def _error(said: str) -> RedisError:
 
 def packed(words: Sequence[Word]) -> bytes:
     """A command as the server reads it. A worker's command names many streams, for which the library's own encoder takes four times as long."""
-    parts = [_name(word) if type(word) in (str, int) or type(word) is bytes and len(word) <= _LONGEST_NAME else _bulk(word) for word in words]
+    parts = [b"$%d\r\n%b\r\n" % (len(word), word) if isinstance(word, bytes) else _packed_text(str(word)) for word in words]
     return b"".join([b"*%d\r\n" % len(words), *parts])
 
 
-def _bulk(word: Word) -> bytes:
-    data = word if isinstance(word, bytes) else str(word).encode()
+@functools.lru_cache(4096)
+def _packed_text(text: str) -> bytes:
+    """A text as the server reads it: names and numbers are sent again and again."""
+    data = text.encode()
     return b"$%d\r\n%b\r\n" % (len(data), data)
-
-
-# Names, ids and numbers are sent again and again; longer bytes are not.
-_name = functools.lru_cache(4096)(_bulk)
 
 
 class RedisLink(asyncio.BufferedProtocol):

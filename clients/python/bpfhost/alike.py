@@ -10,12 +10,21 @@ import struct
 from bpfhost.numbers import REPLY_HEAD, Command
 from bpfhost.tenancy import BODY
 
-# Fewer frames than `_LEAST` are processed one by one.
-_LEAST, _FEW = 8, 64
+# Fewer frames than `_LEAST` are processed one by one. At most `_AT_ONCE` are unpacked by one layout, since `struct` keeps layouts.
+_LEAST, _FEW, _AT_ONCE = 8, 64, 256
 # Commands that neither open nor close anything, and have short replies.
 _SHORT = (Command.PROG_TEST_RUN, Command.MAP_UPDATE_ELEM, Command.MAP_DELETE_ELEM)
 # In the frame of a test run, the length, tenant, command, descriptor and context come before the packet.
 BEFORE_PACKET = 52
+
+
+def fields_of(layout: str, stream: bytes | bytearray, size: int) -> list[bytes]:
+    """The fields of all frames of this length, one frame after another, by the layout (`struct`) of each."""
+    found: list[bytes] = []
+    for at in range(0, len(stream), _AT_ONCE * size):
+        piece = stream[at : at + _AT_ONCE * size]
+        found += struct.unpack(layout * (len(piece) // size), piece)
+    return found
 
 
 def size_of_alike(stream: bytes | bytearray) -> int:
@@ -25,9 +34,9 @@ def size_of_alike(stream: bytes | bytearray) -> int:
         return 0
     count = len(stream) // size
     # Each frame begins after the end of the one before, as all lengths are that of the first frame. Up to `_FEW` frames are compared by
-    # their heads, more of them by each byte of the heads: for these `struct` would read a long format.
+    # their heads, more of them by each byte of the heads.
     if count <= _FEW:
-        heads = struct.unpack(f"{BODY}s{size - BODY}x" * count, stream)
+        heads = fields_of(f"{BODY}s{size - BODY}x", stream, size)
         return size if heads.count(heads[0]) == count else 0
     return size if all(stream[at::size] == stream[at : at + 1] * count for at in range(BODY)) else 0
 
@@ -39,16 +48,15 @@ def packed(stream: bytes, size: int) -> bytes:
     """
     if size <= BEFORE_PACKET or int.from_bytes(stream[6:BODY], "little") != Command.PROG_TEST_RUN:
         return b""
-    heads, packets = zip(*struct.iter_unpack(f"{BEFORE_PACKET}s{size - BEFORE_PACKET}s", stream))
-    head: bytes = heads[0]
-    return head + b"".join(packets) if heads.count(head) == len(heads) else b""
+    fields = fields_of(f"{BEFORE_PACKET}s{size - BEFORE_PACKET}s", stream, size)
+    head = fields[0]
+    return head + b"".join(fields[1::2]) if 2 * fields[::2].count(head) == len(fields) else b""
 
 
 def unpacked(runs: bytes) -> bytes:
     """The test runs that were packed."""
-    head = runs[:BEFORE_PACKET]
-    packets = struct.iter_unpack(f"{size_of_packet(runs)}s", runs[BEFORE_PACKET:])
-    return b"".join([head + packet for (packet,) in packets])
+    head, size = runs[:BEFORE_PACKET], size_of_packet(runs)
+    return b"".join([head + packet for packet in fields_of(f"{size}s", runs[BEFORE_PACKET:], size)])
 
 
 def size_of_packet(runs: bytes) -> int:

@@ -5,12 +5,11 @@ clients/python/SHARDS.md explains why they do. All of them name tenant 0; the ca
 
 from __future__ import annotations
 
-import struct
 from collections.abc import Generator, Iterable, Iterator, Mapping, Sequence
 from typing import Protocol, TypeVar, cast
 
 from bpfhost import frames
-from bpfhost.alike import size_of_alike
+from bpfhost.alike import fields_of, size_of_alike
 from bpfhost.errors import StateError
 from bpfhost.numbers import FIRST_DESCRIPTOR, REPLY_HEAD, SOCKET_FILTER, Command, Errno, MapType
 from bpfhost.parts import in_parts
@@ -71,7 +70,7 @@ def split(stream: bytes) -> list[bytes]:
     if len(stream) == 4 + int.from_bytes(stream[:4], "little"):
         return [stream]
     if size := size_of_alike(stream):
-        return [frame for (frame,) in struct.iter_unpack(f"{size}s", stream)]
+        return fields_of(f"{size}s", stream, size)
     found, at = [], 0
     while at < len(stream):
         end = at + 4 + int.from_bytes(stream[at : at + 4], "little")

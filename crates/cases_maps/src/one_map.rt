@@ -20,7 +20,8 @@ fn find<M: ValueMap>(alloc: Global, map: &M, size: u32, digits: &str) -> Result<
     }
 }
 
-/// A claim of an element, for the words of a line: the flags and a key. `size` is the size of the map's keys.
+/// Claims an element for a key. `rest` has the flags, and the key as hex digits; `size` is the size of the map's keys. The text `claimed`,
+/// or the map's fault as text; the element is not in it.
 fn claim<M: ValueMap>(
     alloc: Global,
     map: &mut M,

@@ -1,4 +1,4 @@
-//! Cases whose text is bytes: hex digits, which blanks may separate.
+//! Cases whose text is bytes, hex digits which blanks may separate; and a program of a number of exits.
 
 use bpf_text::disassemble;
 use cases::{CaseError, bytes_of, hex_groups, shown, times};
@@ -77,7 +77,8 @@ pub fn places(alloc: Global, text: &str) -> Result<String, CaseError> {
     Ok(answer)
 }
 
-/// `exits`: the number of slots of a program of so many exits, or the fault of a program that is empty or too long.
+/// `exits`: the number of slots of a program of as many exits as the decimal number `digits` says, or the fault of a program that is empty
+/// or too long.
 pub fn made_of_exits(alloc: Global, digits: &str) -> Result<String, CaseError> {
     let exits = vec![in alloc; Insn::Exit; times(digits)? as usize]?;
     let program = Program::new(alloc, &exits)?;

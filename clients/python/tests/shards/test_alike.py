@@ -122,6 +122,13 @@ class Sizes(unittest.TestCase):
                 changed[11 * len(run) + at] ^= 1
                 self.assertEqual(size_of_alike(changed), 0, at)
 
+    def test_what_is_split(self) -> None:
+        """Frames of one length are split at their ends, however many they are."""
+        draw = random.Random(6)
+        for many in (8, 256, 257, 600):
+            each = [frames.prog_test_run(0, 4, draw.randbytes(3)) for _ in range(many)]
+            self.assertEqual(split(b"".join(each)), each)
+
     def test_what_is_packed(self) -> None:
         """Test runs are packed if they differ only in their packets, and unpacked to the same bytes."""
         draw = random.Random(5)

@@ -14,8 +14,8 @@ use std::alloc::{AllocError, Global};
 use tagged_model::MapShape;
 
 /// The most entries that a tenant's live hash maps can have together, 32,768: the value of each takes at least eight bytes of
-/// `LARGEST_SUM`. (`MOST_ENTRIES` of `tagged_model` is that of one map.)
-const MOST_ENTRIES: usize = LARGEST_SUM / 8;
+/// `LARGEST_SUM`.
+const MOST_ENTRIES_TOGETHER: usize = LARGEST_SUM / 8;
 
 /// The live hash maps of a tenant: how many they are, and how many entries they can have.
 #[derive(Clone, Copy)]
@@ -40,7 +40,7 @@ impl LiveHashMaps {
     }
 }
 
-/// Hash maps that are no longer live. With the live ones they are at most `MAPS`, with at most `MOST_ENTRIES` entries, whenever a map takes
+/// Hash maps that are no longer live. With the live ones they are at most `MAPS`, with at most `MOST_ENTRIES_TOGETHER` entries, whenever a map takes
 /// memory. So a tenant takes no more memory than one whose hash maps are all live, and there is room for each map that is closed: a close
 /// frees none. A new map frees a single one, if one suffices. Otherwise those that are freed before the last one have together fewer
 /// entries than the new map, so it frees less than two of the largest maps.
@@ -119,16 +119,16 @@ impl SpareMaps {
         sum
     }
 
-    /// Whether the spare maps and these live ones are together at most `MAPS`, with at most `MOST_ENTRIES` entries.
+    /// Whether the spare maps and these live ones are together at most `MAPS`, with at most `MOST_ENTRIES_TOGETHER` entries.
     fn has_room(&self, live: LiveHashMaps) -> bool {
         self.maps.len().saturating_add(live.maps) <= MAPS
-            && self.entries().saturating_add(live.entries) <= MOST_ENTRIES
+            && self.entries().saturating_add(live.entries) <= MOST_ENTRIES_TOGETHER
     }
 
-    /// By how many the entries of the spare maps and of these live ones exceed `MOST_ENTRIES`; 0 if they do not.
+    /// By how many the entries of the spare maps and of these live ones exceed `MOST_ENTRIES_TOGETHER`; 0 if they do not.
     fn excess(&self, live: LiveHashMaps) -> usize {
         let entries = self.entries().saturating_add(live.entries);
-        entries.saturating_sub(MOST_ENTRIES)
+        entries.saturating_sub(MOST_ENTRIES_TOGETHER)
     }
 
     /// Frees spare maps until the others and these, the live ones and the new one, are few enough (`has_room`). A turn frees at most one,

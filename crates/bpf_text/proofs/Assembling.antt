@@ -25,8 +25,8 @@ use Rattle.text_line.specs.declared.form.Line.TheVariants.{Code}
 use Rattle.text_line.specs.Shown.{seen_option, seen_lines}
 use Rattle.std.specs.Borrow.{Bor}
 use Rattle.text_line.specs.Line.{Line, blank, label, code, ReadAs}
-use Rattle.text_line.specs.Form.{names_label}
-use Rattle.text_line.specs.Ranges.{form_fits, form_slots, resolved}
+use Rattle.text_line.specs.Form.{form_slots, names_label}
+use Rattle.text_line.specs.Ranges.{form_fits, resolved}
 use Rattle.text_line.specs.Written.{written}
 use Rattle.bpf_text.specs.declared.assembler.Definition.{Definition}
 use Rattle.bpf_text.specs.declared.fault.TextFault.{TextFault}

@@ -14,8 +14,8 @@ use Rattle.insn_set.specs.Spelling.{slots, IsInsn}
 use Rattle.insn_set.specs.Program.{slot_count}
 use Rattle.text_line.specs.declared.form.Form.{Form}
 use Rattle.text_line.specs.Line.{Line, blank, code, ReadAs}
-use Rattle.text_line.specs.Form.{names_label}
-use Rattle.text_line.specs.Ranges.{form_fits, form_slots}
+use Rattle.text_line.specs.Form.{form_slots, names_label}
+use Rattle.text_line.specs.Ranges.{form_fits}
 use Rattle.text_line.specs.Written.{written, printed_insn}
 use Rattle.text_line.specs.Law.{OneReading, OneInsn, IsWrittenInRange, IsPrinted}
 use Rattle.bpf_text.specs.declared.fault.TextFault.{TextFault}

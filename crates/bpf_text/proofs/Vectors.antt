@@ -13,7 +13,8 @@ use Rattle.text_line.specs.declared.form.Access.TheVariants as access
 use Rattle.text_line.specs.declared.form.WideValue.TheVariants as value
 use Rattle.text_line.specs.declared.form.Form.{Form}
 use Rattle.text_line.specs.declared.form.Form.TheVariants as form
-use Rattle.text_line.specs.Ranges.{form_fits, form_slots}
+use Rattle.text_line.specs.Ranges.{form_fits}
+use Rattle.text_line.specs.Form.{form_slots}
 use Rattle.text_line.specs.Written.{printed_insn}
 use Rattle.bpf_text.specs.HexText.{hex_text, hex_line}
 use Rattle.bpf_text.specs.Printed.{printed}

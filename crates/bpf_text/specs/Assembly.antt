@@ -10,9 +10,9 @@ use Rattle.bpf_text.specs.declared.fault.TextFaultKind.{TextFaultKind}
 use Rattle.bpf_text.specs.Fault.{IsFaultBy}
 use Rattle.bpf_text.specs.declared.fault.TextFaultKind.TheVariants.{Syntax, Range, UnknownLabel, LabelTwice, TooLong}
 use Rattle.text_line.specs.declared.form.Form.{Form}
-use Rattle.text_line.specs.Form.{names_label}
+use Rattle.text_line.specs.Form.{form_slots, names_label}
 use Rattle.text_line.specs.Line.{Line, blank, label, code, ReadAs}
-use Rattle.text_line.specs.Ranges.{form_fits, form_slots, resolved}
+use Rattle.text_line.specs.Ranges.{form_fits, resolved}
 use Rattle.text_line.specs.Written.{written}
 use Rattle.bpf_text.specs.Lines.{text_lines}
 

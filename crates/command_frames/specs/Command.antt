@@ -44,6 +44,17 @@ context_length = given_words * word_length
 abbrev pub before_packet : ℕ
 before_packet = word_length + context_length
 
+-- the length of what is after the numbers of a command: of its key, value, slots or packet
+abbrev pub tail_length : Command → ℕ
+tail_length (map_create kind key value max flags) = 0
+tail_length (map_lookup fd key) = length key
+tail_length (map_update fd flags bytes) = length bytes
+tail_length (map_delete fd key) = length key
+tail_length (map_next_key fd key) = length key
+tail_length (prog_load kind slots) = length slots
+tail_length (prog_test_run fd words packet) = length packet
+tail_length (close fd) = 0
+
 -- the length of the longest frame that is read
 abbrev pub longest_frame : ℕ
 longest_frame = 131072

@@ -36,7 +36,7 @@ fn begin(frame: &mut Vec<u8>, tenant: u16, command: u16) -> Result<(), AllocErro
 /// Replaces the buffer's contents by a frame to `tenant`. `command` is the number of its command, and its body is `number` in four bytes, a
 /// descriptor or the type of a program, and then `bytes`.
 #[inline(always)]
-fn write_named(
+fn write_with_number(
     frame: &mut Vec<u8>,
     tenant: u16,
     command: u16,
@@ -105,7 +105,13 @@ pub fn write_command(
             append(frame, max_entries)?;
             append(frame, flags)
         }
-        Command::MapLookup { fd, key } => write_named(frame, tenant, MAP_LOOKUP_ELEM, fd, key),
+        Command::MapLookup { fd, key } => write_with_number(
+            frame,
+            tenant,
+            MAP_LOOKUP_ELEM,
+            fd,
+            key,
+        ),
         Command::MapUpdate {
             fd,
             flags,
@@ -116,9 +122,23 @@ pub fn write_command(
             frame.extend_from_slice(&flags.to_le_bytes())?;
             frame.extend_from_slice(key_and_value)
         }
-        Command::MapDelete { fd, key } => write_named(frame, tenant, MAP_DELETE_ELEM, fd, key),
-        Command::MapNextKey { fd, key } => write_named(frame, tenant, MAP_GET_NEXT_KEY, fd, key),
-        Command::ProgLoad { kind, slots } => write_named(frame, tenant, PROG_LOAD, kind, slots),
+        Command::MapDelete { fd, key } => write_with_number(
+            frame,
+            tenant,
+            MAP_DELETE_ELEM,
+            fd,
+            key,
+        ),
+        Command::MapNextKey { fd, key } => write_with_number(
+            frame,
+            tenant,
+            MAP_GET_NEXT_KEY,
+            fd,
+            key,
+        ),
+        Command::ProgLoad { kind, slots } => write_with_number(
+            frame, tenant, PROG_LOAD, kind, slots,
+        ),
         Command::ProgTestRun { fd, words, packet } => write_run(frame, tenant, fd, words, packet),
         Command::Close { fd } => {
             begin(frame, tenant, CLOSE)?;

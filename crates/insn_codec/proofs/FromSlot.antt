@@ -21,7 +21,7 @@ use Rattle.insn_codec.specs.declared.opcode.SourceBit.{SourceBit}
 use Rattle.insn_codec.specs.declared.opcode.SourceBit.TheVariants as source
 use Rattle.insn_codec.specs.inside.OpcodeForm.{OpcodeForm}
 use Rattle.insn_codec.specs.inside.OpcodeForm as form
-use Rattle.insn_set.specs.Sizes.{is_short}
+use Rattle.words.specs.Operate.{is_short}
 use Rattle.insn_set.specs.Numbers.{opcode, alu_class, offset_bits, imm_bits}
 use Rattle.insn_set.specs.Operator.{alu_number, alu_offset}
 use Rattle.insn_set.specs.Load.{load_opcode}

@@ -21,7 +21,7 @@ use Rattle.insn_set.specs.declared.insn.Insn.{Insn}
 use Rattle.insn_set.specs.declared.insn.Insn.TheVariants.{Alu, Movsx, Neg, End, Ja, Jal, Jump, Call, Exit, Load, Store, Atomic, Const, MapFd, MapValue}
 use Rattle.insn_codec.specs.inside.OpcodeForm.{OpcodeForm}
 use Rattle.insn_codec.specs.inside.OpcodeForm as form
-use Rattle.insn_set.specs.Sizes.{is_short}
+use Rattle.words.specs.Operate.{is_short}
 use Rattle.words.specs.Stack.{is_double}
 use Rattle.insn_codec.specs.Spelled.{operand_at}
 use Rattle.insn_set.specs.Numbers.{opcode, alu_class, jump_class, memory_opcode, offset_bits, imm_bits}

@@ -5,7 +5,7 @@ ghost use Rattle.std.specs.Option.{option_to_list};
 ghost use Rattle.insn_set.specs.Slot.{fields, slot_of};
 ghost use Rattle.insn_codec.specs.inside.Code.{IsSecond};
 ghost use Rattle.insn_codec.specs.inside.Form.{listed, form_at};
-ghost use Rattle.insn_set.specs.Spelling.{slots, is_wide, IsInsn, Begins};
+ghost use Rattle.insn_set.specs.Spelling.{slots, has_two_slots, IsInsn, Begins};
 ghost use Rattle.insn_codec.specs.Fault.{HasFault};
 ghost use Rattle.insn_codec.specs.inside.FirstFault.{fault_in_form, fault_by_form, IsFaultAt, first_fault, second_fault};
 ghost use Rattle.insn_codec.specs.declared.fault.FaultKind.{FaultKind as AnyKind};
@@ -115,7 +115,7 @@ pub(crate) fn read_from(entry: &mut Insn, first: &RawSlot, bytes: &[u8]) -> Resu
     requires long { 8 ≤ length bytes.now }
     requires first { fields first.now ≡ slot_of bytes.now }
     ensures found { OnOk result (IsInsn entry.new × Begins entry.new bytes.now) }
-    ensures wide { IfOk result (λ wide. wide ≡ is_wide entry.new) }
+    ensures wide { IfOk result (λ wide. wide ≡ has_two_slots entry.new) }
     ensures fault { IfErr result (λ kind. first_fault bytes.now ≡ Some kind) }
 {
     let (_, rest) = bytes.split_at(8);

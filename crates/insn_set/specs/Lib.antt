@@ -1,4 +1,3 @@
-pub mod Sizes
 pub mod Atomic
 pub mod Table
 pub mod TableLaws

@@ -78,8 +78,8 @@ abbrev pub slots : Insn → List SlotFields
 slots i = first i ∷ second i
 
 -- whether an instruction takes two slots: section 3.2
-abbrev pub is_wide : Insn → Bool
-is_wide i = length (slots i) == 2
+abbrev pub has_two_slots : Insn → Bool
+has_two_slots i = length (slots i) == 2
 
 -- an instruction's bytes: eight, or sixteen if it takes two slots
 unfoldable pub spelling : Insn → List ℕ

@@ -5,7 +5,7 @@
 
 ghost use Rattle.std.specs.Prelude.{◌≡◌, ◌≤◌, ◌<◌, ◌^◌, ℕ, IsTrue, not, ◌&&◌, ◌||◌};
 ghost use Rattle.words.specs.Stack.{is_double};
-ghost use Rattle.insn_set.specs.Sizes.{is_short};
+ghost use Rattle.words.specs.Operate.{is_short};
 
 use crate::atomic::{AtomicOp, AtomicSize};
 use std::marker::Model;
@@ -164,12 +164,11 @@ pub enum Insn {
 
 impl Insn {
     ghost use Rattle.std.specs.Prelude.{length};
-    ghost use Rattle.insn_set.specs.Spelling.{slots, is_wide, IsInsn};
+    ghost use Rattle.insn_set.specs.Spelling.{slots, has_two_slots, IsInsn};
 
-    /// Whether the instruction takes two slots (RFC 9669, section 3.2). The width of 64 bits, which is also called wide, is another
-    /// property.
-    pub fn is_wide(&self) -> bool
-        ensures { result ≡ is_wide self.now }
+    /// Whether the instruction takes two slots: a wide instruction (RFC 9669, section 3.2).
+    pub fn has_two_slots(&self) -> bool
+        ensures { result ≡ has_two_slots self.now }
     {
         self.profile().slots == 2
     }

@@ -27,9 +27,9 @@ fn slots_of_instructions() {
     let (wide_slots, exit_slots) = (wide.slots(), exit.slots());
     prove!(wide_slots == 2);
     prove!(exit_slots == 1);
-    let (is_wide, is_exit_wide) = (wide.is_wide(), exit.is_wide());
-    prove!(is_wide);
-    prove!(!is_exit_wide);
+    let (has_wide_two, has_exit_two) = (wide.has_two_slots(), exit.has_two_slots());
+    prove!(has_wide_two);
+    prove!(!has_exit_two);
 }
 
 /// `MAX_SLOTS` of the code is `most_slots` of the definitions.

@@ -7,7 +7,7 @@
 //! # What is proved
 //!
 //! - An instruction's row of the table: what it reads, writes and names, its successors and its number of slots: `profile`,
-//!   `slots`, `is_wide` of `Insn`.
+//!   `slots`, `has_two_slots` of `Insn`.
 //! - Whether control may pass to the next instruction or to a jump target, at which distance, and to which slot: `falls`,
 //!   `jumps`, `offset`, `target` of `Successors`.
 //! - The descriptor of the map that it names: `descriptor` of `Reference`.

@@ -57,9 +57,9 @@ enum Cause {
     /// The value was never written.
     Never,
     /// The value is missing on the edge from this slot, and present on another edge to the same instruction.
-    Way(usize),
+    OnEdge(usize),
     /// The instruction at this slot destroys the value.
-    Taken(usize),
+    Destroyed(usize),
     /// The value is present on each edge to this slot, and the join of the edges loses it.
     Joined(usize),
 }
@@ -98,7 +98,7 @@ impl Finder<'_> {
                     is_there: true,
                     lack: Some((from, _)),
                 },
-            ) => Some(Cause::Way(*from)),
+            ) => Some(Cause::OnEdge(*from)),
             Some(
                 Arrival {
                     is_there: false,
@@ -114,7 +114,7 @@ impl Finder<'_> {
     /// Of the edges to a slot without the value, the first one noted is kept.
     fn arrive(&mut self, from: usize, to: usize, facts: &Facts) {
         let is_there = self.wanted.is_in(facts);
-        let cause = self.cause.unwrap_or(Cause::Taken(from));
+        let cause = self.cause.unwrap_or(Cause::Destroyed(from));
         if let Some(arrival) = self.arrivals.get_mut(to) {
             if is_there {
                 arrival.is_there = true;
@@ -214,8 +214,8 @@ pub(crate) fn write_way(
     let Verbs { was, is, holds } = verbs_of(wanted);
     match cause_of(refusal, wanted)?.unwrap_or(Cause::Never) {
         Cause::Never => write!(text, "{was} never written"),
-        Cause::Way(slot) => write!(text, "may not be written yet on the way from slot {slot}"),
-        Cause::Taken(slot) => write!(text, "{is} lost at slot {slot}"),
+        Cause::OnEdge(slot) => write!(text, "may not be written yet on the way from slot {slot}"),
+        Cause::Destroyed(slot) => write!(text, "{is} lost at slot {slot}"),
         Cause::Joined(slot) => {
             write!(
                 text,

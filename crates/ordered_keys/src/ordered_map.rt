@@ -70,11 +70,6 @@ impl<K: Eq + Hash + Copy, S: BuildHasher> OrderedMap<K, S> {
         })
     }
 
-    /// The allocator with which the map was made.
-    pub fn allocator(&self) -> Global {
-        *self.table.allocator()
-    }
-
     /// The element of a key; `None` if the key is absent.
     #[inline(always)]
     pub fn get<Q: Equivalent<K>>(&self, key: Q) -> Option<u32>

@@ -6,9 +6,8 @@ use Rattle.std.proofs.lemmas.List.{length-drop}
 use Rattle.byteorder.specs.Endian.{little_number}
 use Rattle.command_frames.specs.declared.command.BadFrame.{BadFrame}
 use Rattle.command_frames.specs.declared.command.BadFrame.TheVariants.{TooLong, Body}
-use Rattle.saving.specs.inside.Frames.{tail_length}
 use Rattle.command_frames.specs.Command.{Command, map_create, map_lookup, map_update, map_delete, map_next_key, prog_load, prog_test_run}
-use Rattle.command_frames.specs.Command.{close, exactly, at_least, command_in, parsed, longest_frame, word_at, long_at, words}
+use Rattle.command_frames.specs.Command.{close, tail_length, exactly, at_least, command_in, parsed, longest_frame, word_at, long_at, words}
 
 abbrev IsWithin : ℕ → Result Command BadFrame → Type 0
 IsWithin n (Ok command) = tail_length command ≤ n

@@ -29,7 +29,7 @@ use Rattle.verifier.specs.Before.{facts_before, facts_from_below}
 use Rattle.verifier.specs.Laws.{MapsAreListed}
 use Rattle.verifier.specs.Maps.{maps_of, is_among, entries_of, shapes_of}
 use Rattle.verifier.specs.Shape.{is_map, is_not_open, is_not_map, is_no_value, calls_unknown, is_number, leads_outside}
-use Rattle.verifier.specs.Shape.{leads_backward, is_reachable, reached_from, first_reason, shape_reason, shape_of, structure_fault}
+use Rattle.verifier.specs.Shape.{leads_backward, is_reachable, reached_from, first_reason, shape_reason, shape_reason_at, structure_fault}
 use Rattle.verifier.specs.Verdict.{HasNoFault, IsAccepted, reason_of, safety_fault}
 use Rattle.saving.specs.Filler.{filler}
 
@@ -119,7 +119,7 @@ module _ (a b : List Named) where
           ∙ ap (λ (ns : List Named). target_of ns fd) same
           ∙ picked (is_among (maps_of code)) b fd is
 
-      by : (o : Option Insn) → begins_at code at ≡ o → shape_of code a at o ≡ shape_of code b at o
+      by : (o : Option Insn) → begins_at code at ≡ o → shape_reason_at code a at o ≡ shape_reason_at code b at o
       by None begins = refl
       by (Some i) begins = same_reason code i at (target i begins)
 
@@ -149,7 +149,7 @@ filler_shape : (named : List Named) → HasNoFault (structure_fault filler named
 unfolding structure_fault begins_at reached_from
 filler_shape named zero = refl
 filler_shape named (suc zero) = refl
-filler_shape named (suc (suc n)) = ap (shape_of filler named (suc (suc n))) (past n)
+filler_shape named (suc (suc n)) = ap (shape_reason_at filler named (suc (suc n))) (past n)
 
 filler_safe : (shapes : Shapes) → HasNoFault (safety_fault shapes filler)
 unfolding safety_fault facts_from_below begins_at tabulate

@@ -3,7 +3,7 @@
 ghost use Rattle.std.specs.Prelude.{◌≡◌, ◌≢◌, ◌≤◌, ℕ, [], Some};
 ghost use Rattle.arena.specs.Memory.{part_bytes};
 ghost use Rattle.bpf_helpers.specs.Parts.{IsPartOf};
-ghost use Rattle.command_frames.specs.Command.{longest_frame};
+ghost use Rattle.command_frames.specs.Command.{longest_frame, tail_length};
 ghost use Rattle.command_frames.specs.Frame.{head_of, reply_to};
 ghost use Rattle.command_frames.specs.Shown.{shown_command};
 ghost use Rattle.tenant.specs.Alone.{MayReply, frame_errno};
@@ -11,7 +11,7 @@ ghost use Rattle.tenant.specs.Errno.{status_of};
 ghost use Rattle.tenant.specs.Kept.{state_in};
 ghost use Rattle.saving.specs.Recorded.{IsRecorded, RecordsFrame, tenant_state};
 ghost use Rattle.tenant.specs.declared.errno.Errno.TheVariants.{BadAddress};
-ghost use Rattle.saving.specs.inside.Frames.{tail_length, AnswersCommand, ChangesPart};
+ghost use Rattle.saving.specs.inside.Frames.{AnswersCommand, ChangesPart};
 
 use crate::birth::Births;
 use crate::laws::{births_are_kept, maps_are_held};
@@ -54,7 +54,7 @@ fn reply_to_command(
     requires short { tail_length (shown_command headed.command) ≤ longest_frame }
     requires part { IsPartOf number arena.old }
     requires recorded { IsRecorded (record { kept = tenant.old; births = births.old }) }
-    ensures seen { AnswersCommand (shown_command headed.entry.command) headed.entry.head reply.new
+    ensures replied { AnswersCommand (shown_command headed.entry.command) headed.entry.head reply.new
         (state_in (part_bytes arena.old number) tenant.old)
         (state_in (part_bytes arena.new number) tenant.new) births.old births.new }
     ensures changes { ChangesPart number arena.old arena.new }
@@ -130,7 +130,7 @@ impl SavableTenant {
     )
         requires head { head_of frame.now ≡ Some head }
         requires part { IsPartOf tenant arena.old }
-        ensures seen { MayReply frame.now reply.new
+        ensures replied { MayReply frame.now reply.new
             (Some (tenant_state (part_bytes arena.old tenant) self.old))
             (Some (tenant_state (part_bytes arena.new tenant) self.new)) }
         ensures recorded { RecordsFrame frame.now reply.new

@@ -11,7 +11,7 @@
 //! Frames:
 //!
 //! - A frame gets the reply of one step of the machine of `tenant`, from the state that the tenant and its part of the arena
-//!   represent to the next one; the result bytes of a test run are those of the tagged machine: `seen` of
+//!   represent to the next one; the result bytes of a test run are those of the tagged machine: `replied` of
 //!   `SavableTenant::handle`.
 //! - No test run faults, and every other part of the arena is unchanged: `no_fault`, `others` of `SavableTenant::handle`.
 //! - The births after a frame are those after its command (`births_after`): `recorded` of `SavableTenant::handle`. There is room

@@ -12,7 +12,7 @@ use Rattle.words.specs.declared.stack.AccessSize.{AccessSize}
 use Rattle.words.specs.declared.stack.AccessSize.TheVariants as size
 use Rattle.insn_set.specs.declared.atomic.AtomicSize.{AtomicSize}
 use Rattle.insn_set.specs.declared.atomic.AtomicSize.TheVariants as atomic_size
-use Rattle.insn_set.specs.Sizes.{is_short}
+use Rattle.words.specs.Operate.{is_short}
 use Rattle.insn_set.specs.Atomic.{access_size, atomic_symbol}
 use Rattle.insn_set.specs.Operator.{alu_symbol}
 use Rattle.insn_set.specs.Load.{size_name}

@@ -6,7 +6,7 @@ use Rattle.insn_set.specs.declared.insn.Operand.{Operand}
 use Rattle.insn_set.specs.declared.insn.Operand.TheVariants as operand
 use Rattle.insn_set.specs.declared.insn.Insn.{Insn}
 use Rattle.insn_set.specs.declared.insn.Insn.TheVariants.{Alu, Movsx, Neg, End, Ja, Jal, Jump, Call, Exit, Load, Store, Atomic, Const, MapFd, MapValue}
-use Rattle.insn_set.specs.Sizes.{is_short}
+use Rattle.words.specs.Operate.{is_short}
 use Rattle.words.specs.Stack.{is_double}
 use Rattle.text_line.specs.declared.form.Number.{Number}
 use Rattle.text_line.specs.declared.form.SourceOperand.{SourceOperand}

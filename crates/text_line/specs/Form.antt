@@ -1,7 +1,7 @@
 -- The forms of a line: the table of the grammar, for reading and for printing. It is this project's
 -- own.
 use Rattle.std.specs.Prelude.{ℕ, ◌≤◌, Bool, true, false, ◌&&◌, ◌||◌, not, IsTrue, List, [], ◌∷◌, codes, Option, Some, None}
-use Rattle.insn_set.specs.Sizes.{is_short}
+use Rattle.words.specs.Operate.{is_short}
 use Rattle.insn_set.specs.Operator.{alu_symbol}
 use Rattle.insn_set.specs.Conversion.{order_name, extension_name}
 use Rattle.insn_set.specs.Load.{size_name}
@@ -165,3 +165,8 @@ abbrev pub names_label : Form → Bool
 names_label (form.Jump long to) = to_label to
 names_label (form.Branch wide cond dst src to) = to_label to
 names_label _ = false
+
+-- the number of slots of a form's instruction: a wide load has two
+abbrev pub form_slots : Form → ℕ
+form_slots (form.WideLoad dst v) = 2
+form_slots _ = 1

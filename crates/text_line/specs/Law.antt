@@ -3,9 +3,9 @@ use Rattle.std.specs.Prelude.{◌≡◌, ◌≢◌, ℕ, true, false, ℤ, List,
 use Rattle.std.specs.List.{AllByRecursion}
 use Rattle.insn_set.specs.declared.insn.Insn.{Insn}
 use Rattle.insn_set.specs.Spelling.{slots}
-use Rattle.text_line.specs.Form.{names_label}
+use Rattle.text_line.specs.Form.{form_slots, names_label}
 use Rattle.text_line.specs.Line.{Line, code, ReadAs, IsLine}
-use Rattle.text_line.specs.Ranges.{form_fits, form_slots, resolved}
+use Rattle.text_line.specs.Ranges.{form_fits, resolved}
 use Rattle.text_line.specs.Written.{written, printed_insn}
 
 -- a line has one reading: two readings of the same bytes, each a line or `None`, are equal

@@ -1,4 +1,4 @@
--- The ranges of numbers, the labels as numbers, and the slots of a form. A number's range is that
+-- The ranges of numbers, and the labels as numbers. A number's range is that
 -- of its field (RFC 9669, section 3.1); a label's distance is this project's own.
 use Rattle.std.specs.Prelude.{ℕ, Bool, true, false, ◌&&◌, not, ℤ, Option, Some, None, is_some, nat_le, ◌==◌, if◌then◌else◌}
 use Rattle.text_line.specs.declared.form.Number.{Number}
@@ -104,8 +104,3 @@ resolved distance (form.Jump long to) = form.Jump long (placed distance to)
 resolved distance (form.Branch wide cond dst src to) =
     form.Branch wide cond dst (normal_source src) (placed distance to)
 resolved distance f = normal_form f
-
--- the number of slots of a form's instruction: a wide load has two
-abbrev pub form_slots : Form → ℕ
-form_slots (form.WideLoad dst v) = 2
-form_slots _ = 1

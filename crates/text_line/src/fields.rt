@@ -4,14 +4,13 @@
 ghost use Rattle.std.specs.Prelude.{◌≡◌, IfSome, IfNone, Some, true, false};
 ghost use Rattle.text_line.specs.declared.form.JumpTarget.TheVariants as target;
 ghost use Rattle.text_line.specs.declared.form.Form.TheVariants as form;
-ghost use Rattle.insn_set.specs.Sizes.{is_short};
 ghost use Rattle.text_line.specs.Form.{IsForm, IsSource};
 ghost use Rattle.text_line.specs.Ranges.{imm_fits, offset_fits, next_imm_fits, source_fits, target_fits};
 ghost use Rattle.text_line.specs.Ranges.{form_fits, normal, normal_source, normal_form, placed, resolved};
 ghost use Rattle.text_line.specs.Written.{number_of, source_of, written};
 
 use crate::form::{Access, Address, Form, JumpTarget, Number, Operation, SourceOperand, WideValue};
-use insn_set::{ExtendedBits, Insn, Load, Movsx, Operand, Reg};
+use insn_set::{Insn, Load, Movsx, Operand, Reg};
 
 impl Number {
     /// The number as a signed 32-bit field, in which -0 is 0 (`normal`). `None` if it is out of range, also if its digits are 2 ^ 64 or
@@ -220,16 +219,6 @@ impl WideValue {
     }
 }
 
-/// Whether a sign extension is from fewer than 32 bits.
-fn is_short(bits: ExtendedBits) -> bool
-    ensures { result ≡ is_short bits }
-{
-    match bits {
-        ExtendedBits::Bits8 | ExtendedBits::Bits16 => true,
-        ExtendedBits::Bits32 => false,
-    }
-}
-
 impl Form {
     /// Whether a line can have this form: a sign extension is from fewer bits than the register has, a byte-order conversion is of an `r`
     /// register, and no double word is loaded with sign extension. The calls of `number` and `in_range` only give the proof that registers
@@ -248,7 +237,7 @@ impl Form {
                     }
                     Operation::SignExtend { from, src } => {
                         let _ = src.number();
-                        wide || is_short(from)
+                        wide || from.is_short()
                     }
                     Operation::Neg => true,
                     Operation::End { .. } => wide,

@@ -143,8 +143,7 @@ pub enum Line<'a> {
 }
 
 impl Form {
-    ghost use Rattle.text_line.specs.Form.{names_label};
-    ghost use Rattle.text_line.specs.Ranges.{form_slots};
+    ghost use Rattle.text_line.specs.Form.{form_slots, names_label};
 
     /// The number of slots of its instruction: 2 for a wide load, else 1. A form whose numbers are out of range counts too.
     pub fn slots(self) -> usize

@@ -17,7 +17,7 @@ use Rattle.verifier.specs.declared.cost.Cost.{Cost}
 use Rattle.verifier.specs.declared.cost.Counts.{Counts}
 use Rattle.verifier.specs.declared.cost.Paths.{Paths}
 use Rattle.verifier.specs.Cost.{is_helper, is_call, is_exit, calls_in, IsMostOf, IsCostOf}
-use Rattle.verifier.specs.Shape.{is_number, leads_into, reached_from, is_reachable, shape_of, shape_reason, structure_fault}
+use Rattle.verifier.specs.Shape.{is_number, leads_into, reached_from, is_reachable, shape_reason_at, shape_reason, structure_fault}
 use Rattle.verifier.specs.ShapeLaws.{unrefused_is_fine}
 use Rattle.verifier.specs.inside.Longest.{one, one_if_call, total, passed_on, most_from, at_exit, most_ended, IsAdded, IsSimple, LeadTo}
 use Rattle.verifier.proofs.Longest.{passes, passes_none, leads_from}
@@ -275,7 +275,7 @@ pub reached_below : (code : List Insn) (named : List Named) (k : ℕ) (i : Insn)
     → is_reachable code k ≡ true
 unfolding structure_fault
 reached_below code named k i none begins =
-    (unrefused_is_fine code named i k (sym (ap (shape_of code named k) begins) ∙ none)).reached
+    (unrefused_is_fine code named i k (sym (ap (shape_reason_at code named k) begins) ∙ none)).reached
 
 abbrev pub AreReachedBelow : ℕ → List Insn → Type 0
 AreReachedBelow n code = (k : ℕ) (i : Insn) → k < n → begins_at code k ≡ Some i → is_reachable code k ≡ true

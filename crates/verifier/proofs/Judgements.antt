@@ -16,7 +16,7 @@ use Rattle.verifier.specs.Before.{facts_before}
 use Rattle.verifier.specs.Judgement.{refusal_of_slots, IsRefusedFor, Judges}
 use Rattle.verifier.specs.Laws.{OneJudgement}
 use Rattle.verifier.specs.Maps.{shapes_of}
-use Rattle.verifier.specs.Shape.{structure_fault, shape_of}
+use Rattle.verifier.specs.Shape.{structure_fault, shape_reason_at}
 use Rattle.verifier.specs.Verdict.{IsAccepted, IsRefused, memory_fault, safety_fault}
 use Rattle.verifier.specs.declared.fault.VerifyFault.{VerifyFault}
 use Rattle.verifier.specs.declared.refusal.Cause.{Cause}
@@ -26,7 +26,7 @@ use Rattle.verifier.specs.declared.refusal.Refusal.{Refusal}
 -- ---- the slot of a rejection
 
 shape_begins : (code : List Insn) (named : List Named) (n : ℕ) (why : Reason) (o : Option Insn)
-    → shape_of code named n o ≡ Some why → (i : Insn) × (o ≡ Some i)
+    → shape_reason_at code named n o ≡ Some why → (i : Insn) × (o ≡ Some i)
 shape_begins code named n why None e = absurd (none-some why e)
 shape_begins code named n why (Some i) e = (i, refl)
 

@@ -24,7 +24,7 @@ use Rattle.verifier.specs.Fits.{Fits, SameShapesAreAccepted}
 use Rattle.verifier.specs.Judgement.{Judges}
 use Rattle.verifier.specs.Maps.{maps_of, is_among, entries_of, shapes_of}
 use Rattle.verifier.specs.Shape.{leads_outside, leads_backward, is_reachable, is_number, calls_unknown, is_map, is_not_open}
-use Rattle.verifier.specs.Shape.{is_not_map, is_no_value, lacks_value, first_reason, shape_reason, shape_of, structure_fault}
+use Rattle.verifier.specs.Shape.{is_not_map, is_no_value, lacks_value, first_reason, shape_reason, shape_reason_at, structure_fault}
 use Rattle.verifier.specs.Verdict.{safety_fault, HasNoFault, IsAccepted}
 use Rattle.verifier.specs.Verified.{Accepted, IsVerified, shapes_in}
 use Rattle.verifier.proofs.Listed.{index_of, shape_kept}
@@ -113,7 +113,7 @@ module _ (code : List Insn) (named other : List Named)
       ∙ ap (λ (b : Bool). reason_if code i n (is_not_open named (descriptor i)) (is_not_map named (descriptor i)) b)
       (value_same named other (profile i).reference here)
 
-  same_shape_at : (n : ℕ) (o : Option Insn) → begins_at code n ≡ o → shape_of code other n o ≡ shape_of code named n o
+  same_shape_at : (n : ℕ) (o : Option Insn) → begins_at code n ≡ o → shape_reason_at code other n o ≡ shape_reason_at code named n o
   same_shape_at n None begins = refl
   same_shape_at n (Some i) begins = same_reason n i begins
 

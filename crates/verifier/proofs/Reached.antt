@@ -13,7 +13,7 @@ use Rattle.insn_set.specs.BeginLaws.{begins_within, first_begins}
 use Rattle.reg_kinds.specs.declared.reason.Reason.{Reason}
 use Rattle.tagged_model.specs.declared.shape.Named.{Named}
 use Rattle.insn_set.specs.Flow.{jumps_to, jumps, jump_target}
-use Rattle.verifier.specs.Shape.{leads_into, leads_outside, reached_from, is_reachable, first_reason, shape_of, structure_fault}
+use Rattle.verifier.specs.Shape.{leads_into, leads_outside, reached_from, is_reachable, first_reason, shape_reason_at, structure_fault}
 use Rattle.verifier.specs.ShapeLaws.{IsFine, each_is_fine}
 use Rattle.verifier.specs.inside.Jumps.{JumpsLand}
 use Rattle.verifier.specs.Verdict.{HasNoFault}
@@ -132,10 +132,10 @@ begun_there code by_slot n insn (inr begins) lt listed is =
 
 -- the first fault of the instruction that begins at a slot, if any, is the slot's fault of its shape
 pub shape_is : (code : List Insn) (named : List Named) (at : ℕ) (o : Option Insn) (r : Option Reason)
-    → o ≡ begins_at code at → r ≡ shape_of code named at o
+    → o ≡ begins_at code at → r ≡ shape_reason_at code named at o
     → structure_fault code named at ≡ r
 unfolding structure_fault
-shape_is code named at o r begins is = sym (is ∙ ap (shape_of code named at) begins)
+shape_is code named at o r begins is = sym (is ∙ ap (shape_reason_at code named at) begins)
 
 -- if no slot has a fault
 module _ (code : List Insn) (named : List Named) (none : HasNoFault (structure_fault code named)) where

@@ -14,7 +14,7 @@ use Rattle.tagged_model.specs.Named.{Shapes}
 use Rattle.verifier.specs.Maps.{shapes_of}
 use Rattle.transfer.specs.Branches.{Edges}
 use Rattle.transfer.specs.Effects.{effect}
-use Rattle.verifier.specs.Shape.{shape_of, structure_fault}
+use Rattle.verifier.specs.Shape.{shape_reason_at, structure_fault}
 use Rattle.verifier.specs.Before.{facts_before}
 use Rattle.verifier.specs.Verdict.{reason_of, safety_fault, IsRefused}
 
@@ -50,7 +50,7 @@ line_rule : (holds : Bool) (reason : Reason) (rest : Option Reason)
 line_rule holds reason rest h further = cond_both holds (Some reason) rest ByRule (λ _. by_this reason h) (λ _. further)
 
 shape_of_rule : (code : List Insn) (named : List Named) (slot : ℕ) (o : Option Insn)
-    → ByRule (shape_of code named slot o)
+    → ByRule (shape_reason_at code named slot o)
 shape_of_rule code named slot None = by_none
 shape_of_rule code named slot (Some i) =
     line_rule _ JumpOutside _ tt

@@ -127,11 +127,11 @@ shape_reason code named i at = first_reason (
     ∷ [])
 
 -- the first fault of the instruction at a slot; None if it has none, or no instruction begins there
-abbrev pub shape_of : List Insn → List Named → ℕ → Option Insn → Option Reason
-shape_of code named at None = None
-shape_of code named at (Some i) = shape_reason code named i at
+abbrev pub shape_reason_at : List Insn → List Named → ℕ → Option Insn → Option Reason
+shape_reason_at code named at None = None
+shape_reason_at code named at (Some i) = shape_reason code named i at
 
 -- the first fault of the shape at a slot of a program; None if there is none, or no instruction
 -- begins there
 unfoldable pub structure_fault : List Insn → List Named → ℕ → Option Reason
-structure_fault code named at = shape_of code named at (begins_at code at)
+structure_fault code named at = shape_reason_at code named at (begins_at code at)

@@ -12,7 +12,7 @@ use Rattle.reg_kinds.specs.declared.reason.Reason.TheVariants.{JumpOutside, Jump
 use Rattle.reg_kinds.specs.declared.reason.Reason.TheVariants.{FramePointerWritten, DescriptorNotOpen, DescriptorNotMap, NoDirectValue}
 use Rattle.tagged_model.specs.declared.shape.Named.{Named}
 use Rattle.verifier.specs.Shape.{leads_outside, leads_backward, is_reachable, is_number, calls_unknown, is_not_open}
-use Rattle.verifier.specs.Shape.{is_not_map, lacks_value, first_reason, shape_reason, shape_of, structure_fault}
+use Rattle.verifier.specs.Shape.{is_not_map, lacks_value, first_reason, shape_reason, shape_reason_at, structure_fault}
 use Rattle.verifier.specs.Verdict.{HasNoFault}
 
 -- a reason is not none
@@ -88,4 +88,4 @@ pub each_is_fine : (code : List Insn) (named : List Named)
     → IsFine code named i n
 unfolding structure_fault
 each_is_fine code named none n i begins =
-    unrefused_is_fine code named i n (sym (ap (shape_of code named n) begins) ∙ none n)
+    unrefused_is_fine code named i n (sym (ap (shape_reason_at code named n) begins) ∙ none n)

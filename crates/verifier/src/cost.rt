@@ -75,10 +75,10 @@ impl Counts {
     }
 }
 
-/// Joins the counts on a jump into those on the other jumps to its target: the greater ones count. `jumping` has the counts by slot.
-/// Nothing is done without a target; but a jump without a fault has one, which is a slot of the program.
+/// Joins the counts on a jump into those on the other jumps to its target: the greater ones count. `jumping` has the counts by slot. The
+/// target is a slot of the program: a jump to one below slot 0, for which it would be `None`, was rejected before. Nothing is done then.
 #[inline(always)]
-fn send(jumping: &mut [Counts], target: Option<usize>, counts: Counts)
+fn join_at_target(jumping: &mut [Counts], target: Option<usize>, counts: Counts)
     requires { IfSome target (λ to. to < length jumping.old) }
     ensures instructions { (i : ℕ) → (slice_index_or jumping.new i no_counts).instructions
         ≡ max (slice_index_or jumping.old i no_counts).instructions
@@ -170,11 +170,11 @@ impl Paths {
         match row.successors {
             Successors::Next => self.here = counts,
             Successors::Jump(_) => {
-                send(jumping, row.successors.target(slot), counts);
+                join_at_target(jumping, row.successors.target(slot), counts);
                 self.here = NO_COUNTS;
             }
             Successors::NextOrJump(_) => {
-                send(jumping, row.successors.target(slot), counts);
+                join_at_target(jumping, row.successors.target(slot), counts);
                 self.here = counts;
             }
             Successors::Nothing => {

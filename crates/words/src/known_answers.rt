@@ -1,6 +1,8 @@
 //! Known answers, proved only from the contracts. Nothing calls these functions.
 
-use crate::{AccessSize, AluOp, ByteOrder, Condition, KeptBits, Operator, words32, words64};
+use crate::{
+    AccessSize, AluOp, ByteOrder, Condition, ExtendedBits, KeptBits, Operator, words32, words64,
+};
 
 /// On 64 bits: 7 divided by 0 is 0 and leaves 7, 0 less 1 is 2^64 - 1, the low 16 bits of 287454020 (0x11223344) in reverse are 17459
 /// (0x4433), and 0 is above -1, both signed.
@@ -36,4 +38,12 @@ fn sizes_of_accesses() {
     prove!(bytes == 2);
     let is_double = AccessSize::Word.is_double();
     prove!(!is_double);
+}
+
+/// A move of 32 bits can extend the sign from 16 bits, and not from 32.
+fn sign_extensions_of_32_bits() {
+    let from_half = ExtendedBits::Bits16.is_short();
+    prove!(from_half);
+    let from_word = ExtendedBits::Bits32.is_short();
+    prove!(!from_word);
 }

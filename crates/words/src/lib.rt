@@ -7,7 +7,7 @@
 //! - The number of bytes of a load or a store, which takes a whole slot of the stack if it has eight: `AccessSize::bytes`,
 //!   `AccessSize::is_double`.
 //! - The number of bits that a change of byte order keeps, and that a sign extension starts from: `KeptBits::count`,
-//!   `ExtendedBits::count`.
+//!   `ExtendedBits::count`, `ExtendedBits::is_short`.
 //!
 //! # Decisions
 //!

@@ -102,7 +102,7 @@ impl KeptBits {
 
 impl ExtendedBits {
     ghost use Rattle.std.specs.Prelude.{◌≡◌};
-    ghost use Rattle.words.specs.Operate.{extended_bits};
+    ghost use Rattle.words.specs.Operate.{extended_bits, is_short};
 
     /// The number of bits: 8, 16 or 32, in the type of the offset field, in which an instruction has it.
     pub fn count(self) -> u16
@@ -112,6 +112,17 @@ impl ExtendedBits {
             ExtendedBits::Bits8 => 8,
             ExtendedBits::Bits16 => 16,
             ExtendedBits::Bits32 => 32,
+        }
+    }
+
+    /// Whether they are fewer than 32: then a move of 32 bits can extend the sign from them (RFC 9669, section 4.1).
+    pub fn is_short(self) -> bool
+        ensures { result ≡ is_short self }
+    {
+        match self {
+            ExtendedBits::Bits8 => true,
+            ExtendedBits::Bits16 => true,
+            ExtendedBits::Bits32 => false,
         }
     }
 }

@@ -8,9 +8,9 @@ use Rattle.std.specs.declared.hash.FoldHasher.{FoldHasher}
 use Rattle.std.specs.declared.hash.BuildHasherDefault.{BuildHasherDefault}
 use Rattle.insn_set.specs.Program.{most_slots}
 use Rattle.text_line.specs.declared.form.Form.{Form}
-use Rattle.text_line.specs.Form.{names_label}
+use Rattle.text_line.specs.Form.{form_slots, names_label}
 use Rattle.text_line.specs.Line.{Line, blank, label, code, IsWellFormed}
-use Rattle.text_line.specs.Ranges.{form_fits, form_slots, resolved}
+use Rattle.text_line.specs.Ranges.{form_fits, resolved}
 use Rattle.bpf_text.specs.declared.assembler.Definition.{Definition}
 use Rattle.bpf_text.specs.declared.fault.TextFaultKind.{TextFaultKind}
 use Rattle.bpf_text.specs.declared.fault.TextFaultKind.TheVariants.{Syntax, Range, UnknownLabel, LabelTwice, TooLong}

@@ -1,8 +1,8 @@
 -- Replies to the frames of one tenant, one command at a time. This project's own.
-use Rattle.std.specs.Prelude.{◌≡◌, ◌≢◌, ℕ, length, Bool, List, []}
+use Rattle.std.specs.Prelude.{◌≡◌, ◌≢◌, ℕ, Bool, List, []}
 use Rattle.arena.specs.Memory.{Memory, part_bytes}
 use Rattle.command_frames.specs.declared.command.Head.{Head}
-use Rattle.command_frames.specs.Command.{Command, map_create, map_lookup, map_update, map_delete, map_next_key, prog_load, prog_test_run, close}
+use Rattle.command_frames.specs.Command.{Command}
 use Rattle.command_frames.specs.Frame.{reply_bytes}
 use Rattle.tenant.specs.declared.errno.Errno.TheVariants.{BadAddress}
 use Rattle.tenant.specs.Errno.{status_of}
@@ -10,17 +10,6 @@ use Rattle.tenant.specs.State.{TenantState}
 use Rattle.saving.specs.Births.{Birth, births_after}
 use Rattle.tenant.specs.Machine.{Answer, Answers}
 use Rattle.tenant.specs.Replies.{Writes}
-
--- the number of bytes after the numbers of a command: of its key, value, slots or packet
-abbrev pub tail_length : Command → ℕ
-tail_length (map_create kind key value max flags) = 0
-tail_length (map_lookup fd key) = length key
-tail_length (map_update fd flags bytes) = length bytes
-tail_length (map_delete fd key) = length key
-tail_length (map_next_key fd key) = length key
-tail_length (prog_load kind slots) = length slots
-tail_length (prog_test_run fd words packet) = length packet
-tail_length (close fd) = 0
 
 -- The reply to a command is the machine's, whether memory is refused to it (`refused`) or not, and
 -- is not the reply to a run that faults. The state `after` it is the machine's, and the births

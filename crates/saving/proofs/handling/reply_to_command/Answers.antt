@@ -1,7 +1,7 @@
 use Rattle.std.proofs.Common.{ℕ, ◌+◌, ◌≤◌, false, List, length, filter, refl, sym, ap, subst, ◌∙◌, arith}
 use Rattle.arena.specs.Memory.{part_bytes}
 use Rattle.command_frames.specs.declared.command.Command.{Command as CodeCommand}
-use Rattle.command_frames.specs.Command.{longest_frame, map_create, map_lookup, prog_load}
+use Rattle.command_frames.specs.Command.{longest_frame, tail_length, map_create, map_lookup, prog_load}
 use Rattle.command_frames.specs.Shown.{shown_command}
 use Rattle.tenant.specs.Kept.{state_in}
 use Rattle.tenant.specs.Machine.{Answers}
@@ -10,7 +10,6 @@ use Rattle.tenant.specs.Replies.{shown_answer}
 use Rattle.bpf_maps.specs.Limits.{most_maps}
 use Rattle.tenant.specs.State.{TenantState}
 use Rattle.saving.specs.Births.{Birth, lives}
-use Rattle.saving.specs.inside.Frames.{tail_length}
 use Rattle.saving.proofs.FramesParts.{IsLent, on_lent}
 use Rattle.saving.proofs.FramesReplied.{seen, shown_after}
 use Rattle.saving.proofs.Recorded.{births_opened, few_after}
@@ -45,8 +44,8 @@ note-requires-in-ProgLoad c =
 
 -- ---- commands that borrow the part to write it
 
-pub returns-in-MapCreate-clause-seen : goal.returns-in-MapCreate-clause-seen
-returns-in-MapCreate-clause-seen c =
+pub returns-in-MapCreate-clause-replied : goal.returns-in-MapCreate-clause-replied
+returns-in-MapCreate-clause-replied c =
     let e = c.create-answer.ensures in
     let lent : IsLent c.args.arena.now c.args.number c.part_mut-part.result.now c.create-answer.new.part = record {
       parts = c.memory_is_its_parts.ensures.parts;
@@ -61,8 +60,8 @@ returns-in-MapCreate-clause-seen c =
     (state_in c.create-answer.new.part c.create-answer.new.self)
     c.args.births.now))
 
-pub returns-in-MapUpdate-clause-seen : goal.returns-in-MapUpdate-clause-seen
-returns-in-MapUpdate-clause-seen c =
+pub returns-in-MapUpdate-clause-replied : goal.returns-in-MapUpdate-clause-replied
+returns-in-MapUpdate-clause-replied c =
     let e = c.update-answer.ensures in
     let lent : IsLent c.args.arena.now c.args.number c.part_mut.result.now c.update-answer.new.part = record {
       parts = c.memory_is_its_parts.ensures.parts;
@@ -73,8 +72,8 @@ returns-in-MapUpdate-clause-seen c =
     on_lent c.parts_are_apart.ensures c.args.tenant.now c.update-answer.new.self lent
     (seen false c.update-answer.result c.in-MapUpdate.is e.answer e.writable c.write_answer-in-MapUpdate.ensures refl)
 
-pub returns-in-Close-clause-seen : goal.returns-in-Close-clause-seen
-returns-in-Close-clause-seen c =
+pub returns-in-Close-clause-replied : goal.returns-in-Close-clause-replied
+returns-in-Close-clause-replied c =
     let e = c.close-answer.ensures in
     let lent : IsLent c.args.arena.now c.args.number c.part_mut-in-Close.result.now c.close-answer.new.part = record {
       parts = c.memory_is_its_parts.ensures.parts;
@@ -90,8 +89,8 @@ returns-in-Close-clause-seen c =
 
 -- ---- commands that read the part, or do not borrow it
 
-pub returns-in-MapLookup-clause-seen : goal.returns-in-MapLookup-clause-seen
-returns-in-MapLookup-clause-seen c =
+pub returns-in-MapLookup-clause-replied : goal.returns-in-MapLookup-clause-replied
+returns-in-MapLookup-clause-replied c =
     let a = c.in-MapLookup in
     let e = c.look_up-answer.ensures in
     let k = c.args.tenant.now in
@@ -102,15 +101,15 @@ returns-in-MapLookup-clause-seen c =
     c.part.ensures.bytes e.answer)
     e.writable c.write_answer-in-MapLookup.ensures refl
 
-pub returns-in-MapDelete-clause-seen : goal.returns-in-MapDelete-clause-seen
-returns-in-MapDelete-clause-seen c =
+pub returns-in-MapDelete-clause-replied : goal.returns-in-MapDelete-clause-replied
+returns-in-MapDelete-clause-replied c =
     let e = c.delete-answer.ensures in
     seen false c.delete-answer.result c.in-MapDelete.is
     (e.answer (part_bytes c.args.arena.now c.args.number))
     e.writable c.write_answer-in-MapDelete.ensures refl
 
-pub returns-in-MapNextKey-clause-seen : goal.returns-in-MapNextKey-clause-seen
-returns-in-MapNextKey-clause-seen c =
+pub returns-in-MapNextKey-clause-replied : goal.returns-in-MapNextKey-clause-replied
+returns-in-MapNextKey-clause-replied c =
     let e = c.next_key-answer.ensures in
     seen false c.next_key-answer.result c.in-MapNextKey.is
     (e.answer (part_bytes c.args.arena.now c.args.number))
@@ -122,8 +121,8 @@ write_answer-requires-in-ProgLoad c =
     subst (λ (x : CodeCommand). tail_length (shown_command x) ≤ longest_frame) c.in-ProgLoad.is c.requires.short in
     c.load-loaded.ensures.writable (omega (arith, short))
 
-pub returns-in-ProgLoad-clause-seen : goal.returns-in-ProgLoad-clause-seen
-returns-in-ProgLoad-clause-seen c =
+pub returns-in-ProgLoad-clause-replied : goal.returns-in-ProgLoad-clause-replied
+returns-in-ProgLoad-clause-replied c =
     let e = c.load-loaded.ensures in
     let short =
     subst (λ (x : CodeCommand). tail_length (shown_command x) ≤ longest_frame) c.in-ProgLoad.is c.requires.short in
@@ -135,8 +134,8 @@ returns-in-ProgLoad-clause-seen c =
     (state_in (part_bytes c.args.arena.now c.args.number) c.load-loaded.new.self)
     c.args.births.now)
 
-pub returns-in-ProgTestRun-clause-seen : goal.returns-in-ProgTestRun-clause-seen
-returns-in-ProgTestRun-clause-seen c =
+pub returns-in-ProgTestRun-clause-replied : goal.returns-in-ProgTestRun-clause-replied
+returns-in-ProgTestRun-clause-replied c =
     let e = c.test_run-answer.ensures in
     seen false c.test_run-answer.result c.in-ProgTestRun.is e.answer e.writable
     c.write_answer-in-ProgTestRun.ensures refl

@@ -136,7 +136,7 @@ returns-clause-own c =
     (owner c.args.frame.now) c.index_mut.result.now c.handle.new.self
     c.args.frame.now c.handle.new.reply
     (states_are c.self.inside.arena c.self.inside.tenants.items c.args.self.now c.self.view_is)
-    own room found c.handle.ensures.seen
+    own room found c.handle.ensures.replied
 
 pub returns-clause-others : goal.returns-clause-others
 returns-clause-others c = λ other ne.
@@ -171,7 +171,7 @@ returns-clause-no_fault c =
     served_is_no_fault c.faults_have_no_payload.ensures c.args.frame.now c.handle.new.reply
     (Some (tenant_state (part_bytes c.self.inside.arena t) c.index_mut.result.now))
     (Some (tenant_state (part_bytes c.handle.new.arena t) c.handle.new.self))
-    c.handle.ensures.seen c.handle.ensures.no_fault
+    c.handle.ensures.replied c.handle.ensures.no_fault
 
 -- each tenant still has a history
 pub invariant_of-self : goal.invariant_of-self
@@ -188,7 +188,7 @@ invariant_of-self c =
     let handles : Handles (states_in m ks) frame reply (states_in n (set ks t c.handle.new.self)) = record {
       own =
           tells_own m n ks (states_in m ks) t (owner frame) c.index_mut.result.now c.handle.new.self
-          frame reply refl own room found c.handle.ensures.seen;
+          frame reply refl own room found c.handle.ensures.replied;
       others = λ other ne.
           let apart = λ (e : other ≡ t). ne (e ∙ own) in
           others_stay m n ks t other c.handle.new.self apart (c.handle.ensures.others other apart);
@@ -197,7 +197,7 @@ invariant_of-self c =
           served_is_no_fault c.faults_have_no_payload.ensures frame reply
           (Some (tenant_state (part_bytes m t) c.index_mut.result.now))
           (Some (tenant_state (part_bytes n t) c.handle.new.self))
-          c.handle.ensures.seen c.handle.ensures.no_fault;
+          c.handle.ensures.replied c.handle.ensures.no_fault;
     } in
     let records =
     records_own m n ks (host_state m ks) t c.index_mut.result.now c.handle.new.self frame reply refl

@@ -25,10 +25,10 @@ invariant_of-self c =
     let e = c.reply_to_command.new in
     recorded_after c.maps_are_held.ensures c.births_are_kept.ensures c.self.inside.tenant
     c.self.inside.births c.self.invariant (part_bytes c.args.arena.now c.args.tenant)
-    e.tenant e.births (part_bytes e.arena c.args.tenant) c.reply_to_command.ensures.seen
+    e.tenant e.births (part_bytes e.arena c.args.tenant) c.reply_to_command.ensures.replied
 
-pub returns-in-Ok-clause-seen : goal.returns-in-Ok-clause-seen
-returns-in-Ok-clause-seen c =
+pub returns-in-Ok-clause-replied : goal.returns-in-Ok-clause-replied
+returns-in-Ok-clause-replied c =
     let e = c.reply_to_command.new in
     let before = part_bytes c.args.arena.now c.args.tenant in
     let after = state_in (part_bytes e.arena c.args.tenant) e.tenant in
@@ -36,7 +36,7 @@ returns-in-Ok-clause-seen c =
     c.self.view_is
     (may_tell c.args.frame.now (shown_command c.in-Ok.command) c.args.head e.reply
     (state_in before c.self.inside.tenant) after c.requires.head
-    (sym c.in-Ok.ensures) c.reply_to_command.ensures.seen)
+    (sym c.in-Ok.ensures) c.reply_to_command.ensures.replied)
 
 pub returns-in-Ok-clause-recorded : goal.returns-in-Ok-clause-recorded
 returns-in-Ok-clause-recorded c =
@@ -47,15 +47,15 @@ returns-in-Ok-clause-recorded c =
     c.self.view_is
     (may_record c.args.frame.now (shown_command c.in-Ok.command) c.args.head e.reply
     (state_in before c.self.inside.tenant) after c.self.inside.births
-    e.births c.requires.head (sym c.in-Ok.ensures) c.reply_to_command.ensures.seen)
+    e.births c.requires.head (sym c.in-Ok.ensures) c.reply_to_command.ensures.replied)
 
 pub returns-in-Ok-clause-no_fault : goal.returns-in-Ok-clause-no_fault
 returns-in-Ok-clause-no_fault c =
     no_fault_replied c.args.frame.now c.args.head c.reply_to_command.new.reply c.requires.head
-    c.reply_to_command.ensures.seen.no_fault
+    c.reply_to_command.ensures.replied.no_fault
 
-pub returns-in-Err-clause-seen : goal.returns-in-Err-clause-seen
-returns-in-Err-clause-seen c =
+pub returns-in-Err-clause-replied : goal.returns-in-Err-clause-replied
+returns-in-Err-clause-replied c =
     let s = tenant_state (part_bytes c.args.arena.now c.args.tenant) c.args.self.now in
     refused_frame c.args.frame.now c.write_answer.new.reply s c.in-Err.fault c.frame_error.result c.args.head
     c.requires.head (sym c.in-Err.ensures) c.frame_error.ensures.errno (c.write_answer.ensures s)

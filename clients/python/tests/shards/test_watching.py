@@ -27,6 +27,8 @@ from tests.shards.gateways import UNCOUNTED, customers_file
 from tests.test_command import PACKAGE
 
 DEPLOY = PACKAGE / "deploy"
+# The loader of the C library, which lists its settings.
+LOADER = "/lib64/ld-linux-x86-64.so.2"
 # A line of Prometheus's text format.
 _LINE = re.compile(r'(# (HELP|TYPE) [a-z_]+ .+|[a-z_]+(\{[a-z]+="[^"]+"(,[a-z]+="[^"]+")*\})? ([0-9.e+-]+|\+Inf))')
 
@@ -231,6 +233,17 @@ class Files(unittest.TestCase):
         """systemd starts a worker and a gateway again however often they have ended."""
         for unit in ("bpfhost-worker@.service", "bpfhost-gateway.service"):
             self.assertIn("StartLimitIntervalSec=0", (DEPLOY / unit).read_text().partition("[Service]")[0].splitlines())
+
+    def test_a_worker_keeps_what_is_freed(self) -> None:
+        """The C library knows the settings of the unit, and they are those that EMBEDDING.md has for a program in C."""
+        unit = (DEPLOY / "bpfhost-worker@.service").read_text()
+        settings = dict(line.split("=", 2)[1:] for line in unit.splitlines() if line.startswith("Environment="))
+        said = dict(re.findall(r"glibc\.malloc\.(\w+)_threshold=(\d+)", settings["GLIBC_TUNABLES"]))
+        wanted = re.findall(r"mallopt\(M_(\w+)_THRESHOLD, 1 << (\d+)\)", (PACKAGE.parents[1] / "docs/EMBEDDING.md").read_text())
+        self.assertEqual({name: int(value) for name, value in said.items()}, {name.lower(): 1 << int(bits) for name, bits in wanted})
+        listed = subprocess.run([LOADER, "--list-tunables"], env=settings, capture_output=True, text=True, check=True).stdout
+        for name, value in said.items():
+            self.assertIn(f"glibc.malloc.{name}_threshold: {int(value):#x} ", listed)
 
     def test_the_redis(self) -> None:
         """The file has the commands that a worker uses."""

@@ -40,16 +40,16 @@ facts_join a b =
     facts_of (λ r. kind_join (kind_at a r) (kind_at b r))
     (λ i. slot_join (slot_at a i) (slot_at b i))
 
--- the stack has eight parts, of eight slots each
-abbrev pub stack_parts : ℕ
-stack_parts = 8
+-- the stack has eight groups, of eight slots each
+abbrev pub stack_groups : ℕ
+stack_groups = 8
 
--- the number of the part of the stack that has stack slot i
-abbrev pub part_of : ℕ → ℕ
-part_of i = i / 8
+-- the number of the group of the stack that has stack slot i
+abbrev pub group_of : ℕ → ℕ
+group_of i = i / 8
 
--- what is known of stack slot i once the part with number `part` in facts b is joined into that in
--- facts a; the slots of all other parts are as in a
-abbrev pub part_joined : ℕ → Facts → Facts → ℕ → Slot
-part_joined part a b i =
-    if part_of i == part then slot_join (slot_at a i) (slot_at b i) else slot_at a i
+-- what is known of stack slot i once the group with number `group` in facts b is joined into that
+-- in facts a; the slots of all other groups are as in a
+abbrev pub group_joined : ℕ → Facts → Facts → ℕ → Slot
+group_joined group a b i =
+    if group_of i == group then slot_join (slot_at a i) (slot_at b i) else slot_at a i

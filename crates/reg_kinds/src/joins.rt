@@ -5,26 +5,26 @@ ghost use Rattle.reg_kinds.specs.Kinds.{kind_at, slot_at, with_kind, with_regist
 ghost use Rattle.reg_kinds.specs.Pointers.{offsets_hull};
 ghost use Rattle.reg_kinds.specs.declared.kind.Slot.TheVariants.{Spill};
 ghost use Rattle.interval.specs.Ranges.{hull};
-ghost use Rattle.reg_kinds.specs.Join.{kind_join, spilled, slot_join, facts_join, stack_parts, part_joined};
+ghost use Rattle.reg_kinds.specs.Join.{kind_join, spilled, slot_join, facts_join, stack_groups, group_joined};
 
 use crate::facts::Facts;
 use crate::kind::{Kind, Slot, ValuePointer};
 use interval::{Range, hull};
 use words::{REGISTERS, STACK_SLOTS};
 
-/// The number of slots in a part of the stack. Parts are joined one by one (`join_part`): the verifier numbers them, and skips a part whose
+/// The number of slots in a group of the stack. Parts are joined one by one (`join_group`): the verifier numbers them, and skips a group whose
 /// join is known to change nothing.
-pub const PART_SLOTS: usize = 8;
+pub const GROUP_SLOTS: usize = 8;
 
-/// The number of parts of the stack.
-pub const STACK_PARTS: usize = STACK_SLOTS / PART_SLOTS;
+/// The number of groups of the stack.
+pub const STACK_GROUPS: usize = STACK_SLOTS / GROUP_SLOTS;
 
-/// A part of the stack: the eight slots from `PART_SLOTS * number` on.
+/// A group of the stack: the eight slots from `GROUP_SLOTS * number` on.
 #[derive(Clone, Copy, Debug, PartialEq, Eq)]
-pub struct StackPart {
+pub struct StackGroup {
     pub number: usize,
-    /// For contracts: the part is one of the stack's.
-    pub ghost within: { number < stack_parts },
+    /// For contracts: the group is one of the stack's.
+    pub ghost within: { number < stack_groups },
 }
 
 impl Kind {
@@ -255,14 +255,14 @@ fn join_any_slots(known: &mut Slot, edge: &Slot)
     *known = known.join(*edge);
 }
 
-/// Joins a part of the stack of a further edge into that of `facts`. Returns false only if no slot has changed.
-pub fn join_part(facts: &mut Facts, edge: &Facts, part: StackPart) -> bool
-    ensures facts { facts.new ≡ with_slots facts.old (part_joined part.number facts.old edge.now) }
+/// Joins a group of the stack of a further edge into that of `facts`. Returns false only if no slot has changed.
+pub fn join_group(facts: &mut Facts, edge: &Facts, group: StackGroup) -> bool
+    ensures facts { facts.new ≡ with_slots facts.old (group_joined group.number facts.old edge.now) }
     ensures stack { result ≡ false → facts.new.slots ≡ facts.old.slots }
 {
     let mut changes = false;
-    let first = PART_SLOTS * part.number;
-    for i in first..first + PART_SLOTS {
+    let first = GROUP_SLOTS * group.number;
+    for i in first..first + GROUP_SLOTS {
         if join_slot(&mut facts.slots[i], &edge.slots[i]) {
             changes = true;
         }

@@ -1,7 +1,7 @@
 pub mod EntryLists
 pub mod Inflow
 pub mod Numbers
-pub mod PartJoins
+pub mod GroupJoins
 pub mod NumberedSteps
 pub mod Watching
 pub mod OneVerdict

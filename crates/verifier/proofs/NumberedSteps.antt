@@ -13,7 +13,7 @@ use Rattle.reg_kinds.specs.declared.kind.Kind.{Kind}
 use Rattle.reg_kinds.specs.declared.kind.Kind.TheVariants.{Scalar}
 use Rattle.reg_kinds.specs.declared.facts.Facts.{Facts}
 use Rattle.words.specs.Stack.{stack_slots}
-use Rattle.reg_kinds.specs.Join.{part_of}
+use Rattle.reg_kinds.specs.Join.{group_of}
 use Rattle.reg_kinds.specs.Kinds.{slot_at}
 use Rattle.reg_kinds.specs.Settle.{facts_settled}
 use Rattle.reg_kinds.specs.Stack.{ChangesAtMost}
@@ -28,7 +28,7 @@ use Rattle.verifier.specs.Shape.{is_number}
 use Rattle.verifier.specs.declared.numbered_facts.NumberedFacts.{NumberedFacts}
 use Rattle.verifier.specs.inside.Arriving.{Brings, brought_to}
 use Rattle.verifier.specs.inside.Edges.{falling_of, jumping_of, falling_from, jumping_from}
-use Rattle.verifier.specs.inside.Numbers.{facts_on, entry_of, number_of, included_in, part_renumbered, IsInStack}
+use Rattle.verifier.specs.inside.Numbers.{facts_on, entry_of, number_of, included_in, group_renumbered, IsInStack}
 use Rattle.verifier.specs.inside.Numbers.{IsNumberedSlot, IsJoinedBy, IsJoinedIf, IsTaken, IsSentIf, with_ranges}
 use Rattle.verifier.specs.inside.Numbers.{on_falling_edge, on_jumping_edge, noted, IsPast, IsPastIf, IsNumbered, IsNumberedIf, AreNumbered}
 use Rattle.verifier.proofs.Numbers.{joined_none, on_none, raised_if, with_held, slot_more, slot_same, slot_fresh, Stacks}
@@ -124,7 +124,7 @@ in_stack Either f g keeps = tt
 in_stack (Compares dst src falls jumps) f g keeps = tt
 in_stack (Settles site null) f g keeps = tt
 
--- ---- the numbers of the parts
+-- ---- the numbers of the groups
 
 set_none : (xs : List ℕ) (i : ℕ) → get_or (set xs i 0) i 0 ≡ 0
 set_none [] i = get_or_past [] i 0 (omega arith)
@@ -144,36 +144,36 @@ module _ (stacks : Stacks) (n m : ℕ) (lt : n < m) (some : 0 < n) where
       → IsNumbered (with_stack stacks n (slot_at g)) m (left_with x g)
   kept x g h same = more (left_with x g) (numbered_same stacks n x (left_with x g) h same refl refl)
 
-  -- one slot was written: its part has a new number, and other slots are unchanged
+  -- one slot was written: its group has a new number, and other slots are unchanged
   slot_noted : (x : NumberedFacts) (g : Facts) (at : ℕ)
       → IsNumbered stacks n x → ChangesAtMost (Some at) x.facts g
       → (i : ℕ) → i < stack_slots
       → IsNumberedSlot (with_held (stacks i) n (slot_at g i)) m (slot_at g i)
-      (number_of (part_renumbered (left_with x g) at n) i)
-      (included_in (part_renumbered (left_with x g) at n) i)
+      (number_of (group_renumbered (left_with x g) at n) i)
+      (included_in (group_renumbered (left_with x g) at n) i)
   slot_noted x g at h keeps i within =
-      let part : part_of i < length x.numbers = let long = h.parts in omega (arith, long, within) in
-      elim (cases_eq (part_of i) (part_of at)) [
+      let group : group_of i < length x.numbers = let long = h.groups in omega (arith, long, within) in
+      elim (cases_eq (group_of i) (group_of at)) [
         | inl same ↦
             slot_fresh (stacks i) n m (slot_at g i)
-            (number_of (part_renumbered (left_with x g) at n) i)
-            (included_in (part_renumbered (left_with x g) at n) i)
+            (number_of (group_renumbered (left_with x g) at n) i)
+            (included_in (group_renumbered (left_with x g) at n) i)
             some lt
-            (subst (λ (p : ℕ). get_or (set x.numbers p n) (part_of i) 0 ≡ n) same
-            (get_or-set_same x.numbers (part_of i) n 0 part))
-            (subst (λ (p : ℕ). get_or (set x.includes p 0) (part_of i) 0 ≡ 0) same (set_none x.includes (part_of i)))
+            (subst (λ (p : ℕ). get_or (set x.numbers p n) (group_of i) 0 ≡ n) same
+            (get_or-set_same x.numbers (group_of i) n 0 group))
+            (subst (λ (p : ℕ). get_or (set x.includes p 0) (group_of i) 0 ≡ 0) same (set_none x.includes (group_of i)))
         | inr other ↦
             slot_more (stacks i) n m (slot_at g i) (slot_at g i)
-            (number_of (part_renumbered (left_with x g) at n) i)
-            (included_in (part_renumbered (left_with x g) at n) i)
+            (number_of (group_renumbered (left_with x g) at n) i)
+            (included_in (group_renumbered (left_with x g) at n) i)
             (slot_same (stacks i) n (slot_at x.facts i) (slot_at g i) (number_of x i)
             (included_in x i)
-            (number_of (part_renumbered (left_with x g) at n) i)
-            (included_in (part_renumbered (left_with x g) at n) i)
+            (number_of (group_renumbered (left_with x g) at n) i)
+            (included_in (group_renumbered (left_with x g) at n) i)
             (h.slots i within)
-            (keeps.1 i (λ e. other (ap part_of e)))
-            (get_or-set_other x.numbers (part_of at) (part_of i) n 0 other)
-            (get_or-set_other x.includes (part_of at) (part_of i) 0 0 other))
+            (keeps.1 i (λ e. other (ap group_of e)))
+            (get_or-set_other x.numbers (group_of at) (group_of i) n 0 other)
+            (get_or-set_other x.includes (group_of at) (group_of i) 0 0 other))
             lt
       ]
 
@@ -182,7 +182,7 @@ module _ (stacks : Stacks) (n m : ℕ) (lt : n < m) (some : 0 < n) where
       → IsNumbered (with_stack stacks n (slot_at g)) m (noted flow n (left_with x g))
   noted_numbered (WritesSlot at) x g h keeps =
       record {
-        parts = length-set x.numbers (part_of at) n ∙ h.parts;
+        groups = length-set x.numbers (group_of at) n ∙ h.groups;
         slots = slot_noted x g at h keeps;
       }
   noted_numbered Writes x g h keeps = numbered_fresh stacks n m g some lt

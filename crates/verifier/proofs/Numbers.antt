@@ -1,4 +1,4 @@
--- Joins of facts whose parts of the stack have numbers are the joins of the definition, if each number means one part.
+-- Joins of facts whose groups of the stack have numbers are the joins of the definition, if each number means one group.
 use Rattle.std.proofs.Common.{◌≡◌, ◌⊎◌, ℕ, ◌<◌, ◌≤◌, ◌==◌, if◌then◌else◌, Bool, true, false, List, length}
 use Rattle.std.proofs.Common.{get_or, Option, Some, None, refl, sym, ap, subst, ◌∙◌, ⊎_elim, inl, inr, arith}
 use Rattle.std.proofs.lemmas.Bool.{cond-true, cond-false, eq-eqb, ne_eqb}
@@ -9,7 +9,7 @@ use Rattle.reg_kinds.specs.declared.kind.Kind.{Kind}
 use Rattle.reg_kinds.specs.declared.kind.Slot.{Slot}
 use Rattle.reg_kinds.specs.declared.kind.Slot.TheVariants.{Bytes}
 use Rattle.reg_kinds.specs.declared.facts.Facts.{Facts}
-use Rattle.reg_kinds.specs.Join.{slot_join, facts_join, stack_parts, part_of}
+use Rattle.reg_kinds.specs.Join.{slot_join, facts_join, stack_groups, group_of}
 use Rattle.reg_kinds.specs.Kinds.{entry, slot_at, tabulate}
 use Rattle.reg_kinds.specs.Laws.{SlotsAbsorb}
 use Rattle.verifier.specs.Before.{joined, only_if}
@@ -99,7 +99,7 @@ pub record IsRightSlot (held : ℕ → Slot) (n m : ℕ) (s t s' : Slot) (n' m' 
 module _ (absorb : SlotsAbsorb) (held : ℕ → Slot) (n m : ℕ) (lt : n < m) (first : 0 < n)
     (s t s' : Slot) (a b k l n' m' : ℕ) (hx : IsNumberedSlot held n s a b)
     (hy : IsNumberedSlot held n t k l) where
-  -- the part was not joined, since it includes the other
+  -- the group was not joined, since it includes the other
   slot_kept : b ≡ k → s' ≡ s → n' ≡ a → m' ≡ b → IsRightSlot held n m s t s' n' m'
   slot_kept same slot number includes =
       let known = hy.some in
@@ -164,7 +164,7 @@ pub numbered_more : (stacks : Stacks) (n m : ℕ) (s : ℕ → Slot) (x : Number
     → IsNumbered stacks n x → n < m → IsNumbered (with_stack stacks n s) m x
 numbered_more stacks n m s x h lt =
     record {
-      parts = h.parts;
+      groups = h.groups;
       slots = λ i within.
           slot_more (stacks i) n m (s i) (slot_at x.facts i) (number_of x i) (included_in x i) (h.slots i within) lt;
     }
@@ -181,7 +181,7 @@ pub raised_if : (stacks : Stacks) (n m : ℕ) (o : Option NumberedFacts)
 raised_if stacks n m None le h = tt
 raised_if stacks n m (Some x) le h =
     record {
-      parts = h.parts;
+      groups = h.groups;
       slots = λ i within.
           slot_raised (stacks i) n m (slot_at x.facts i) (number_of x i) (included_in x i) le (h.slots i within);
     }
@@ -205,40 +205,40 @@ pub numbered_same : (stacks : Stacks) (n : ℕ) (x y : NumberedFacts)
     → IsNumbered stacks n y
 numbered_same stacks n x y h slots numbers includes =
     record {
-      parts = ap length numbers ∙ h.parts;
+      groups = ap length numbers ∙ h.groups;
       slots = λ i within.
           slot_same (stacks i) n (slot_at x.facts i) (slot_at y.facts i) (number_of x i)
           (included_in x i) (number_of y i) (included_in y i)
           (h.slots i within)
           (ap (λ (l : List Slot). get_or l i (Bytes 0)) slots)
-          (ap (λ (l : List ℕ). get_or l (part_of i) 0) numbers)
-          (ap (λ (l : List ℕ). get_or l (part_of i) 0) includes);
+          (ap (λ (l : List ℕ). get_or l (group_of i) 0) numbers)
+          (ap (λ (l : List ℕ). get_or l (group_of i) 0) includes);
     }
 
--- a new number for all parts
+-- a new number for all groups
 pub numbered_fresh : (stacks : Stacks) (n m : ℕ) (f : Facts)
     → 0 < n → n < m
     → IsNumbered (with_stack stacks n (slot_at f)) m (numbered_by n f)
 numbered_fresh stacks n m f some lt =
     record {
-      parts = length-replicate stack_parts n;
+      groups = length-replicate stack_groups n;
       slots = λ i within.
-          let part : part_of i < stack_parts = omega (arith, within) in
+          let group : group_of i < stack_groups = omega (arith, within) in
           slot_fresh (stacks i) n m (slot_at f i) (number_of (numbered_by n f) i)
           (included_in (numbered_by n f) i) some lt
-          (get_or-replicate stack_parts (part_of i) n 0 part)
-          (get_or-replicate stack_parts (part_of i) 0 0 part);
+          (get_or-replicate stack_groups (group_of i) n 0 group)
+          (get_or-replicate stack_groups (group_of i) 0 0 group);
     }
 
--- at program entry all parts have the number 1
+-- at program entry all groups have the number 1
 pub entry_numbered : IsNumbered (λ i _. slot_at entry i) 2 at_entry
 entry_numbered =
     record {
-      parts = length-replicate {A = ℕ} stack_parts 1;
+      groups = length-replicate {A = ℕ} stack_groups 1;
       slots = λ i within.
-          let part : part_of i < stack_parts = omega (arith, within) in
-          let number : number_of at_entry i ≡ 1 = get_or-replicate stack_parts (part_of i) 1 0 part in
-          let none : included_in at_entry i ≡ 0 = get_or-replicate stack_parts (part_of i) 0 0 part in
+          let group : group_of i < stack_groups = omega (arith, within) in
+          let number : number_of at_entry i ≡ 1 = get_or-replicate stack_groups (group_of i) 1 0 group in
+          let none : included_in at_entry i ≡ 0 = get_or-replicate stack_groups (group_of i) 0 0 group in
           record {
             is = refl;
             some = omega (arith, number);
@@ -296,7 +296,7 @@ module _ (absorb : SlotsAbsorb) (stacks : Stacks) (n m : ℕ) (lt : n < m) (firs
             (same_table (λ i. slot_join (slot_at x.facts i) (slot_at y.facts i)) z.facts.slots
             is.long
             (λ i within. (right_at x y z hx hy is i within).slot)));
-        numbered = record { parts = is.parts; slots = λ i within. (right_at x y z hx hy is i within).numbered };
+        numbered = record { groups = is.groups; slots = λ i within. (right_at x y z hx hy is i within).numbered };
       }
 
   -- a join of numbered facts into an edge or an entry gives their join, which is numbered again

@@ -1,58 +1,58 @@
-//! Facts whose parts of the stack have numbers.
+//! Facts whose groups of the stack have numbers.
 
 ghost use Rattle.std.specs.Prelude.{◌≡◌, ◌<◌};
 ghost use Rattle.words.specs.Stack.{stack_slots};
-ghost use Rattle.reg_kinds.specs.Join.{stack_parts};
-ghost use Rattle.verifier.specs.inside.Numbers.{IsInStack, IsJoin, IsPartJoin, at_entry, noted, part_renumbered, renumbered};
+ghost use Rattle.reg_kinds.specs.Join.{stack_groups};
+ghost use Rattle.verifier.specs.inside.Numbers.{IsInStack, IsJoin, IsGroupJoin, at_entry, noted, group_renumbered, renumbered};
 
 use reg_kinds::laws::facts_have_all_slots;
-use reg_kinds::{Facts, PART_SLOTS, STACK_PARTS, StackPart, join_part, join_registers};
+use reg_kinds::{Facts, GROUP_SLOTS, STACK_GROUPS, StackGroup, join_group, join_registers};
 use transfer::Flow;
 
-/// Facts, with a number for what is known of each part of the stack, which is eight of its slots. Parts with one index and one number are
+/// Facts, with a number for what is known of each group of the stack, which is eight of its slots. Parts with one index and one number are
 /// the same in all facts of a pass, so that a join that is known to change nothing is left out.
 #[derive(Clone, Copy, Debug, Drop)]
 pub(crate) struct NumberedFacts {
     pub(crate) facts: Facts,
-    /// The number of each part of the stack, never 0.
-    pub(crate) numbers: [usize; STACK_PARTS],
-    /// For each part, the number of the part that was joined into it last: a second join with that part would change nothing. 0 if none has
+    /// The number of each group of the stack, never 0.
+    pub(crate) numbers: [usize; STACK_GROUPS],
+    /// For each group, the number of the group that was joined into it last: a second join with that group would change nothing. 0 if none has
     /// been joined into it since it was last written.
-    pub(crate) includes: [usize; STACK_PARTS],
+    pub(crate) includes: [usize; STACK_GROUPS],
 }
 
 impl NumberedFacts {
-    /// The facts at program entry. All parts of the stack have number 1, which no later part gets, and no join into them is known.
+    /// The facts at program entry. All groups of the stack have number 1, which no later group gets, and no join into them is known.
     pub(crate) fn at_entry() -> NumberedFacts
         ensures { result ≡ at_entry }
     {
         NumberedFacts {
             facts: Facts::at_entry(),
-            numbers: [1; STACK_PARTS],
-            includes: [0; STACK_PARTS],
+            numbers: [1; STACK_GROUPS],
+            includes: [0; STACK_GROUPS],
         }
     }
 
-    /// Gives all parts of the stack the new number `fresh`, since any of them may have changed; no join into them is known then.
+    /// Gives all groups of the stack the new number `fresh`, since any of them may have changed; no join into them is known then.
     pub(crate) fn renumber(&mut self, fresh: usize)
         ensures { self.new ≡ renumbered self.old fresh }
     {
-        self.numbers = [fresh; STACK_PARTS];
-        self.includes = [0; STACK_PARTS];
+        self.numbers = [fresh; STACK_GROUPS];
+        self.includes = [0; STACK_GROUPS];
     }
 
-    /// Gives the part of a stack slot, 0 to 63, the new number `fresh`, since it may have changed; no join into it is known then.
+    /// Gives the group of a stack slot, 0 to 63, the new number `fresh`, since it may have changed; no join into it is known then.
     #[inline(always)]
-    fn renumber_part(&mut self, slot: usize, fresh: usize)
+    fn renumber_group(&mut self, slot: usize, fresh: usize)
         requires { slot < stack_slots }
-        ensures { self.new ≡ part_renumbered self.old slot fresh }
+        ensures { self.new ≡ group_renumbered self.old slot fresh }
     {
-        let part = slot / PART_SLOTS;
-        self.numbers[part] = fresh;
-        self.includes[part] = 0;
+        let group = slot / GROUP_SLOTS;
+        self.numbers[group] = fresh;
+        self.includes[group] = 0;
     }
 
-    /// Gives each part of the stack that an instruction with this flow may have written the new number `fresh`. The slot that a flow names
+    /// Gives each group of the stack that an instruction with this flow may have written the new number `fresh`. The slot that a flow names
     /// is one of the 64, as `apply` promises. The other flows write nothing; a null test gives its numbers on each edge
     /// (`leave_null_test`).
     #[inline(always)]
@@ -61,7 +61,7 @@ impl NumberedFacts {
         ensures { self.new ≡ noted flow.now fresh self.old }
     {
         match flow {
-            Flow::WritesSlot(slot) => self.renumber_part(*slot, fresh),
+            Flow::WritesSlot(slot) => self.renumber_group(*slot, fresh),
             Flow::Writes => self.renumber(fresh),
             Flow::Falls => {}
             Flow::Ends => {}
@@ -72,29 +72,29 @@ impl NumberedFacts {
         }
     }
 
-    /// Joins a part of the stack, of index `part`, on another edge into that of these facts, which then includes it. If this changes the
-    /// part, it gets the number `fresh`. It is out of line: `join_stack_part` is inlined, and leaves out joins that are known to change
+    /// Joins a group of the stack, of index `group`, on another edge into that of these facts, which then includes it. If this changes the
+    /// group, it gets the number `fresh`. It is out of line: `join_stack_group` is inlined, and leaves out joins that are known to change
     /// nothing.
     #[inline(never)]
-    fn join_other_part(&mut self, edge: &NumberedFacts, fresh: usize, part: usize)
-        requires { part < stack_parts }
-        ensures { IsPartJoin fresh part self.old edge.now self.new }
+    fn join_other_group(&mut self, edge: &NumberedFacts, fresh: usize, group: usize)
+        requires { group < stack_groups }
+        ensures { IsGroupJoin fresh group self.old edge.now self.new }
     {
-        if join_part(&mut self.facts, &edge.facts, StackPart { number: part }) {
-            self.numbers[part] = fresh;
+        if join_group(&mut self.facts, &edge.facts, StackGroup { number: group }) {
+            self.numbers[group] = fresh;
         }
-        self.includes[part] = edge.numbers[part];
+        self.includes[group] = edge.numbers[group];
     }
 
-    /// Joins a part of the stack, of index `part`, on another edge into that of these facts, unless that is known to change nothing. If
-    /// this changes the part, it gets the number `fresh`.
+    /// Joins a group of the stack, of index `group`, on another edge into that of these facts, unless that is known to change nothing. If
+    /// this changes the group, it gets the number `fresh`.
     #[inline(always)]
-    fn join_stack_part(&mut self, edge: &NumberedFacts, fresh: usize, part: usize)
-        requires { part < stack_parts }
-        ensures { IsPartJoin fresh part self.old edge.now self.new }
+    fn join_stack_group(&mut self, edge: &NumberedFacts, fresh: usize, group: usize)
+        requires { group < stack_groups }
+        ensures { IsGroupJoin fresh group self.old edge.now self.new }
     {
-        if self.includes[part] != edge.numbers[part] {
-            self.join_other_part(edge, fresh, part);
+        if self.includes[group] != edge.numbers[group] {
+            self.join_other_group(edge, fresh, group);
         }
     }
 
@@ -103,8 +103,8 @@ impl NumberedFacts {
         ensures { IsJoin fresh self.old edge.now self.new }
     {
         join_registers(&mut self.facts, &edge.facts);
-        for part in 0..STACK_PARTS {
-            self.join_stack_part(edge, fresh, part);
+        for group in 0..STACK_GROUPS {
+            self.join_stack_group(edge, fresh, group);
         }
         facts_have_all_slots(&self.facts);
     }

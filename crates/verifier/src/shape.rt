@@ -120,7 +120,7 @@ fn is_simple(row: &Profile, next: usize, slots: usize, paths: &Paths) -> bool
 /// The first fault of the instruction at `slot`, whatever the registers hold; `None` if there is none. `row` has its properties, and
 /// `is_reached` is whether the slot can be reached.
 #[inline(always)]
-fn other_reason(
+fn reason_against(
     program: &Program,
     named: &[Named],
     insn: &Insn,
@@ -151,7 +151,7 @@ fn other_reason(
 /// Adds the instruction at `slot`, simple or not, to `paths`, those that lead there, or returns its first fault. `jumping` has the counts
 /// on the jumps to each slot.
 #[inline(always)]
-fn pass_other(
+fn pass_checked(
     program: &Program,
     named: &[Named],
     insn: &Insn,
@@ -170,7 +170,7 @@ fn pass_other(
         shape_reason program.now named.now insn.now slot ≡ Some reason) }
 {
     let row = insn.profile();
-    match other_reason(program, named, insn, &row, slot, paths.lead_to(slot)) {
+    match reason_against(program, named, insn, &row, slot, paths.lead_to(slot)) {
         Some(reason) => Err(reason),
         None => {
             paths.add(jumping, insn, &row, slot);
@@ -206,7 +206,7 @@ fn pass(
         paths.add_simple();
         Ok(())
     } else {
-        pass_other(program, named, insn, slot, jumping, paths)
+        pass_checked(program, named, insn, slot, jumping, paths)
     }
 }
 

@@ -1,6 +1,6 @@
--- Numbers of the parts of stacks, and the facts on the edges out of an instruction. A number
--- identifies the facts about a part of the stack, which is eight of its slots, so that a part is
--- not joined again if it is known to be joined already. It is not 0; the parts at program entry
+-- Numbers of the groups of stacks, and the facts on the edges out of an instruction. A number
+-- identifies the facts about a group of the stack, which is eight of its slots, so that a group is
+-- not joined again if it is known to be joined already. It is not 0; the groups at program entry
 -- have number 1. At slot n the new numbers are 8 * n + 2 for the join before the instruction, + 3
 -- for its writes, + 4 for the jumping and + 5 for the falling edge of a null test, and + 6 for the
 -- join at the jump's target. A parameter `fresh` is such a new number. An edge leads to the next
@@ -12,7 +12,7 @@ use Rattle.std.specs.Option.{option_map}
 use Rattle.words.specs.Stack.{stack_slots}
 use Rattle.reg_kinds.specs.declared.kind.Slot.{Slot}
 use Rattle.reg_kinds.specs.declared.facts.Facts.{Facts}
-use Rattle.reg_kinds.specs.Join.{kind_join, slot_join, stack_parts, part_of}
+use Rattle.reg_kinds.specs.Join.{kind_join, slot_join, stack_groups, group_of}
 use Rattle.reg_kinds.specs.Kinds.{entry, kind_at, slot_at, tabulate}
 use Rattle.reg_kinds.specs.Settle.{facts_settled}
 use Rattle.interval.specs.Refine.{RangePair}
@@ -35,78 +35,78 @@ facts_on o = option_map (λ x. x.facts) o
 abbrev pub entry_of : ℕ → List (Option NumberedFacts) → Option NumberedFacts
 entry_of i entries = slice_index_or entries i None
 
--- the number of the part of the stack that has stack slot i
+-- the number of the group of the stack that has stack slot i
 abbrev pub number_of : NumberedFacts → ℕ → ℕ
-number_of x i = slice_index_or x.numbers (part_of i) 0
+number_of x i = slice_index_or x.numbers (group_of i) 0
 
--- the number of the part that is known to be joined into the part that has stack slot i; 0 if none
--- is known
+-- the number of the group that is known to be joined into the group that has stack slot i; 0 if
+-- none is known
 abbrev pub included_in : NumberedFacts → ℕ → ℕ
-included_in x i = slice_index_or x.includes (part_of i) 0
+included_in x i = slice_index_or x.includes (group_of i) 0
 
--- the facts with number n for all parts of the stack; no join is known
+-- the facts with number n for all groups of the stack; no join is known
 abbrev pub numbered_by : ℕ → Facts → NumberedFacts
 numbered_by n f = record {
   facts = f;
-  numbers = replicate stack_parts n;
-  includes = replicate stack_parts 0;
+  numbers = replicate stack_groups n;
+  includes = replicate stack_groups 0;
 }
 
--- the facts at program entry, in which all parts have number 1
+-- the facts at program entry, in which all groups have number 1
 abbrev pub at_entry : NumberedFacts
 at_entry = numbered_by 1 entry
 
--- x with the new number `fresh` for all parts of the stack; no join into them is known
+-- x with the new number `fresh` for all groups of the stack; no join into them is known
 abbrev pub renumbered : NumberedFacts → ℕ → NumberedFacts
 renumbered x fresh = numbered_by fresh x.facts
 
--- x with the new number `fresh` for the part that has stack slot i; no join into it is known
-abbrev pub part_renumbered : NumberedFacts → ℕ → ℕ → NumberedFacts
-part_renumbered x i fresh =
+-- x with the new number `fresh` for the group that has stack slot i; no join into it is known
+abbrev pub group_renumbered : NumberedFacts → ℕ → ℕ → NumberedFacts
+group_renumbered x i fresh =
     record {
       facts = x.facts;
-      numbers = slice_set x.numbers (part_of i) fresh;
-      includes = slice_set x.includes (part_of i) 0;
+      numbers = slice_set x.numbers (group_of i) fresh;
+      includes = slice_set x.includes (group_of i) 0;
     }
 
--- s' is slot s after the join with slot t. The part of s has number n, and a join into it of the
--- part with number m is known; after this join they are n' and m'. The part of t has number k. If m
--- is k, the join would change nothing and is left out. Else m' is k. Then n' is `fresh`, or it is
+-- s' is slot s after the join with slot t. The group of s has number n, and a join into it of the
+-- group with number m is known; after this join they are n' and m'. The group of t has number k. If
+-- m is k, the join would change nothing and is left out. Else m' is k. Then n' is `fresh`, or it is
 -- still n, but only if the slot is unchanged
 abbrev pub IsJoinedSlot : ℕ → Slot → ℕ → ℕ → Slot → ℕ → Slot → ℕ → ℕ → Type 0
 IsJoinedSlot fresh s n m t k s' n' m' =
     ((m ≡ k) × (s' ≡ s) × (n' ≡ n) × (m' ≡ m))
     ⊎ ((s' ≡ slot_join s t) × (m' ≡ k) × ((n' ≡ fresh) ⊎ ((n' ≡ n) × (s' ≡ s))))
 
--- slot i of z, with the numbers of its part, is that of x after the join with slot i of y
+-- slot i of z, with the numbers of its group, is that of x after the join with slot i of y
 abbrev pub IsJoinedAt : ℕ → NumberedFacts → NumberedFacts → NumberedFacts → ℕ → Type 0
 IsJoinedAt fresh x y z i =
     IsJoinedSlot fresh (slot_at x.facts i) (number_of x i) (included_in x i) (slot_at y.facts i)
     (number_of y i)
     (slot_at z.facts i) (number_of z i) (included_in z i)
 
--- slot i of z is that of x, with the numbers of its part
+-- slot i of z is that of x, with the numbers of its group
 abbrev pub IsSameAt : NumberedFacts → NumberedFacts → ℕ → Type 0
 IsSameAt x z i =
     (slot_at z.facts i ≡ slot_at x.facts i)
     × (number_of z i ≡ number_of x i)
     × (included_in z i ≡ included_in x i)
 
--- z is x, after one part of the stack of y is joined into it; `fresh` is the number of this part if
--- it changes
-pub record IsPartJoin (fresh part : ℕ) (x y z : NumberedFacts) : Type 0 where
+-- z is x, after one group of the stack of y is joined into it; `fresh` is the number of this group
+-- if it changes
+pub record IsGroupJoin (fresh group : ℕ) (x y z : NumberedFacts) : Type 0 where
   pub registers : z.facts.registers ≡ x.facts.registers
-  pub parts : length z.numbers ≡ stack_parts
-  pub here : (i : ℕ) → i < stack_slots → part_of i ≡ part → IsJoinedAt fresh x y z i
-  pub others : (i : ℕ) → i < stack_slots → part_of i ≢ part → IsSameAt x z i
+  pub groups : length z.numbers ≡ stack_groups
+  pub here : (i : ℕ) → i < stack_slots → group_of i ≡ group → IsJoinedAt fresh x y z i
+  pub others : (i : ℕ) → i < stack_slots → group_of i ≢ group → IsSameAt x z i
 
 -- z is the join of x and y, of each register and each stack slot; `fresh` is the number of the
--- parts of the stack that change
+-- groups of the stack that change
 pub record IsJoin (fresh : ℕ) (x y z : NumberedFacts) : Type 0 where
   pub registers : z.facts.registers
       ≡ tabulate 11 (λ r. kind_join (kind_at x.facts r) (kind_at y.facts r))
   pub long : length z.facts.slots ≡ stack_slots
-  pub parts : length z.numbers ≡ stack_parts
+  pub groups : length z.numbers ≡ stack_groups
   pub slots : (i : ℕ) → i < stack_slots → IsJoinedAt fresh x y z i
 
 -- the facts y are joined into those on an edge or of an entry: the first option has these before,
@@ -165,7 +165,7 @@ with_ranges x dst src ranges = record {
 }
 
 -- x with the look-up at a site settled as null (true) or not null (false). This may change each
--- part of the stack, so all have the new number `fresh`
+-- group of the stack, so all have the new number `fresh`
 abbrev pub settled : ℕ → Bool → ℕ → NumberedFacts → NumberedFacts
 settled site null fresh x = numbered_by fresh (facts_settled site null x.facts)
 
@@ -182,7 +182,7 @@ jumps_settled site jumps_on_null n x = settled site jumps_on_null (8 * n + 4) x
 -- the facts on the falling edge out of an instruction, None if this edge is never taken. The flow
 -- is the edges that control may take after the instruction, with what holds on only one of them; x
 -- are the facts that the verifier has after the instruction, which hold on both. `fresh` is the new
--- number that a null test gives all parts of the stack
+-- number that a null test gives all groups of the stack
 abbrev pub on_falling_edge : Flow → ℕ → NumberedFacts → Option NumberedFacts
 on_falling_edge Ends fresh x = None
 on_falling_edge Falls fresh x = Some x
@@ -197,7 +197,7 @@ on_falling_edge (Settles site jumps_on_null) fresh x =
 -- the facts on the jumping edge out of an instruction, None if this edge is never taken. The flow
 -- is the edges that control may take after the instruction, with what holds on only one of them; x
 -- are the facts that the verifier has after the instruction, which hold on both. `fresh` is the new
--- number that a null test gives all parts of the stack
+-- number that a null test gives all groups of the stack
 abbrev pub on_jumping_edge : Flow → ℕ → NumberedFacts → Option NumberedFacts
 on_jumping_edge Ends fresh x = None
 on_jumping_edge Falls fresh x = None
@@ -214,11 +214,11 @@ abbrev pub IsInStack : Flow → Type 0
 IsInStack (WritesSlot i) = i < stack_slots
 IsInStack flow = Unit {0}
 
--- the facts x after an instruction with this flow: each part of the stack that the instruction may
+-- the facts x after an instruction with this flow: each group of the stack that the instruction may
 -- have written has the new number `fresh`. The numbers on the edges of a null test are given later,
 -- on each edge
 abbrev pub noted : Flow → ℕ → NumberedFacts → NumberedFacts
-noted (WritesSlot i) fresh x = part_renumbered x i fresh
+noted (WritesSlot i) fresh x = group_renumbered x i fresh
 noted Writes fresh x = renumbered x fresh
 noted flow fresh x = x
 
@@ -256,7 +256,7 @@ IsPastIf shapes n insn (Some x) entries_old new entries_new =
 -- ---- the meaning of each number, for numbers below a bound
 
 -- `held` gives the slot that each number means. Slot s is the one of number n. If m is not 0, a
--- join of s with the slot of number m, which the part of s includes, changes nothing. The numbers
+-- join of s with the slot of number m, which the group of s includes, changes nothing. The numbers
 -- are below the bound
 pub record IsNumberedSlot (held : ℕ → Slot) (bound : ℕ) (s : Slot) (n m : ℕ) : Type 0 where
   pub is : s ≡ held n
@@ -267,7 +267,7 @@ pub record IsNumberedSlot (held : ℕ → Slot) (bound : ℕ) (s : Slot) (n m : 
 -- each slot of the stack is the one that its numbers mean; `stacks` gives, for slot i and a number,
 -- the slot that is meant
 pub record IsNumbered (stacks : ℕ → ℕ → Slot) (bound : ℕ) (x : NumberedFacts) : Type 0 where
-  pub parts : length x.numbers ≡ stack_parts
+  pub groups : length x.numbers ≡ stack_groups
   pub slots : (i : ℕ)
       → i < stack_slots
       → IsNumberedSlot (stacks i) bound (slot_at x.facts i) (number_of x i) (included_in x i)
@@ -278,7 +278,7 @@ IsNumberedIf stacks bound None = Unit {0}
 IsNumberedIf stacks bound (Some x) = IsNumbered stacks bound x
 
 -- the numbers of the facts on the falling edge, and of those in the entries from a slot on, have
--- one meaning: parts with one index and one number are the same. All numbers are below the
+-- one meaning: groups with one index and one number are the same. All numbers are below the
 -- bound, so one from the bound on is new
 pub record AreNumbered (slot bound : ℕ) (falling : Option NumberedFacts)
     (entries : List (Option NumberedFacts)) : Type 0 where
@@ -286,13 +286,13 @@ pub record AreNumbered (slot bound : ℕ) (falling : Option NumberedFacts)
   pub in_hand : IsNumberedIf stacks bound falling
   pub ahead : (i : ℕ) → slot ≤ i → IsNumberedIf stacks bound (entry_of i entries)
 
--- ---- a join, part by part
+-- ---- a join, group by group
 
--- z is x during its join with y, before the turn of this part: the registers and the parts below
--- are joined, the other parts are those of x
-pub record IsJoinedBelow (fresh part : ℕ) (x y z : NumberedFacts) : Type 0 where
+-- z is x during its join with y, before the turn of this group: the registers and the groups below
+-- are joined, the other groups are those of x
+pub record IsJoinedBelow (fresh group : ℕ) (x y z : NumberedFacts) : Type 0 where
   pub registers : z.facts.registers
       ≡ tabulate 11 (λ r. kind_join (kind_at x.facts r) (kind_at y.facts r))
-  pub parts : length z.numbers ≡ stack_parts
-  pub done : (i : ℕ) → i < stack_slots → part_of i < part → IsJoinedAt fresh x y z i
-  pub rest : (i : ℕ) → i < stack_slots → part ≤ part_of i → IsSameAt x z i
+  pub groups : length z.numbers ≡ stack_groups
+  pub done : (i : ℕ) → i < stack_slots → group_of i < group → IsJoinedAt fresh x y z i
+  pub rest : (i : ℕ) → i < stack_slots → group ≤ group_of i → IsSameAt x z i

@@ -88,7 +88,8 @@ HoldsNull witness _ c = ⊥
 abbrev pub HasBytes : ℕ → Cell → Type 0
 HasBytes mask c = (j : ℕ) → j < 8 → bit_at mask j ≡ 1 → (b : ℕ) × (byte_at c j ≡ Some b)
 
--- the cell is what is known of its slot: it has the written bytes, or a spilled value of the kind
+-- the cell fits what is known of its stack slot: the bytes of the mask are present; or, for a
+-- spill, it keeps a value of the kind whole, or has a look-up's result that is null
 abbrev pub HasSlot : Witness → Slot → Cell → Type 0
 HasSlot witness (Bytes mask) c = HasBytes mask c
 HasSlot witness (Spill k) c = HoldsWhole witness k c ⊎ HoldsNull witness k c
@@ -128,8 +129,8 @@ pub record AreBelow (n : ℕ) (f : Facts) : Type 0 where
   pub registers : (r : ℕ) → IsKindBelow n (kind_at f r)
   pub slots : (i : ℕ) → IsSlotBelow n (slot_at f i)
 
--- the witness after a look-up in state s at a site that gave v. Its numbers of objects are those of
--- s, since v may point to an object that is newer than those that the witness counted
+-- the witness after a look-up in state s, at `site`, that gave v. Its numbers of objects are those
+-- of s, since v may point to an object that is newer than those that the witness counted
 abbrev pub witness_at : Witness → RunState → ℕ → Tagged → Witness
 witness_at witness s site v = record {
   gave = set_at witness.gave site v;

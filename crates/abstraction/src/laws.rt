@@ -53,7 +53,8 @@ pub fn value_store_admits()
     ensures { ValueStoreAdmits }
 {}
 
-/// A law: an update and a delete keep a map's shape and its objects; a look-up, or a load of the direct value, gives one of its objects.
+/// A law: an update and a delete keep a map's shape and all objects that it has had; a look-up that finds a key, or a load of the direct
+/// value, gives one of these objects.
 pub fn map_calls_keep()
     ensures { MapCallsKeep }
 {}

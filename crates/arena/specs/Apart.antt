@@ -35,8 +35,8 @@ pub record PartsAreApart : Type 0 where
       → length new ≡ m.part
       → size_of (with_part m t new) ≡ size_of m
 
--- bytes written at offset `at` of part t, through the memory or through the part, are written there
--- in the part's bytes, and leave the size of the memory unchanged
+-- bytes written at offset `at` of part t, at their offset in the memory or through the part
+-- (`with_part`), are written there in the part's bytes, and leave the size of the memory unchanged
 pub record WritesAreInParts : Type 0 where
   pub bytes : (m : Memory) (t at : ℕ) (new : List ℕ)
       → IsPart m t
@@ -58,11 +58,13 @@ pub record IsWrittenAt (old : Memory) (t at : ℕ) (new : List ℕ) (after : Mem
   pub own : part_bytes after t ≡ written_at (part_bytes old t) at new
   pub others : (u : ℕ) → u ≢ t → part_bytes after u ≡ part_bytes old u
 
--- the offset in the memory of n bytes at offset `at` of part t, if they lie in the memory
+-- the offset in the memory of n bytes at offset `at` of part t; None if they do not lie in the
+-- memory
 abbrev pub asked_in : Memory → ℕ → ℕ → ℕ → Option ℕ
 asked_in m t n at = offset_of (size_of m) n (base + (part_start m t + at))
 
--- loads, stores and copies within part t are those of its bytes
+-- a range within part t is found, and its bytes are those of the part; a load there returns their
+-- number, and a store or a copy there writes only in the part's bytes
 pub record HasAccesses (m : Memory) (t : ℕ) : Type 0 where
   pub found : (at n : ℕ) → at + n ≤ m.part → asked_in m t n at ≡ Some (part_start m t + at)
   pub bytes : (at n : ℕ)

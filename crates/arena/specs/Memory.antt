@@ -12,7 +12,7 @@ pub record Memory : Type 0 where
   pub parts : ℕ
   pub part : ℕ
 
--- the logic's code of a memory: that of the tuple of its fields
+-- how the logic of contracts encodes a memory: as the tuple of its fields
 abbrev pub memory_code : Coded Memory
 memory_code =
     code_by (List ℕ × (ℕ × ℕ)) (coded× (coded_list coded_ℕ) (coded× coded_ℕ coded_ℕ))
@@ -27,7 +27,7 @@ size_of m = length m.bytes
 abbrev pub base : ℕ
 base = 4294967296
 
--- the offset from base of n bytes at an address; None if they are not in a memory of that size
+-- the offset from base of n bytes at an address; None if they are not in a memory of `size` bytes
 abbrev pub offset_of : ℕ → ℕ → ℕ → Option ℕ
 offset_of size n address =
     if nat_le base address && nat_le (address + n) (base + size)
@@ -36,7 +36,7 @@ offset_of size n address =
 
 -- ---- loads, stores and copies; without an offset, nothing is loaded or changed
 
--- the number that the n bytes at an offset make, little-endian, if an offset is given
+-- the number that the n bytes at an offset make, little-endian; None if no offset is given
 abbrev pub loaded : Memory → ℕ → Option ℕ → Option ℕ
 loaded m n None = None
 loaded m n (Some offset) = Some (number_of (bytes_at m.bytes offset n))

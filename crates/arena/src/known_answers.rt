@@ -36,7 +36,7 @@ fn number_stored_and_loaded_inside(alloc: Global) -> Result<(), AllocError> {
     Ok(())
 }
 
-/// Nothing is loaded from, stored to or copied from or to a range of eight bytes that leaves a memory of 32.
+/// Nothing is loaded from, stored to or copied from or to a range of eight bytes that does not lie in a memory of 32 bytes.
 fn accesses_outside(alloc: Global, address: u64) -> Result<(), AllocError> {
     let mut arena = Arena::new(alloc, 2, 16)?;
     let mut trace = Trace::new();

@@ -12,7 +12,7 @@ pub fn parts_are_apart()
     ensures { PartsAreApart }
 {}
 
-/// A write within a part, through the memory or through the lent part, is a write in the part's bytes.
+/// A write within a part, at an offset in the memory or through the lent part, is a write in the part's bytes.
 pub fn writes_are_in_parts()
     ensures { WritesAreInParts }
 {}

@@ -87,7 +87,7 @@ impl Arena {
         })
     }
 
-    /// Takes the memory and leaves an empty one without parts, for a caller that works on it and puts it back.
+    /// Returns the memory and leaves an empty one without parts in `self`, for a caller that works on the returned one and puts it back.
     #[inline(always)]
     pub fn take(&mut self) -> Arena
         ensures taken { result ≡ self.old }
@@ -101,7 +101,8 @@ impl Arena {
         replace(self, none)
     }
 
-    /// A law: the size of the memory is the number of parts times their size, and at most 2^28 bytes. It does nothing when it runs.
+    /// A law: the size of the memory is the number of parts times their size, and at most 2^28 bytes. The body only reads a field, so that
+    /// the proof has the invariant of the type.
     pub fn memory_is_its_parts(&self)
         ensures parts { size_of self.now ≡ self.now.parts * self.now.part }
         ensures bound { size_of self.now ≤ 2 ^ 28 }
@@ -257,7 +258,7 @@ impl Arena {
         copy_bytes(&mut self.bytes, source, target, length);
     }
 
-    /// Lends the bytes of the part of `tenant` for writing. All other bytes keep their values.
+    /// Lends the bytes of the part of `tenant` for writing. All other bytes keep their values. Tenants are numbered from 0.
     pub fn part_mut(&mut self, tenant: usize) -> &mut [u8]
         requires { tenant < self.old.parts }
         ensures* lends { sem 𝓛 (LendsPart self.entry tenant result) }

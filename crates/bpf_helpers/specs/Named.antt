@@ -36,12 +36,12 @@ part_input memory t n address =
     and_then (named_offset memory t n address) (λ at.
     Some (bytes_at memory.bytes (part_start memory t + at) n))
 
--- the bytes of a key, of the size for the map of handle k, at an address, if they lie in the part
+-- the bytes at an address, as many as a key of the map of handle k has, if they lie in the part
 abbrev pub key_input : CallSite → ℕ → ℕ → Option (List ℕ)
 key_input site k address =
     part_input site.memory site.tenant (shape_at site.maps k).key_size address
 
--- the bytes of a value, of the size for the map of handle k, at an address, if they lie in the part
+-- the bytes at an address, as many as a value of the map of handle k has, if they lie in the part
 abbrev pub value_input : CallSite → ℕ → ℕ → Option (List ℕ)
 value_input site k address =
     part_input site.memory site.tenant (shape_at site.maps k).value_size address
@@ -59,12 +59,12 @@ pub record NamedPair : Type 0 where
   pub key : List ℕ
   pub value : List ℕ
 
--- the map of handle k with the key at an address, if the bytes of the key lie in the part
+-- the handle k with the bytes of the key at an address, if these lie in the part
 abbrev pub key_at : CallSite → ℕ → ℕ → Option NamedKey
 key_at site key k =
     option_map (λ bs. let n : NamedKey = record { map = k; key = bs } in n) (key_input site k key)
 
--- the map and the key of `named`, with the value at an address, if the value's bytes lie in the
+-- the handle and the key of `named`, with the bytes of the value at an address, if these lie in the
 -- part
 abbrev pub pair_at : CallSite → ℕ → NamedKey → Option NamedPair
 pair_at site value named =
@@ -72,13 +72,13 @@ pair_at site value named =
     (λ vs. let n : NamedPair = record { map = named.map; key = named.key; value = vs } in n)
     (value_input site named.map value)
 
--- the map and key that the words of a look-up or a deletion name; None if the first names no map,
--- or the bytes of the key don't lie in the part
+-- the map and the key that the words `map` and `key` of a look-up or a deletion name; None if `map`
+-- names no map, or the bytes of the key don't lie in the part
 abbrev pub key_named : CallSite → ℕ → ℕ → Option NamedKey
 key_named site map key = and_then (bound_map site.bind map) (key_at site key)
 
--- the map, key and value that the words of an update name; None if the first names no map, or the
--- bytes of the key or of the value don't lie in the part
+-- the map, the key and the value that the words of an update name; None if `map` names no map, or
+-- the bytes of the key or of the value don't lie in the part
 abbrev pub pair_named : CallSite → ℕ → ℕ → ℕ → Option NamedPair
 pair_named site map key value = and_then (key_named site map key) (pair_at site value)
 

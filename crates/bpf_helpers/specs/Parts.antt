@@ -9,7 +9,8 @@ use Rattle.bpf_maps.specs.declared.part.TheConstants.{PART}
 abbrev pub IsPartOf : ℕ → Memory → Type 0
 IsPartOf tenant memory = (tenant < memory.parts) × (memory.part ≡ PART)
 
--- each range that was requested lies in the tenant's part, and no step was counted
+-- from the trace `old` to `new`, each address range that was added lies in the tenant's part, and
+-- no step was counted
 pub record AsksInside (memory : Memory) (tenant : ℕ) (old new : Trace) : Type 0 where
   pub inside : AddsInside memory tenant old.ranges new.ranges
   pub steps : new.steps ≡ old.steps

@@ -21,15 +21,15 @@ pub fn loads_give_words()
     ensures { LoadsGiveWords }
 {}
 
-/// If the machine stores a value, its word, stored at the same address, which lies in the part, leaves words and bytes that
-/// represent the state after the store.
+/// If the machine stores a value, the address of the store lies in the part, and once the low bytes of the value's word are there, words
+/// and bytes represent the state after the store.
 pub fn stores_keep_simulation()
     ensures { StoresKeepSimulation }
 {
     arena::laws::writes_stay_inside();
 }
 
-/// If the machine has a load of bytes, the words of its arguments name bytes of the part.
+/// If the machine's load of packet bytes has a result, the words of its arguments name bytes of the part, to which it writes.
 pub fn loads_name_bytes()
     ensures { LoadsNameBytes }
 {
@@ -51,7 +51,7 @@ pub fn runs_begin()
     ensures { RunsBegin }
 {}
 
-/// At the end of a run, each of its maps has the same pairs as after the machine's run.
+/// Once a run has ended on a map that is bound to it, this map has the keys and values that it has after the machine's run.
 pub fn runs_end()
     ensures { RunsEnd }
 {

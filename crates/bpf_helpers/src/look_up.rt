@@ -28,8 +28,8 @@ pub(crate) fn bound(bind: &[MapKey], word: u64) -> Option<MapKey>
     Some(bind[index as usize])
 }
 
-/// The offset, in the part of `tenant`, of `size` bytes at an address, at most `PART` bytes; `None` if they don't lie in the part. The
-/// difference of an address before the part wraps, and is greater than any offset.
+/// The offset, in the part of `tenant`, of the `size` bytes at an address; `None` if they don't lie in the part. `size` is at most `PART`.
+/// If the address is before the part, the difference wraps, and so is greater than any offset.
 #[inline(always)]
 pub(crate) fn offset_in(arena: &Arena, tenant: usize, size: usize, address: u64) -> Option<usize>
     requires part { IsPartOf tenant arena.now }
@@ -46,8 +46,8 @@ pub(crate) fn offset_in(arena: &Arena, tenant: usize, size: usize, address: u64)
     Some(at as usize)
 }
 
-/// The offset, in the part of `tenant`, of `size` bytes at an address, whose range is appended to the trace; `None`, and nothing is
-/// appended, if they don't lie in the part.
+/// The offset, in the part of `tenant`, of the `size` bytes at an address; their range is appended to the trace. `None` if they don't lie
+/// in the part; then nothing is appended.
 #[inline(always)]
 pub(crate) fn traced_offset(
     arena: &Arena,
@@ -135,8 +135,8 @@ pub(crate) fn look_up(
 }
 
 /// bpf_map_lookup_elem (1) for a run that knows which of its maps are arrays, with the result of `look_up`. `map` is the position of the
-/// map, counted from 1, and `key` the address of the key. The key of an array is found by `arrays`, without the map; a map without elements
-/// there is a hash map, and is read by `look_up`. `arrays` has `MAPS` entries, so one for each map of the run (`few`).
+/// map, counted from 1, and `key` the address of the key. The key of an array is found by `arrays`, without the map; a map whose count is 0
+/// there is a hash map, and is read by `look_up`. Each list of `arrays` has `MAPS` words, so one for each map of the run (`few`).
 #[inline(always)]
 pub(crate) fn look_up_among(
     arrays: Arrays<'_>,

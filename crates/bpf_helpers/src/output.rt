@@ -36,7 +36,7 @@ pub(crate) fn write_zeros(arena: &mut Arena, tenant: usize, at: usize, count: us
     part[at..at + count].fill(0);
 }
 
-/// Writes bytes at an address. The caller knows that their range lies in the part of `tenant` (`named`).
+/// Writes bytes at an address, and appends their range to the trace. The caller knows that they lie in the part of `tenant` (`named`).
 #[inline(always)]
 fn write_named(arena: &mut Arena, tenant: usize, address: u64, bytes: &[u8], trace: &mut Trace)
     requires part { IsPartOf tenant arena.old }
@@ -84,9 +84,9 @@ pub(crate) fn load_bytes_inside(
     }
 }
 
-/// bpf_skb_load_bytes (26): copies `count` bytes of the packet at `offset` to the address `to`, and returns 0. If they don't
-/// lie in the packet, it writes `count` zeros and returns EFAULT, negated. If the `count` bytes at `to` don't lie in the
-/// tenant's part, it returns EFAULT, negated, and writes nothing.
+/// bpf_skb_load_bytes (26): copies `count` bytes of the packet at `offset` to the address `to`, and returns 0. Of `offset` the low 32 bits
+/// are read, as a signed number. If the packet doesn't have these bytes, it writes `count` zeros and returns EFAULT, negated. If the
+/// `count` bytes at `to` don't lie in the tenant's part, it returns EFAULT, negated, and writes nothing.
 #[inline(always)]
 pub(crate) fn load_bytes(
     offset: u64,

@@ -45,7 +45,7 @@ fn errno_of(fault: MapFault) -> u64
     }
 }
 
-/// What a helper returns for an error: its number, negated, modulo 2^64.
+/// What a helper returns for an error: the number that errno(3) gives it, negated, modulo 2^64.
 pub(crate) fn refusal(fault: MapFault) -> u64
     ensures { result ≡ negative (errno fault) }
 {

@@ -22,7 +22,8 @@ live_of e = record { keys = keys_in e.map; start = e.start; stride = e.stride; h
 abbrev pub live_maps_of : List (Option StoredMap) → List (Option LiveMap)
 live_maps_of xs = map (λ o. option_map live_of o) xs
 
--- the map of each handle: that under the handle's key in the slab, if it has one
+-- the stored map of each handle: `keys` has, by handle, the key under which the slab `maps` has it,
+-- or None if the handle has no map
 abbrev pub by_handle : List (Option ℕ) → Slab StoredMap → List (Option StoredMap)
 by_handle keys maps = map (λ key. option_and_then (get maps) key) keys
 
@@ -59,8 +60,8 @@ closed_up end size e = record {
 }
 
 -- a map's area lies in the `bytes` bytes after the stack and the context, its values begin at
--- multiples of eight, its elements are those of its shape, it has a reference, and no two of its
--- keys have the same element
+-- multiples of eight, its field `elements` is the number of its shape's `Elements`, it has a
+-- reference, and no two of its keys have the same element
 pub record IsInItsArea (bytes : ℕ) (e : StoredMap) : Type 0 where
   pub behind : STACK_AND_CONTEXT ≤ e.start
   pub within : e.start + area_of (live_of e) ≤ STACK_AND_CONTEXT + bytes
@@ -70,9 +71,9 @@ pub record IsInItsArea (bytes : ℕ) (e : StoredMap) : Type 0 where
   pub held : 1 ≤ e.holds
   pub sound : IsSound (keys_in e.map)
 
--- the keys are those of the slab, which has room for `most_maps` maps; the areas don't overlap, and
--- lie after the stack and the context in as many bytes as they take together, `bytes`: at most
--- `most_bytes`, a multiple of eight
+-- each handle with a map has the map's key in the slab, and the slab has room for `most_maps` maps.
+-- The areas don't overlap, and lie after the stack and the context in exactly `bytes` bytes, the
+-- sum of their sizes, which is at most `most_bytes` and a multiple of eight
 pub record IsWellFormedMaps (a : Inside) : Type 0 where
   pub keys : AreKeys a.keys a.maps
   pub room : most_maps ≤ a.maps.capacity

@@ -9,8 +9,9 @@ use Rattle.bpf_maps.specs.Live.{LiveMaps, live_at, keys_at, shape_at, offset_at,
 
 -- ---- a value is written
 
--- `bytes` can be written as the value of element p of the live map of handle k: they have its size,
--- and the part and the live maps are as the laws of writes require
+-- the premises of `ValuesAreWritten`: the map of handle k is live and has element p, `bytes` have
+-- the size of its values, the part has `PART` bytes, the values of live maps lie in it and don't
+-- overlap, and no two keys of a map have the same element
 pub record IsValueAt (part : List ℕ) (t : LiveMaps) (k p : ℕ) (bytes : List ℕ) : Type 0 where
   pub whole : length part ≡ PART
   pub laid : IsLaid t
@@ -85,8 +86,8 @@ pub record RefinesValues (part : List ℕ) (old new : LiveMaps) (k : ℕ) : Type
       (keys_at new k)
       → map_in (with_value part new k p bytes) new k ≡ updated_in part old k key bytes flags
 
--- if a change keeps the areas, each map that is live after it changes as a map of values in the way
--- in which its table of keys does (`RefinesValues`)
+-- if a change keeps the areas, each map that is live after it, seen as keys with values, changes as
+-- its table of keys does (`RefinesValues`)
 abbrev pub LiveMapsRefineValues : Type 0
 LiveMapsRefineValues =
     (part : List ℕ) (old new : LiveMaps) (k : ℕ)

@@ -10,13 +10,14 @@ use Rattle.tagged_model.specs.declared.fault.MapFault.{MapFault}
 use Rattle.tagged_model.specs.declared.fault.MapFault.TheVariants.{NoEntry}
 use Rattle.tagged_model.specs.Table.{Table, Verdict, Refused, Present, New, with_key, without, new_entries}
 
--- the keys in order, each with its element, and the elements that are kept apart
+-- a map's shape, its keys in order, each with its element, and the elements that are kept apart
 pub record KeyTable : Type 0 where
   pub shape : MapShape
   pub entries : List (List ℕ × ℕ)
   pub kept : List ℕ
 
--- the table as a map; each element that is kept apart counts as a deleted object
+-- the table of keys as a map (`Table` of `tagged_model`), of which the objects are the elements;
+-- each element that is kept apart counts as a deleted object
 abbrev pub table_of : KeyTable → Table ℕ
 table_of t = record { shape = t.shape; entries = t.entries; deleted = length t.kept }
 
@@ -60,7 +61,7 @@ with_entry t key p = record { shape = t.shape; entries = with_key key p t.entrie
 
 -- which result a claim of an element for a key may have, by the verdict on the update, with the
 -- table before and after it. A refusal and a present key change nothing. A new key gets any element
--- that is not in use, and its claim has no fault: of a full map the verdict is `Refused`
+-- that is not in use; its claim can't fail, since the verdict on a full map is `Refused`
 abbrev pub Claims : Verdict ℕ → List ℕ → KeyTable → Result ℕ MapFault → KeyTable → Type 0
 Claims (Refused fault) key old answer new = (answer ≡ Err fault) × (new ≡ old)
 Claims (Present p) key old answer new = (answer ≡ Ok p) × (new ≡ old)
@@ -75,8 +76,9 @@ with_kept t key p = record {
   kept = t.kept ++ p ∷ [];
 }
 
--- which result the deletion of a key has, with the table before and after it, given its verdict
--- (`removal`): its fault, and nothing changes, or the element of the key, which is kept apart
+-- the result of the deletion of a key, with the table before and after it, by what `removal` gives.
+-- If that is a fault, the fault is returned and nothing changes; if it is the key's element p, the
+-- key is removed, and p is kept apart
 abbrev pub Removes : Result ℕ MapFault
     → List ℕ
     → KeyTable

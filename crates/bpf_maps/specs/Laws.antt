@@ -11,7 +11,8 @@ use Rattle.bpf_maps.specs.Live.{LiveMaps, live_at, offset_at, SameAreas}
 
 -- ---- a table of keys
 
--- the changes of a table of keys are those of a map of elements
+-- a new table of keys, a new key in it, a deletion and the end of a run are those of a map (`Table`
+-- of `tagged_model`) of which the objects are elements
 pub record CallsAreThoseOfAMap : Type 0 where
   pub new : (shape : MapShape) → table_of (new_keys shape) ≡ map.new_table (λ i. i) shape
   pub update : (t : KeyTable) (key : List ℕ) (element : ℕ)
@@ -30,7 +31,8 @@ WritesRefineValues B =
     → map.with_values (λ p. if p == element then bytes else value p) (table_of t)
     ≡ map.with_object (map.with_values value (table_of t)) key bytes
 
--- values f and g that are equal at each element of a key give equal maps of values
+-- if f and g give each element that a key has the same value, the maps of values that they make are
+-- equal
 abbrev pub ValuesAgree : Type 0 → Type 0
 ValuesAgree B =
     (f g : ℕ → B) (t : KeyTable) → ((p : ℕ) → 1 ≤ occurrences p (values_of t.entries) → f p ≡ g p)

@@ -70,25 +70,27 @@ AreSound t = (k : ℕ) → IsSome (live_at t k) → IsSound (keys_at t k)
 
 -- ---- the addresses of the values
 
--- the offset in the part of the value of element p of a live map
+-- the offset of element p's value in the tenant's part, for a live map
 unfoldable pub offset : LiveMap → ℕ → ℕ
 offset l p = l.start + p * l.stride
 
--- the offset in the part of the value of element p of the map of handle k; 0 if it has no map
+-- the offset of element p's value in the tenant's part, for the map of handle k; 0 if the handle
+-- has no map
 abbrev pub offset_at : LiveMaps → ℕ → ℕ → ℕ
 offset_at t k p = offset (live_or (live_at t k)) p
 
--- the address of the value of an element of the map of handle k, modulo 2 ^ 64, in a part that
+-- the address of an element's value, modulo 2 ^ 64, for the map of handle k, if the tenant's part
 -- begins at address `part`; null (0) if no element is given
 abbrev pub value_address : ℕ → LiveMaps → ℕ → Option ℕ → ℕ
 value_address part t k None = 0
 value_address part t k (Some p) = (part + offset_at t k p) % 2 ^ 64
 
--- the bytes in the part of the value of element p of the map of handle k, if the handle has a map
+-- the bytes that element p's value has in the part, for the map of handle k, if the handle has one
 abbrev pub value_in : List ℕ → LiveMaps → ℕ → ℕ → List ℕ
 value_in part t k p = take (shape_at t k).value_size (drop (offset_at t k p) part)
 
--- the map of handle k, with the bytes of the values in the part; without keys if it has no map
+-- the map of handle k: its keys, each with the bytes that its value has in the part; no keys if the
+-- handle has no map
 abbrev pub map_in : List ℕ → LiveMaps → ℕ → Table (List ℕ)
 map_in part t k = with_values (value_in part t k) (table_of (keys_at t k))
 
@@ -160,13 +162,13 @@ area_by shape = area shape.value_size shape.max_entries
 abbrev pub area_of : LiveMap → ℕ
 area_of l = area_by l.keys.shape
 
--- the number of bytes of all areas
+-- the number of bytes that the areas of all live maps take together
 abbrev pub areas : LiveMaps → ℕ
 areas t = total area_of t.maps
 
 -- ---- the addresses of the areas
 
--- the offset in the part of the area of the map of handle k; 0 if the handle has no map
+-- the offset of an area in the tenant's part, for the map of handle k; 0 if the handle has no map
 abbrev pub start_at : LiveMaps → ℕ → ℕ
 start_at t k = (live_or (live_at t k)).start
 
@@ -195,7 +197,8 @@ pub record IsPacked (t : LiveMaps) : Type 0 where
 abbrev pub start_without : ℕ → ℕ → ℕ → ℕ
 start_without end size start = if nat_le end start then start - size else start
 
--- a live map once the area of the map `gone` is removed: only its start may be lower
+-- the live map l once the area of the map `gone` is removed: if l came after it, l begins lower by
+-- the size of that area; nothing else changes
 abbrev pub map_without : LiveMap → LiveMap → LiveMap
 map_without gone l = record {
   keys = l.keys;

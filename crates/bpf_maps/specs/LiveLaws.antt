@@ -13,8 +13,8 @@ use Rattle.bpf_maps.specs.Elements.{elements_of, elements_at}
 use Rattle.bpf_maps.specs.Sum.{weight, total}
 use Rattle.bpf_maps.specs.Live.{LiveMap, LiveMaps, live_at, live_or, shape_at, free_handle, offset, offset_at, LiesInPart, IsLaid, SameAreas, OnlyKeysChange}
 
--- if f gives equal numbers at each index of two lists, 0 if no element is present there, the sums
--- of the lists are equal
+-- if f gives equal numbers at each index of two lists of options, 0 for None and after the end, the
+-- sums of these numbers over the lists are equal
 pub total_same : {A : Type 0} (f : A → ℕ) (xs ys : List (Option A))
     → ((j : ℕ) → weight f (get_or ys j None) ≡ weight f (get_or xs j None))
     → total f ys ≡ total f xs
@@ -27,7 +27,8 @@ total_same f (x ∷ xs) [] h =
 total_same f (x ∷ xs) (y ∷ ys) h =
     ap₂ (λ (m n : ℕ). m + n) (h 0) (total_same f xs ys (λ j. h (suc j)))
 
--- the sum over the first n + 1 elements is that over the first n, and the number of the next one
+-- the sum over the first n + 1 options of a list is that over the first n, plus the number that f
+-- gives at index n, 0 for None
 total_after : {A : Type 0} (f : A → ℕ) (n : ℕ) (xs : List (Option A))
     → n < length xs
     → total f (take (suc n) xs) ≡ total f (take n xs) + weight f (get_or xs n None)
@@ -37,8 +38,8 @@ total_after f zero (x ∷ xs) within = omega arith
 total_after f (suc n) (x ∷ xs) within =
     let rest = total_after f n xs (omega arith) in omega arith
 
--- the sum over the first n + 1 elements is that over the first n, and the number of the next one:
--- `total_after`, with n + 1 written for the successor
+-- the sum over the first n + 1 options of a list is that over the first n, plus the number that f
+-- gives at index n, 0 for None: `total_after`, with n + 1 written for the successor
 pub total_next : {A : Type 0} (f : A → ℕ) (n : ℕ) (xs : List (Option A))
     → n < length xs
     → total f (take (n + 1) xs) ≡ total f (take n xs) + weight f (get_or xs n None)
@@ -46,15 +47,15 @@ total_next f n xs within =
     let next : n + 1 ≡ suc n = omega arith in
     ap (λ (k : ℕ). total f (take k xs)) next ∙ total_after f n xs within
 
--- `slots` is a list that lacks only the element of xs at k: it has one element fewer, and is
--- unchanged at each other index
+-- `slots` is the list xs, which has Some at index k, with None there instead: one option less is
+-- Some, and at each other index the lists are equal
 record IsWithout {A : Type 0} (k : ℕ) (xs : List (Option A)) : Type 0 where
   slots : List (Option A)
   fewer : total (λ x. 1) slots + 1 ≡ total (λ x. 1) xs
   others : (j : ℕ) → j ≢ k → get_or slots j None ≡ get_or xs j None
 
--- if a list has an element at k, there is a list that lacks only this one (`IsWithout`); for the
--- induction of `few_slots`
+-- if a list of options has Some at index k, there is the list with None there, and no other change
+-- (`IsWithout`); for the induction of `few_slots`
 without_position : {A : Type 0} (k : ℕ) (xs : List (Option A))
     → IsSome (get_or xs k None)
     → IsWithout k xs
@@ -84,8 +85,8 @@ without_position (suc k) (x ∷ xs) some =
     later rest zero h = refl
     later rest (suc j) h = rest.others j (λ e. h (omega arith))
 
--- if a list has an element at each of n different indices, those that `at` gives, it has n elements
--- or more
+-- if a list of options has Some at each of n different indices, those that `at` gives, at least n
+-- of its options are Some
 few_slots : {A : Type 0} (n : ℕ) (at : ℕ → ℕ) (xs : List (Option A))
     → ((i : ℕ) → i < n → IsSome (get_or xs (at i) None))
     → ((i j : ℕ) → i < n → j < n → at i ≡ at j → i ≡ j)
@@ -105,14 +106,14 @@ few_slots (suc m) at xs used apart =
     (λ i j lt less e. apart i j (omega arith) (omega arith) e) in
     omega arith
 
--- at most as many elements of a list are present as it is long
+-- at most as many options of a list are Some as it is long
 slots_most : {A : Type 0} (xs : List (Option A)) → total (λ x. 1) xs ≤ length xs
 unfolding total
 slots_most [] = omega arith
 slots_most (None ∷ xs) = let rest = slots_most xs in omega arith
 slots_most (Some x ∷ xs) = let rest = slots_most xs in omega arith
 
--- n different handles of live maps are at most as many as the handles of a tenant
+-- if n different handles have live maps, n is at most the number of handles of a tenant
 pub few_handles : (n : ℕ) (handle : ℕ → ℕ) (tenant : LiveMaps)
     → ((i : ℕ) → i < n → IsSome (live_at tenant (handle i)))
     → ((i j : ℕ) → i < n → j < n → handle i ≡ handle j → i ≡ j)
@@ -121,7 +122,7 @@ few_handles n handle tenant live apart =
     let few = few_slots n handle tenant.maps live apart in
     let most = slots_most tenant.maps in omega arith
 
--- the index of an element that is present is less than the length of the list
+-- if a list of options has Some at index k, k is less than the length of the list
 some_within : {A : Type 0} (k : ℕ) (xs : List (Option A))
     → IsSome (get_or xs k None)
     → k < length xs
@@ -135,8 +136,8 @@ live_within k tenant live = some_within k tenant.maps live
 
 -- ---- the lowest free handle
 
--- if two lists have one length, and elements at the same indices, they have the same first index
--- without an element; if there is none, `position_or_len` is the length. For `same_lowest`
+-- if two lists of options have one length, and Some at the same indices, the first index with None
+-- is equal in both; if each index has Some, `position_or_len` is the length. For `same_lowest`
 same_front : {A B : Type 0} (xs : List (Option A)) (ys : List (Option B))
     → length xs ≡ length ys
     → ((k : ℕ) → is_some (get_or xs k None) ≡ is_some (get_or ys k None))
@@ -150,8 +151,8 @@ same_front (Some x ∷ xs) (None ∷ ys) long same = absurd (true≢false (same 
 same_front (Some x ∷ xs) (Some y ∷ ys) long same =
     ap (λ (n : ℕ). 1 + n) (same_front xs ys (omega arith) (λ k. same (suc k)))
 
--- if two lists have one length, and elements at the same indices, the lowest index without an
--- element is equal in both; None if each index has one
+-- if two lists of options have one length, and Some at the same indices, the lowest index with None
+-- is equal in both; `position` is None if there is no such index
 pub same_lowest : {A B : Type 0} (xs : List (Option A)) (ys : List (Option B))
     → length xs ≡ length ys
     → ((k : ℕ) → is_some (get_or xs k None) ≡ is_some (get_or ys k None))
@@ -166,7 +167,7 @@ pub same_free_handle : (old new : LiveMaps)
     → free_handle new ≡ free_handle old
 same_free_handle old new long same = same_lowest new.maps old.maps long same
 
--- the first index without an element is no higher than any index without one
+-- the first index with None in a list of options is no higher than any index with None
 front_most : {A : Type 0} (k : ℕ) (xs : List (Option A))
     → k < length xs
     → get_or xs k None ≡ None

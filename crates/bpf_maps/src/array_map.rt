@@ -160,7 +160,7 @@ impl ArrayMap {
     }
 }
 
-/// The index that follows an element; 0 if no element is given. The result has 64 bits, since the element may be any number of 32.
+/// The index that follows an element; 0 if no element is given. The result has 64 bits, since the element may be any number of 32 bits.
 fn index_after_element(element: Option<u32>) -> u64
     ensures { result ≡ option_map_or (λ p. p + 1) element 0 }
 {

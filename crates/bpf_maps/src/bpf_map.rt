@@ -34,9 +34,9 @@ impl BpfMap {
         }
     }
 
-    /// Makes a map of this shape. A hash map gets the memory of one that is no longer live, of `spares`, if one has the same size of keys
-    /// and as many entries. Else it takes new memory, for which spare maps are freed if they and the live hash maps (`live`) would be too
-    /// many (`SpareMaps`). An array needs none of this. `AllocError`: out of memory for a hash map.
+    /// Makes a map of this shape. A hash map gets the memory of a map of `spares`, which are no longer live, if one has the same key size
+    /// and `max_entries`. Else it takes new memory, and spare maps are freed first if they, the live hash maps (`live`) and the new one are
+    /// together too many (`SpareMaps` has the bounds). An array needs none of this. `AllocError`: out of memory for a hash map.
     pub(crate) fn with_spares(
         alloc: Global,
         shape: MapShape,

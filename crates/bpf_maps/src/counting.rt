@@ -12,7 +12,7 @@ use crate::spare_maps::{LiveHashMaps, NO_HASH_MAPS};
 use tagged_model::MapKind;
 
 impl Maps {
-    /// How many keys a map has: at most 4,096 (`MOST_ENTRIES` of `tagged_model`), and 0 if no map has this handle.
+    /// How many keys a map has: at most `MOST_ENTRIES` of `tagged_model`, and 0 if no map has this handle.
     pub fn key_count(&self, map: MapKey) -> u32
         ensures count { result ≡ length (keys_at self.now map).entries }
         ensures few { result ≤ most_entries }
@@ -39,7 +39,7 @@ impl Maps {
         count
     }
 
-    /// How many keys all live maps have together: at most 16 * 4,096, `MAPS` times `MOST_ENTRIES` of `tagged_model`.
+    /// How many keys all live maps have together: at most `MAPS` times `MOST_ENTRIES` of `tagged_model`.
     pub fn key_sum(&self) -> u32
         ensures sum { result ≡ total (λ l. length l.keys.entries) self.now.maps }
         ensures few { result ≤ most_maps * most_entries }
@@ -52,8 +52,8 @@ impl Maps {
         sum
     }
 
-    /// The live hash maps, for the creation of a map of this kind: a new hash map frees spare maps if they and the live ones are too many
-    /// (`SpareMaps`). An array takes no memory and frees none, so for an array none are counted.
+    /// How many hash maps are live, and the sum of their `max_entries`, for the creation of a map of this kind. By both numbers a new hash
+    /// map decides whether spare maps are freed (`SpareMaps`). An array takes no memory, so for it both are 0.
     pub(crate) fn live_hash_maps_for(&self, kind: MapKind) -> LiveHashMaps {
         match kind {
             MapKind::Array => NO_HASH_MAPS,
@@ -61,7 +61,7 @@ impl Maps {
         }
     }
 
-    /// The hash maps that are live: how many they are, and how many entries they can have.
+    /// The hash maps that are live: how many they are, and the sum of their `max_entries`.
     fn live_hash_maps(&self) -> LiveHashMaps {
         self.maps_are_laid();
         let mut live = NO_HASH_MAPS;

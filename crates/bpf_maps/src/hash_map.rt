@@ -57,15 +57,14 @@ impl HashMap {
         })
     }
 
-    /// Whether this shape has the size of the map's keys and its `max_entries`: then a new map of the shape can have this map's memory.
+    /// Whether this map has the key size and the `max_entries` of the shape: then a new map of the shape can have this map's memory.
     pub(crate) fn is_like(&self, shape: MapShape) -> bool
         ensures { IsTrue result → IsLike shape (Some self.now) }
     {
         self.shape.key_size == shape.key_size && self.shape.max_entries == shape.max_entries
     }
 
-    /// Makes this a new map, without keys, of another shape, which has the same size of keys and as many entries (`is_like`). Takes no
-    /// memory.
+    /// Makes this a new map, without keys, of another shape, which has the same key size and `max_entries` (`is_like`). Takes no memory.
     pub(crate) fn renew(&mut self, shape: MapShape)
         requires kind { shape.kind ≡ Hash }
         requires key_size { shape.key_size ≡ self.old.shape.key_size }
@@ -119,9 +118,9 @@ impl HashMap {
         self.index.entry_after(element)
     }
 
-    /// Claims a free element, the last of the spare ones, for an absent key, which goes to the end. `TooBig` if no element is free: each
-    /// spare one is kept apart. Then nothing has changed. The flags of the update are `ANY` or `NOEXIST`, for which the contract has 0: of
-    /// an absent key the verdict is the same. Not inlined, though the rest of an update is: a present key doesn't need it.
+    /// Adds an absent key at the end, and claims a free element for it, the last of the spare ones. `TooBig` if no element is free, since
+    /// each spare one is kept apart; then nothing has changed. The flags of the update are `ANY` or `NOEXIST`. For an absent key both have
+    /// the same verdict, so the contract has only 0 (`ANY`). Not inlined, though the rest of an update is: a present key doesn't need it.
     #[cold]
     #[inline(never)]
     #[tactic(auto, using(crate::proofs::Kept::sound))]
@@ -145,7 +144,7 @@ impl HashMap {
 impl ValueMap for HashMap {
     ghost keys = { λ m. m };
 
-    // A function of its own in the machine code, which ends in a jump to that for the kind of the index (`get` of `KeyIndex`).
+    // A function of its own in the machine code, which ends in a jump to the `get` of the index in which the keys are (`KeyIndex`).
     #[inline(never)]
     fn find(&self, key: &[u8]) -> Option<u32> {
         self.elements_are_distinct();
@@ -211,7 +210,7 @@ fn all_elements(alloc: Global, count: u32) -> Result<Vec<u32>, AllocError>
     Ok(all)
 }
 
-/// Fills the list anew with all elements less than `count`, each once. The list has room for them.
+/// Fills the list anew with all elements less than `count`, each once. The list has room for them, so this takes no memory.
 fn put_elements(all: &mut Vec<u32>, count: u32)
     requires { count ≤ vec_capacity all.old }
     ensures once { (p : ℕ) → occurrences p all.new.items ≡ (if nat_lt p count then 1 else 0) }

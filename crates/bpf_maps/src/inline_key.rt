@@ -9,7 +9,7 @@ use ordered_keys::Equivalent;
 use std::hash::{Hash, Hasher};
 use std::marker::Model;
 
-/// A key of at most `N` bytes, which are in the value itself. Contracts see them.
+/// A key of at most `N` bytes, kept in an array of `N` bytes. Contracts see the bytes of the key.
 #[derive(Clone, Copy)]
 pub struct InlineKey<const N: usize> {
     // The first `size` are those of the key, and the others are 0.

@@ -26,8 +26,8 @@ pub enum KeyIndex {
 }
 
 impl KeyIndex {
-    /// Makes an index without keys, for keys of `key_size` bytes, which a shape bounds by 512, and elements less than `bound`, the map's
-    /// `max_entries`. Allocates memory for `bound` keys, which are hashed with the seed. `AllocError`: out of memory.
+    /// Makes an index without keys, for keys of `key_size` bytes, in a shape at most `LONGEST_LONG`, and elements less than `bound`, the
+    /// map's `max_entries`. Allocates memory for `bound` keys, which are hashed with the seed. `AllocError`: out of memory.
     pub(crate) fn new(
         alloc: Global,
         key_size: usize,

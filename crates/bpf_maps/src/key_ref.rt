@@ -36,7 +36,7 @@ impl ShortKey {
         }
     }
 
-    /// The bytes of the key, without those after it.
+    /// The bytes of the key, without the other bytes of the array.
     fn bytes(&self) -> &[u8]
         ensures { result.now ≡ self.now }
     {

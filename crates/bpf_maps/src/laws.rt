@@ -39,7 +39,8 @@ pub fn sizes_fit_in_parts()
     ensures { SizesFitInParts }
 {}
 
-/// After the bytes of a value are written at the element of a key, they are the key's value; no other key of a live map changes.
+/// Bytes that are written as the value of an element of a live map are its value, and that of the key that has the element, if one has. No
+/// other value of a live map changes, nor do the stack and the context.
 pub fn values_are_written()
     ensures { ValuesAreWritten }
 {}

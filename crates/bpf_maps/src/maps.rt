@@ -79,8 +79,8 @@ impl Model for Maps {
 }
 
 impl Maps {
-    /// No live maps; the keys of those to come are hashed with this seed. Allocates room for `MAPS` of them. `AllocError`: out of
-    /// memory.
+    /// Makes `Maps` without a live map. The keys of its hash maps will be hashed with this seed. Allocates room for `MAPS` maps, but not
+    /// for their keys. `AllocError`: out of memory.
     pub fn new(alloc: Global, seed: HashSeed) -> Result<Maps, AllocError>
         ensures maps { IfOk result (λ new. new.maps ≡ replicate most_maps None) }
         ensures none { IfOk result (λ maps. (k : ℕ) → live_at maps k ≡ None) }
@@ -124,7 +124,8 @@ impl Maps {
         &self.maps[key]
     }
 
-    /// The offset of the value of an element of a live map in the tenant's part, in bytes. `stored` is the map of handle `map`.
+    /// The offset of an element's value in the tenant's part, in bytes. `stored` is the live map that has the element; its handle, `map`,
+    /// is only for the contract.
     #[inline(always)]
     fn offset_in(&self, map: MapKey, stored: &StoredMap, element: u32) -> usize
         requires stored { live_at self.now map ≡ Some (live_of stored.now) }
@@ -144,7 +145,7 @@ impl Maps {
     /// # Errors
     ///
     /// `NoSpace` if no handle is free, or if the values of all maps, each rounded up to a multiple of eight bytes, would take
-    /// more than `LARGEST_SUM` bytes; else `Memory` if out of memory for a hash map. Then no map has changed.
+    /// more than `LARGEST_SUM` bytes; else `Memory` if out of memory for a hash map, which `refused` then reports. Then no map has changed.
     pub fn create(&mut self, shape: MapShape, part: &mut [u8]) -> Result<MapKey, MapFault>
         requires { length part.old ≡ PART }
         ensures created { Creates (create_fault self.old shape) self.old shape result self.new }
@@ -299,8 +300,8 @@ impl Maps {
         Some((stored.start, stored.elements))
     }
 
-    /// The offset of the value of an element of a live map in the tenant's part, in bytes. `find`, `claim` and `entry_after` return such an
-    /// element. The values of all live maps lie in the part, after the stack and the context, and don't overlap.
+    /// The offset of an element's value in the tenant's part, in bytes. The map is live, and has the element: `find`, `claim` and
+    /// `entry_after` return such elements. The values of all live maps lie in the part, after the stack and the context, and don't overlap.
     #[inline(always)]
     pub fn value_at(&self, map: MapKey, element: u32) -> usize
         requires live { IsSome (live_at self.now map) }
@@ -325,8 +326,8 @@ impl Maps {
         self.stored(map).map.find(key)
     }
 
-    /// The address of the value of a key of a live map, modulo 2^64, in a part that begins at address `part`; 0 if the map doesn't have the
-    /// key. The key has the size of the map's keys. The value lies in the part.
+    /// The address of a key's value in a live map, modulo 2^64, if the tenant's part begins at address `part`; 0 if the map doesn't have
+    /// the key. The key has the size of the map's keys. The value lies in the part.
     #[inline(always)]
     pub fn address_of(&self, map: MapKey, key: &[u8], part: u64) -> u64
         requires live { IsSome (live_at self.now map) }
@@ -417,7 +418,7 @@ impl Maps {
     }
 
     /// Writes the key of a live map that follows `key` to the start of `next`, which has room for the longest key. If `key` is empty or
-    /// absent, it is the first.
+    /// absent, the first key is written. A `key` that is not empty has the size of the map's keys.
     ///
     /// # Errors
     ///

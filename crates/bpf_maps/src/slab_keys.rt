@@ -11,7 +11,7 @@ use std::marker::Model;
 // The word for no key. No key of a slab is this number: each is less than the slab's capacity.
 const NO_KEY: usize = usize::MAX;
 
-/// The slab's key of each handle, if it has one. Contracts see a list of `MAPS` options.
+/// For each handle the key under which the slab has its map, if the handle has a map. Contracts see a list of `MAPS` options.
 #[derive(Drop)]
 pub(crate) struct SlabKeys {
     // By handle: its key, or `NO_KEY`.
@@ -37,7 +37,7 @@ impl SlabKeys {
         }
     }
 
-    /// The key of a handle; `None` if it has none.
+    /// The slab's key of a handle; `None` if the handle has none, or is `MAPS` or more.
     #[inline(always)]
     pub(crate) fn get(&self, handle: usize) -> Option<usize>
         ensures { result ≡ slice_index_or self.now handle None }
@@ -48,7 +48,7 @@ impl SlabKeys {
         }
     }
 
-    /// The key of a handle that has one.
+    /// The slab's key of a handle that has one.
     #[inline(always)]
     pub(crate) fn key(&self, handle: usize) -> usize
         requires { IsSome (slice_index_or self.now handle None) }

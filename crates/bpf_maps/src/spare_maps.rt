@@ -13,11 +13,11 @@ use seeded_hash::HashSeed;
 use std::alloc::{AllocError, Global};
 use tagged_model::MapShape;
 
-/// The most entries that a tenant's live hash maps can have together, 32,768: the value of each takes at least eight bytes of
+/// The greatest sum that the `max_entries` of a tenant's live hash maps can have: the value of each entry takes at least eight bytes of
 /// `LARGEST_SUM`.
 const MOST_ENTRIES_TOGETHER: usize = LARGEST_SUM / 8;
 
-/// The live hash maps of a tenant: how many they are, and how many entries they can have.
+/// The live hash maps of a tenant: how many they are (`maps`), and the sum of their `max_entries` (`entries`).
 #[derive(Clone, Copy)]
 pub(crate) struct LiveHashMaps {
     pub(crate) maps: usize,
@@ -31,7 +31,7 @@ pub(crate) const NO_HASH_MAPS: LiveHashMaps = LiveHashMaps {
 };
 
 impl LiveHashMaps {
-    /// These and one map more, which can have this many entries. The sums stop at the largest number, which no tenant reaches.
+    /// These and one map more, of which `entries` is the `max_entries`. The sums stop at the largest number, which no tenant reaches.
     pub(crate) fn with(self, entries: u32) -> LiveHashMaps {
         LiveHashMaps {
             maps: self.maps.saturating_add(1),
@@ -40,10 +40,11 @@ impl LiveHashMaps {
     }
 }
 
-/// Hash maps that are no longer live. With the live ones they are at most `MAPS`, with at most `MOST_ENTRIES_TOGETHER` entries, whenever a map takes
-/// memory. So a tenant takes no more memory than one whose hash maps are all live, and there is room for each map that is closed: a close
-/// frees none. A new map frees a single one, if one suffices. Otherwise those that are freed before the last one have together fewer
-/// entries than the new map, so it frees less than two of the largest maps.
+/// A tenant's hash maps that are no longer live. Whenever a map takes memory, they and the live hash maps are at most `MAPS`, and the sum
+/// of their `max_entries` is at most `MOST_ENTRIES_TOGETHER`. So a tenant takes no more memory than one whose hash maps are all live, and
+/// there is room for each map that is closed: a close frees none. A new map frees a single spare map, if one suffices. Otherwise all but
+/// the last that it frees have together less `max_entries` than the new map, so all that it frees have less than twice the largest
+/// `max_entries`.
 #[derive(Drop)]
 pub struct SpareMaps {
     maps: Vec<HashMap>,
@@ -74,9 +75,9 @@ impl SpareMaps {
         }
     }
 
-    /// Makes a hash map of this shape: of a spare one with the same size of keys and as many entries, if there is one, or of new memory,
-    /// for which spare maps are freed if they, the live hash maps (`live`) and the new one are too many. A new hash map is rare, so it is
-    /// made out of line. `AllocError`: out of memory.
+    /// Makes a hash map of this shape: of a spare map with the same key size and `max_entries`, if there is one, else of new memory, for
+    /// which spare maps are freed if they, the live hash maps (`live`) and the new one are too many (`has_room`). A new hash map is rare,
+    /// so it is made out of line. `AllocError`: out of memory.
     #[cold]
     #[inline(never)]
     pub(crate) fn hash_map(
@@ -98,7 +99,7 @@ impl SpareMaps {
         HashMap::new(alloc, shape, seed)
     }
 
-    /// The index of the first spare map with this shape's size of keys and as many entries, if there is one.
+    /// The index of the first spare map with this shape's key size and `max_entries`; `None` if there is none.
     fn position(&self, shape: MapShape) -> Option<usize>
         ensures { IfSome result (λ at. IsLike shape (slice_get self.now.maps.items at)) }
     {
@@ -110,7 +111,7 @@ impl SpareMaps {
         None
     }
 
-    /// How many entries the spare maps can have.
+    /// The sum of the `max_entries` of the spare maps.
     fn entries(&self) -> usize {
         let mut sum: usize = 0;
         for at in 0..self.maps.len() {
@@ -119,20 +120,21 @@ impl SpareMaps {
         sum
     }
 
-    /// Whether the spare maps and these live ones are together at most `MAPS`, with at most `MOST_ENTRIES_TOGETHER` entries.
+    /// Whether the spare maps and these live ones are together at most `MAPS`, and the sum of their `max_entries` is at most
+    /// `MOST_ENTRIES_TOGETHER`.
     fn has_room(&self, live: LiveHashMaps) -> bool {
         self.maps.len().saturating_add(live.maps) <= MAPS
             && self.entries().saturating_add(live.entries) <= MOST_ENTRIES_TOGETHER
     }
 
-    /// By how many the entries of the spare maps and of these live ones exceed `MOST_ENTRIES_TOGETHER`; 0 if they do not.
+    /// By how much the sum of the `max_entries` of the spare maps and of these live ones exceeds `MOST_ENTRIES_TOGETHER`; 0 if it does not.
     fn excess(&self, live: LiveHashMaps) -> usize {
         let entries = self.entries().saturating_add(live.entries);
         entries.saturating_sub(MOST_ENTRIES_TOGETHER)
     }
 
-    /// Frees spare maps until the others and these, the live ones and the new one, are few enough (`has_room`). A turn frees at most one,
-    /// and once a turn frees none, no later one does.
+    /// Frees spare maps until those that are left, with the maps that `live` counts, the live ones and the new one, are few enough
+    /// (`has_room`). Each turn of the loop frees at most one map, and once a turn frees none, no later turn does.
     fn make_room(&mut self, live: LiveHashMaps) {
         for _ in 0..self.maps.len() {
             if !self.maps.is_empty() && !self.has_room(live) {
@@ -142,8 +144,9 @@ impl SpareMaps {
         }
     }
 
-    /// The index of the spare map to free if `excess` entries are too many: of those that can have so many, the one with the least memory;
-    /// if none can, the one with the most entries. At 0 only the number of maps is too large, and each can. There is a spare map.
+    /// The index of the spare map to free if the sum of the `max_entries` of all maps is too large by `excess`: of the spare maps whose
+    /// `max_entries` is at least `excess`, the one whose keys take the least memory; if there is none, the one with the greatest
+    /// `max_entries`. If `excess` is 0, only the number of maps is too large. The caller has found that there is a spare map.
     fn next_to_free(&self, excess: usize) -> usize
         requires { 0 < vec_len self.now.maps }
         ensures within { result < vec_len self.now.maps }
@@ -160,7 +163,9 @@ impl SpareMaps {
     }
 }
 
-/// Whether a map of `shape` is freed rather than one of `other`, if `excess` entries are too many, by the rule of `next_to_free`.
+/// Whether a map of `shape` is freed rather than one of `other`, if the sum of all `max_entries` is too large by `excess`. If both have a
+/// `max_entries` of `excess` or more, the one is freed whose keys take less memory, else the one with the greater `max_entries`. `false` if
+/// they are equal in that.
 fn is_freed_before(shape: MapShape, other: MapShape, excess: usize) -> bool
     ensures freed { result ≡ true → excess ≤ other.max_entries → excess ≤ shape.max_entries }
     ensures stays { result ≡ false → excess ≤ shape.max_entries → excess ≤ other.max_entries }

@@ -22,7 +22,8 @@ pub(crate) struct StoredMap {
 }
 
 impl StoredMap {
-    /// Lowers the start of the area by `size` if the area begins at `end` or after it: an area of `size` bytes up to `end` is gone.
+    /// Lowers the start of the area by `size` if the area begins at offset `end` or after it: the area of another map, the `size` bytes
+    /// before `end`, is gone.
     fn close_up(&mut self, end: usize, size: usize)
         requires { size ≤ end }
         ensures { self.new ≡ closed_up end size self.old }
@@ -33,8 +34,8 @@ impl StoredMap {
     }
 }
 
-/// Lowers the start of the area of each map by `size` if the area begins at `end` or after it: an area of `size` bytes up to `end` is gone.
-/// `keys` has the slab's key of each map, by handle.
+/// Lowers the start of the area of each map by `size` if the area begins at offset `end` or after it: the area of a freed map, the `size`
+/// bytes before `end`, is gone. `keys` has the slab's key of each map, by handle.
 pub(crate) fn close_gap(keys: &SlabKeys, maps: &mut Slab<StoredMap>, end: usize, size: usize)
     requires size { size ≤ end }
     requires keys { AreKeys keys.now maps.old }

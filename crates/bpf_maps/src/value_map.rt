@@ -71,8 +71,8 @@ pub trait ValueMap {
             length (key_bytes given) ≡ (keys self.now).shape.key_size) }
         ensures short { IfSome result (λ given. length (key_bytes given) ≤ KEY_ROOM) };
 
-    /// Writes the key that follows `key` to the start of `next`, which has room for the longest key. If `key` is empty or absent, it is the
-    /// first.
+    /// Writes the key that follows `key` to the start of `next`, which has room for the longest key. If `key` is empty or absent, the first
+    /// key is written. A `key` that is not empty has the size of the map's keys.
     ///
     /// # Errors
     ///

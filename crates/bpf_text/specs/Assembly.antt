@@ -57,8 +57,8 @@ is_known lines form name = not (names_label form) || is_some (label_line name li
 abbrev pub is_twice : List (Option Line) → ℕ → List ℕ → Bool
 is_twice lines i name = nat_lt (unwrap_or (label_line name lines) i) i
 
--- `slots` more slots go past the most that a program may have, and the `before` slots before them
--- do not: so at most one line of a text does this
+-- whether `slots` more slots go past the most that a program may have, and the `before` slots
+-- before them do not: so at most one line of a text does this
 abbrev pub passes : ℕ → ℕ → Bool
 passes before slots = nat_le before most_slots && nat_lt most_slots (before + slots)
 
@@ -76,8 +76,8 @@ line_fault lines i before (Some (code form name)) =
     Some UnknownLabel) else
     Some Range
 
--- the fault of line i, counted from 0, which is given if there is one; `None` if no line has this
--- index, or the line has no fault
+-- the fault of line i, counted from 0, given the line, or None if no line has this index; `None` if
+-- there is no fault
 abbrev pub line_fault_of : List (Option Line) → ℕ → Option (Option Line) → Option TextFaultKind
 line_fault_of lines i None = None
 line_fault_of lines i (Some line) = line_fault lines i (slots_on (take i lines)) line
@@ -103,7 +103,7 @@ forms_from all slot (Some (label n) ∷ lines) = forms_from all slot lines
 forms_from all slot (Some (code form n) ∷ lines) =
     resolved (distance all slot n) form ∷ forms_from all (slot + form_slots form) lines
 
--- the second list has the readings of the lines of the first, in order, and as many
+-- the second list has one reading for each line of the first, in order
 abbrev pub AreRead : List (List ℕ) → List (Option Line) → Type 0
 AreRead [] [] = Unit {0}
 AreRead (bytes ∷ more) (line ∷ lines) = ReadAs bytes line × AreRead more lines

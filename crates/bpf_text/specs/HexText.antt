@@ -51,8 +51,8 @@ hex_fault_of before (Some line) = hex_fault before (hex_line line)
 unfoldable pub hex_fault_at : List (List ℕ) → ℕ → Option TextFaultKind
 hex_fault_at lines i = hex_fault_of (length (hex_bytes (take i lines))) (slice_get lines i)
 
--- the text has the bytes of these slots, at least one and, since no line is too long, at most as
--- many as a program may have
+-- no line of the text has a fault, and the lines have these bytes, of at least one slot; since no
+-- line is too long, they have at most as many slots as a program may have
 pub record IsHexText (text bytes : List ℕ) : Type 0 where
   pub none : (i : ℕ) → hex_fault_at (text_lines text) i ≡ None
   pub bytes_are : bytes ≡ hex_bytes (text_lines text)

@@ -69,7 +69,7 @@ fn defined<'a>(line: &Option<Line<'a>>) -> Option<&'a str>
 }
 
 /// Enters the label that a line defines into `labels`, with `definition`, the line's index and the slots before it. Nothing is entered if
-/// the line defines no label, or one that an earlier line defines: the first definition counts.
+/// the line defines no label, or one that an earlier line defines: the first definition counts. Fails only if memory is refused.
 fn note<'a>(
     labels: &mut HashMap<&'a str, Definition>,
     line: &Option<Line<'a>>,
@@ -88,7 +88,7 @@ fn note<'a>(
     Ok(())
 }
 
-/// For each label, the index of the first line that defines it, and the number of slots before this line.
+/// For each label, the index of the first line that defines it, and the number of slots before it. Fails only if memory is refused.
 fn labels<'a>(
     alloc: Global,
     lines: &[Option<Line<'a>>],
@@ -125,9 +125,9 @@ fn distance(label: Option<Definition>, slot: usize) -> i16
     to as i16 - (slot as i16 + 1)
 }
 
-/// The instruction of a form that a line has, so that `Form::insn` is `None` only for a number out of range; or the form's fault, of the
-/// lowest kind that it has, as the kinds are tested from the lowest on. `label` is the definition of the label that the form names, `None`
-/// if it names none or no line defines it; `slot` is the number of slots before the form, at most `MAX_SLOTS`, as no earlier line is
+/// The instruction of a form, or the form's fault, of the lowest kind that it has: the kinds are tested from the lowest on. A line has this
+/// form, so `Form::insn` is `None` only if a number is out of range. `label` is the definition of the label that the form names, `None` if
+/// it names none or no line defines it; `slot` is the number of slots before the form, at most `MAX_SLOTS`, as no earlier line is
 /// `TooLong`.
 fn resolve(form: &Form, label: Option<Definition>, slot: usize) -> Result<Insn, TextFaultKind>
     requires form { IsForm form.now }
@@ -181,8 +181,8 @@ fn instruction(
     }
 }
 
-/// The instructions on the lines, as `read_lines` parsed them, or the fault of the first line that has one. `labels` has the first
-/// definition of each label on these lines.
+/// The instructions on the lines, as `read_lines` parsed them, or the fault of the first line that has one, or `Memory`. `labels` has the
+/// first definition of each label on these lines.
 fn instructions(
     alloc: Global,
     lines: &[Option<Line<'_>>],
@@ -212,8 +212,8 @@ fn instructions(
     Ok(insns)
 }
 
-/// The program of the instructions; the fault `Empty` if there is no instruction. They have at most `MAX_SLOTS` slots, which `instructions`
-/// has checked, so `Program::new` fails only if out of memory.
+/// The program of the instructions; the fault `Empty` if there is no instruction, or `Memory`. They have at most `MAX_SLOTS` slots, which
+/// `instructions` has checked, so `Program::new` fails only if out of memory.
 fn program(alloc: Global, insns: &[Insn]) -> Result<Program, TextFault>
     requires { slot_count insns.now ≤ MAX_SLOTS }
     ensures made { IfOk result (λ program. (program ≡ insns.now) × (0 < slot_count insns.now)) }

@@ -1,4 +1,5 @@
-//! The disassembler: programs to text.
+//! The disassembler: programs to text. Its functions fail only if out of memory, and then the text may have only the start of what they
+//! append.
 
 ghost use Rattle.std.specs.Prelude.{◌≡◌, ◌++◌, [], true, false, Some, IfOk, OnOk};
 ghost use Rattle.std.specs.Fmt.{decimal};
@@ -65,7 +66,7 @@ fn register_name(wide: bool, reg: Reg) -> &'static str
     if wide { wide_name(reg) } else { half_name(reg) }
 }
 
-// ---- parts of a line
+// ---- numbers and operands
 
 /// Appends a number in decimal, with a minus if it is negative.
 fn write_constant(text: &mut String, n: i32) -> Result<(), AllocError>
@@ -236,7 +237,7 @@ fn write_map_value(text: &mut String, dst: Reg, fd: i32, off: u32) -> Result<(),
 ///
 /// # Errors
 ///
-/// `AllocError`: out of memory. Part of the line may have been appended then.
+/// `AllocError`: out of memory. The first bytes of the line may have been appended then.
 #[tactic(auto, unfolding(text_line::specs::Written::printed_insn))]
 pub fn write_insn(text: &mut String, insn: &Insn) -> Result<(), AllocError>
     ensures { OnOk result (string_bytes text.new ≡ string_bytes text.old ++ printed_insn insn.now) }

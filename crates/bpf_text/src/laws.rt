@@ -49,7 +49,7 @@ pub fn hex_slots_are_read()
         → slots ≤ MAX_SLOTS → IsHexText (hex_text bytes) bytes }
 {}
 
-/// A law: the slots that are read from a text of hex lines are the only ones. `a` and `b` are the bytes of slots.
+/// A law: a text of hex lines has only one list of slots. `a` and `b` are the bytes of two such lists.
 pub fn one_hex_text()
     ensures { (text a b : List ℕ) → IsHexText text a → IsHexText text b → a ≡ b }
 {}

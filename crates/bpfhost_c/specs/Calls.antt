@@ -31,8 +31,9 @@ StandsAt None reply at length = ⊥
 StandsAt (Some s) reply at length =
     (s.reply.items ≡ reply) × (at ≡ vec_ptr s.reply) × (length ≡ vec_len s.reply)
 
--- The frames that were saved last lie at address `at`, with `length` bytes: they are the bytes of
--- the session's vector for them, which begin there. False for an empty handle (None).
+-- The frames of the part of a save that was made last lie at address `at`, with `length` bytes:
+-- they are the bytes of the session's vector for them, which begin there. False for an empty handle
+-- (None).
 abbrev pub SavedAt : Option Session → List ℕ → Ptr → ℕ → Type 0
 SavedAt None frames at length = ⊥
 SavedAt (Some s) frames at length =

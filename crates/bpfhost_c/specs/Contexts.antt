@@ -5,24 +5,26 @@ use Rattle.std.specs.List.{list_all}
 use Rattle.words.specs.Context.{given_words}
 use Rattle.bpfhost_c.specs.declared.codes.TheConstants.{DONE, ERR_SIZE, ERR_TOO_BIG}
 
--- the ten words that a run is given of a context: its first ten, and 0 for each that it does not
--- have
+-- the words that a run is given of a context: its first `given_words`, and 0 for each of them that
+-- it does not have
 abbrev pub fitted : List ℕ → List ℕ
 fitted words =
     take (min (length words) given_words) words
     ++ drop (min (length words) given_words) (replicate given_words 0)
 
--- each word of a context after those that a run is given, its first ten, is 0
+-- a context has only zeros after its first `given_words` words, which are those that a run is given
 abbrev pub has_known_words : List ℕ → Bool
 has_known_words words = list_all (λ word. nat_eq word 0) (drop given_words words)
 
--- so many contexts, each of `size` words, one after another, as a run is given them
+-- the first n contexts in `words`, n being the second argument, each of `size` words, as a run is
+-- given them
 abbrev pub fitted_all : ℕ → ℕ → List ℕ → List (List ℕ)
 fitted_all size zero words = []
 fitted_all size (suc count) words =
     fitted (take size words) ∷ fitted_all size count (drop size words)
 
--- each of so many contexts, of `size` words, has zeros after the words that a run is given
+-- each of the first n contexts in `words`, n being the second argument, each of `size` words, has
+-- only zeros after the words that a run is given
 abbrev pub have_known_words : ℕ → ℕ → List ℕ → Bool
 have_known_words size zero words = true
 have_known_words size (suc count) words =

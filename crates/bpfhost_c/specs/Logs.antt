@@ -21,8 +21,8 @@ Logs number slots named accepted text =
     × (style_of number ≡ Some style)
     × IsLogOfSlots slots named style accepted text
 
--- the number of bytes of a text that fit in a room, with a zero byte after them; 0 for an empty
--- room, since 0 - 1 is 0
+-- how many bytes of a text fit in a room, if a zero byte follows them; 0 for an empty room, since
+-- 0 - 1 is 0
 abbrev pub fitting : List ℕ → List ℕ → ℕ
 fitting text room = min (length text) (length room - 1)
 

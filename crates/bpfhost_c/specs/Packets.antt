@@ -20,8 +20,8 @@ pub record RunsPackets (tenant fd : ℕ) (contexts : List (List ℕ)) (bytes end
   pub refused : status ≢ pos 0 → (after ≡ before) × (written ≡ room)
   pub others : ChangesTenant tenant before after
 
--- the contexts of the first n of so many packets: the first n if each packet has its own, else all
--- of them: one for all packets, or a number of them for which the batch is rejected
+-- the contexts of the first n of `packets` packets. If each packet has its own, these are the first
+-- n contexts; else they are all: one for all packets, or a number for which the batch is rejected
 abbrev pub front_contexts : ℕ → ℕ → List (List ℕ) → List (List ℕ)
 front_contexts packets n contexts = if length contexts == packets then take n contexts else contexts
 

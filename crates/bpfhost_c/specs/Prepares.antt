@@ -54,8 +54,9 @@ prepare_code before ds =
     if is_some before then ERR_HAS_PROGRAM
     else (if nat_lt most (length ds) || not (are_objects ds) then ERR_DESCRIPTORS else DONE)
 
--- the program that the slots spell, accepted with these objects; or none, and the status, the slot
--- and the number of the reason, as in the reply to the frame that loads the slots
+-- the call stored the program that the slots spell, accepted with these objects, and r is all 0; or
+-- it stored none (None), and r has the status, the slot and the number of the reason of the reply
+-- to the frame that loads the slots
 abbrev pub Prepares : List Named → List ℕ → Option Accepted → PreparedRefusal → Type 0
 Prepares named slots (Some a) r =
     Judges named slots (Ok a.code) × (a.entries ≡ entries_of (maps_of a.code) named)

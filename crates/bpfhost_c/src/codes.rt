@@ -36,7 +36,7 @@ pub(crate) const ERR_NO_PROGRAM: i32 = -10;
 /// The handle has a prepared program already.
 pub(crate) const ERR_HAS_PROGRAM: i32 = -11;
 
-/// A descriptor is given a map that MAP_CREATE cannot make, or there are more descriptors than a tenant can have open, 64.
+/// A descriptor is given a map that MAP_CREATE cannot make, or there are more descriptors than a tenant can have open.
 pub(crate) const ERR_DESCRIPTORS: i32 = -12;
 
 /// There is no style of a log with this number.

@@ -14,8 +14,8 @@ use host_core::GIVEN_WORDS;
 use std::alloc::{AllocError, Global};
 use std::borrow::CowSlice;
 
-/// Contexts of `GIVEN_WORDS` words each, without a copy; `None` if the last one is cut off. All their words are given to a run, so that
-/// there is none that has to be 0 (`known`).
+/// Contexts of `GIVEN_WORDS` words each, without a copy; `None` if the last one is cut off. All words of a context are given to a run, so
+/// none has to be 0 (`known`).
 #[tactic(auto, using(crate::proofs::Given::as_given, crate::proofs::Given::all_known))]
 fn as_given(words: &[u32]) -> Option<&[[u32; GIVEN_WORDS]]>
     ensures some { is_some result ≡ nat_eq (length words.now % given_words) 0 }
@@ -41,7 +41,7 @@ fn fit(words: &[u32]) -> [u32; GIVEN_WORDS]
 }
 
 /// The first `count` contexts in `words`, each of `size` words, as a run is given them (`fit`). The caller counts only whole contexts, so
-/// there are as many. `AllocError`: out of memory.
+/// `words` has all of them. `AllocError`: out of memory.
 #[tactic(auto, using(crate::proofs::Loops::fitted_more, crate::proofs::Loops::room_step))]
 fn fit_all(
     alloc: Global,
@@ -62,7 +62,7 @@ fn fit_all(
     Ok(contexts)
 }
 
-/// Whether each word of a context after those that a run is given, its first `GIVEN_WORDS`, is zero.
+/// Whether a context has only zeros after its first `GIVEN_WORDS` words, which are those that a run is given.
 fn is_known(words: &[u32]) -> bool
     ensures { result ≡ has_known_words words.now }
 {
@@ -79,7 +79,7 @@ fn is_known(words: &[u32]) -> bool
 }
 
 /// Whether each of the first `count` contexts in `words`, of `size` words each, has only zeros after the words that a run is given. The
-/// caller counts only whole contexts, so there are as many.
+/// caller counts only whole contexts, so `words` has all of them.
 #[tactic(auto, using(crate::proofs::Loops::known_step, crate::proofs::Loops::room_step))]
 fn are_known(words: &[u32], size: usize, count: usize) -> bool
     requires { count * size ≤ length words.now }

@@ -12,8 +12,8 @@ use crate::handle::Handle;
 use host_core::{Counts, Described};
 use std::alloc::Global;
 
-/// Writes how much `tenant` has at this moment to `counts`, and whether memory was ever refused to it; all are 0 for a number that is
-/// not served. Takes no memory.
+/// Writes to `counts` how much `tenant` has at this moment, and whether memory was ever refused to it; all are 0, and false, for a number
+/// that is not served. Takes no memory.
 ///
 /// Returns `DONE`; else `ERR_NO_HOST`, and `counts` is unchanged. The host is unchanged.
 #[unsafe(no_mangle)]
@@ -40,8 +40,8 @@ pub extern "C" fn bpfhost_c_status(
 }
 
 /// Writes what the descriptor `fd` of `tenant` names at this moment to `described`: nothing, a map with its shape and the number of
-/// its keys, or a program with the number of its slots. Nothing if `fd` is not one of the 64 descriptors, 3 to 66, or
-/// the tenant is not served. Takes no memory.
+/// its keys, or a program with the number of its slots. It is nothing also if `fd` is not from 3 to 66, or the tenant is not served. Takes
+/// no memory.
 ///
 /// Returns `DONE`; else `ERR_NO_HOST`, and `described` is unchanged. The host is unchanged.
 #[unsafe(no_mangle)]

@@ -163,8 +163,8 @@ pub struct Lent {
     pub length: usize,
 }
 
-/// Creates a host for 1 to `MOST_TENANTS` (64) tenants, and stores it in an empty handle. `first` and `second` are the seed of its hash
-/// maps: two words that the caller draws at random and keeps secret from tenants.
+/// Creates a host for 1 to `MOST_TENANTS` tenants, and stores it in an empty handle. `first` and `second` are the seed of its hash maps:
+/// two words that the caller draws at random and keeps secret from tenants.
 ///
 /// Returns `DONE`; else `ERR_TENANT_COUNT`, `ERR_HAS_HOST` or `ERR_NO_MEMORY`, and the handle is unchanged: a host that `take` finds in it
 /// is put back.
@@ -274,11 +274,12 @@ pub extern "C" fn bpfhost_c_handle_lent(
 }
 
 /// Runs the program at descriptor `fd` of a tenant on many packets, one after another. The packets lie one after another in `bytes`, and
-/// `ends` has for each how many bytes are before its end. `contexts` has one context for all packets, or one for each. Each context
+/// `ends` has for each packet the number of bytes up to its end. `contexts` has one context for all packets, or one for each. Each context
 /// has `size` words: if they are fewer than a run is given, the others count as 0; if they are more, the rest have to be 0.
 ///
-/// With a `bound` that is not 0 the batch is made shorter: it has as many of the first packets as can be run, by the cost of the program,
-/// without executing more than `bound` instructions, if a call of a helper counts as `CALL_WEIGHT` more, but at least one.
+/// A `bound` that is not 0 makes the batch shorter. Each run counts for the most instructions of the program, and `CALL_WEIGHT` (of the
+/// crate `tenant`) more for each call of a helper. As many of the first packets are run as count for at most `bound` together, but at
+/// least one.
 ///
 /// Writes the result of each packet to the front of `results`, 0 to `status` and the number of packets to `ran`; or, if the batch is
 /// rejected, the status of the error that its frames would get, and 0 to `ran`, and then no packet was run.
@@ -336,10 +337,10 @@ pub extern "C" fn bpfhost_c_run_packets(
     code
 }
 
-/// Saves part `part` of a tenant, counted from 0: writes the address and the length of its frames, each of which has its length before
-/// it, to `lent`. They are valid until the next call with this handle. If a new tenant of this number, on this host or another one, is
-/// given the frames of all parts in order and no memory is refused to it, it then replies as this one does, whatever calls this host
-/// had. Between two parts the tenant must not change.
+/// Makes part `part` of a save of a tenant, counted from 0. Writes to `lent` the address of the part's frames, each of which has its length
+/// before it, and the number of all these bytes. They are valid until the next call with this handle. If a new tenant of this number, on
+/// this host or another one, is given the frames of all parts in order and no memory is refused to it, it then replies as this one does,
+/// whatever calls this host had. Between two parts the tenant must not change.
 ///
 /// Returns `DONE`; else `ERR_NO_PART` after the last part and for a tenant that is not served, `ERR_NO_MEMORY` or `ERR_NO_HOST`,
 /// and `lent` is unchanged.

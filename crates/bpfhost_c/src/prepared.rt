@@ -35,7 +35,7 @@ impl Prepared {
         }
     }
 
-    /// A handle that owns the program of a box, whose raw pointer it gets.
+    /// A handle that owns the program of a box, which is given as a raw pointer.
     pub(crate) fn from_raw_box(raw: RawBox<Verified, Global>) -> Prepared
         ensures { result.program ≡ Some raw.value }
     {

@@ -138,10 +138,10 @@ fn shown_refusal(refusal: Refusal) -> PreparedRefusal
 
 /// Verifies the slots of a program with these objects, stores it in an empty handle, and writes 0 to all of `refusal`; or stores none, and
 /// writes why the slots are refused, as PROG_LOAD refuses them if the descriptors name these objects. No host is needed, so this can be
-/// done on any thread. If `descriptors` has the same descriptor more than once, the first entry counts.
+/// done on any thread. If `descriptors` has the same descriptor more than once, its first object counts.
 ///
-/// Returns `DONE` in both cases; else `ERR_HAS_PROGRAM`, `ERR_DESCRIPTORS` (more than 64, or an object that there cannot be) or
-/// `ERR_NO_MEMORY`, and `prepared` and `refusal` are unchanged.
+/// Returns `DONE` in both cases; else `ERR_HAS_PROGRAM`, `ERR_DESCRIPTORS` (more than `MOST_DESCRIPTORS`, or an object that there cannot
+/// be) or `ERR_NO_MEMORY`, and `prepared` and `refusal` are unchanged.
 #[unsafe(no_mangle)]
 pub extern "C" fn bpfhost_c_prepare(
     alloc: Global,

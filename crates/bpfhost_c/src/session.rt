@@ -41,7 +41,7 @@ pub(crate) struct SizedBatch<'a> {
     pub size: usize,
     /// The bytes of the packets, one packet after another.
     pub bytes: &'a [u8],
-    /// For each packet, how many of these bytes are before its end.
+    /// For each packet, the number of `bytes` up to its end.
     pub ends: &'a [usize],
 }
 
@@ -54,8 +54,9 @@ pub(crate) struct Ran {
     pub(crate) packets: usize,
 }
 
-/// The contexts of the first `count` of `packets` packets: the first `count` if each packet has its own, else all contexts: one
-/// for all packets, or a number of them for which the batch is rejected. `count` comes from `allowed_packets`, so it is at most `packets`.
+/// The contexts of the first `count` of `packets` packets. If each packet has its own, these are the first `count` contexts; else they are
+/// all contexts: one for all packets, or a number of contexts for which the batch is rejected. `count` comes from `allowed_packets`, so it
+/// is at most `packets`.
 fn front_contexts(
     contexts: &[[u32; GIVEN_WORDS]],
     packets: usize,
@@ -112,8 +113,8 @@ impl Session {
         self.reply = reply.into_vec();
     }
 
-    /// Saves part `part` of a tenant, counted from 0. True: its frames are in `saved`. False: there is no such part, or the tenant is not
-    /// served. `AllocError`: out of memory. In both of these cases `saved` is empty.
+    /// Makes part `part` of a save of a tenant, counted from 0. True: its frames are in `saved`. False: there is no such part, or the
+    /// tenant is not served. `AllocError`: out of memory. After false, and after `AllocError`, `saved` is empty.
     pub(crate) fn save(&mut self, tenant: usize, part: usize) -> Result<bool, AllocError>
         ensures saved { IfOk result (λ found. saved_part self.old.host tenant part
             ≡ (if found then Some self.new.saved.items else None)) }
@@ -133,7 +134,7 @@ impl Session {
         }
     }
 
-    /// Opens a program that was verified without a host at a descriptor of `tenant`, and returns the status of the reply to the frame that
+    /// Opens, at a descriptor of `tenant`, a program that was verified without a host. Returns the status of the reply to the frame that
     /// would load it: the descriptor, or the negated error number. `Err`: a descriptor of its maps names no map of the shape with which it
     /// was accepted. Then the program is given back, and the session is unchanged.
     pub(crate) fn install(
@@ -152,7 +153,7 @@ impl Session {
     }
 
     /// Runs the program at descriptor `fd` of a tenant on the packets of a batch, writes the results to the front of `results`, and returns
-    /// 0. If the batch is rejected, no packet is run, and the status of the error is returned.
+    /// 0. If the batch is rejected, it returns the status of the error; then no packet was run, and nothing has changed.
     pub(crate) fn run_packets(
         &mut self,
         tenant: usize,
@@ -179,9 +180,9 @@ impl Session {
         }
     }
 
-    /// The number of packets at the front of a batch that a bound on executed instructions allows; 0 is no bound. The batch has `contexts`
-    /// contexts and `packets` packets, and runs the program at descriptor `fd`. If it has neither one context nor one for each packet, it
-    /// is not made shorter, since it is rejected as a whole.
+    /// How many packets at the front of a batch a `bound` on executed instructions allows; 0 is no bound, and allows all. The batch has
+    /// `contexts` contexts and `packets` packets, and runs the program at descriptor `fd`. If it has neither one context nor one for each
+    /// packet, it is not made shorter, since it is rejected as a whole.
     fn allowed_packets(
         &self,
         tenant: usize,
@@ -201,8 +202,9 @@ impl Session {
         self.host.allowed_packets(tenant, fd, bound, packets)
     }
 
-    /// Runs the program at descriptor `fd` of a tenant on the packets at the front of a batch that a bound on executed instructions allows;
-    /// 0 is no bound. Their results are written to the front of `results`. If the batch is rejected, none was run.
+    /// Runs the program at descriptor `fd` of a tenant on the packets at the front of a batch, as many as a `bound` on executed
+    /// instructions allows; 0 is no bound. Their results are written to the front of `results`. If the batch is rejected, `Ran` has the
+    /// status of the error; then no packet was run, and nothing has changed.
     pub(crate) fn run_bounded(
         &mut self,
         tenant: usize,
@@ -230,8 +232,8 @@ impl Session {
         Ran { status, packets }
     }
 
-    /// Runs the program at descriptor `fd` of a tenant on the packets at the front of a batch that a bound on executed instructions allows;
-    /// 0 is no bound. The batch has contexts of any size, which are brought to the words that a run is given.
+    /// Runs a batch like `run_bounded`, but with contexts of any size, which are brought to the words that a run is given: shorter ones get
+    /// zeros, and longer ones lose the rest, which has to be 0.
     ///
     /// `Err`: the code that C gets. `ERR_SIZE`: the size is 0 or the last context is cut off. `ERR_TOO_BIG`: a context has a word that no
     /// run is given and that is not 0. `ERR_NO_MEMORY`: out of memory. Then nothing is changed.

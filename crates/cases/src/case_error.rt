@@ -21,7 +21,7 @@ pub enum CaseError {
     /// The verifier rejects the program.
     #[error("slot {} reason {}", .0.slot, .0.reason.number())]
     Refused(#[from] VerifyFault),
-    /// The text of a map or of its shape names none.
+    /// The text of a map or of its shape means no map or shape.
     #[error(transparent)]
     Map(#[from] BadShape),
     /// A number is missing, or wrong.

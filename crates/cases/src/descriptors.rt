@@ -17,7 +17,8 @@ pub struct Descriptors {
     named: Vec<Named>,
 }
 
-/// The shape that a text `KIND:KEY:VALUE:MAX` means. `read_shape` needs a descriptor before it; any valid one, as 3, will do.
+/// The shape that a text `KIND:KEY:VALUE:MAX` means; `Map` if it means none. `read_shape` needs a descriptor before it; any valid one, as
+/// 3, will do.
 pub fn shape_of(alloc: Global, text: &str) -> Result<MapShape, CaseError> {
     let argument = format!(in alloc; "3:{text}")?;
     match read_shape(argument.as_str())?.target {
@@ -27,7 +28,8 @@ pub fn shape_of(alloc: Global, text: &str) -> Result<MapShape, CaseError> {
     }
 }
 
-/// The map that `FD:KIND:KEY:VALUE:MAX` names. Unlike in a map argument, FD may be any number of 32 bits.
+/// The map that `FD:KIND:KEY:VALUE:MAX` names. Unlike in a map argument, FD may be any number of 32 bits. `Notation` without a colon, `Map`
+/// if the rest is no shape, `Number` if FD is no such number.
 fn named_map(alloc: Global, text: &str) -> Result<Named, CaseError> {
     let (fd, shape) = text.split_once(':').ok_or(CaseError::Notation)?;
     let shape = shape_of(alloc, shape)?;
@@ -37,7 +39,7 @@ fn named_map(alloc: Global, text: &str) -> Result<Named, CaseError> {
     })
 }
 
-/// A program at the descriptor with these decimal digits, any number of 32 bits.
+/// A program at the descriptor with these decimal digits, any number of 32 bits; `Number` if they are none.
 fn named_program(text: &str) -> Result<Named, CaseError> {
     Ok(Named {
         fd: text.parse()?,
@@ -59,13 +61,14 @@ impl Descriptors {
         &self.named
     }
 
-    /// Appends an open descriptor. Returns what is written below the line that opens it.
+    /// Appends an open descriptor. Returns `open`, which is written below the line that opens it.
     fn open(&mut self, new: Named) -> Result<String, CaseError> {
         self.named.push(new)?;
         Ok("open".to_string(self.alloc)?)
     }
 
-    /// Plays a line that opens a descriptor, or `new`, which closes all. Returns what is written below the line.
+    /// Plays a line that opens a descriptor, or `new`, which closes all. Returns what is written below the line; `UnknownWord` if it is
+    /// another line.
     pub fn play(&mut self, line: &str) -> Result<String, CaseError> {
         let (word, rest) = first_word(line);
         match word {

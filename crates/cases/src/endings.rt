@@ -14,7 +14,8 @@ fn append_equal(text: &mut String, lines: &[&str]) -> Result<(), AllocError> {
     }
 }
 
-/// Appends the lines of an output, equal neighbours as a repetition; and that its last line has no line feed, if it has none.
+/// Appends the lines of an output, equal lines that follow each other as a repetition; and, if its last line has no line feed, a line that
+/// states this.
 fn append_output(alloc: Global, text: &mut String, output: &str) -> Result<(), AllocError> {
     let lines: Vec<&str> = output.lines().collect(alloc)?;
     for equal in lines.chunk_by(|a, b| a == b) {

@@ -1,5 +1,5 @@
-//! Texts and bytes on one line: `;` is a line feed, `\xHH` the byte with these two hex digits, and `{COUNT*PART}` the part
-//! COUNT times, in which each `#` is the number of repetitions before, from 0 on.
+//! Texts and bytes on one line: `;` is a line feed, `\xHH` the byte with these two hex digits, and `{COUNT*PART}` the text
+//! PART, COUNT times, in which each `#` is the number of repetitions before, from 0 on.
 
 ghost use Rattle.std.specs.Prelude.{◌≡◌, length, IfOk};
 
@@ -8,13 +8,13 @@ use hex::FromHex;
 use std::alloc::{AllocError, Global};
 use std::fmt::Write;
 
-/// The number of bytes in one group of hex digits, of frames, replies, keys and values.
+/// The number of bytes between two blanks, when a frame, a reply, a key or a value is written as hex digits.
 pub const GROUP: usize = 4;
 
-/// The greatest number of times that a part is repeated: as many as the program's longest input has bytes.
+/// The greatest COUNT of a repetition `{COUNT*PART}`: as many as the program's longest input has bytes.
 const MOST_TIMES: u32 = 1_048_576;
 
-/// A number of times, from its decimal digits. `Notation` if it is no number, or above `MOST_TIMES`.
+/// A number of repetitions, from its decimal digits. `Notation` if they are no number, or it is above `MOST_TIMES`.
 pub fn times(digits: &str) -> Result<u32, CaseError> {
     match digits.parse::<u32>() {
         Ok(times) if times <= MOST_TIMES => Ok(times),
@@ -40,7 +40,8 @@ fn append_escaped(bytes: &mut Vec<u8>, text: &str) -> Result<(), CaseError> {
     Ok(())
 }
 
-/// Appends the bytes of a text without repetitions. Each piece but the first follows a `\x`.
+/// Appends the bytes of a text without repetitions. It is split at each `\x`, so each piece but the first begins with two hex digits.
+/// `Notation` or `Digits` if one does not (`append_escaped`).
 fn append_text(bytes: &mut Vec<u8>, text: &str) -> Result<(), CaseError> {
     for (index, piece) in text.split("\\x").enumerate() {
         if index == 0 {
@@ -52,7 +53,7 @@ fn append_text(bytes: &mut Vec<u8>, text: &str) -> Result<(), CaseError> {
     Ok(())
 }
 
-/// Appends a part once, with the decimal digits of a number in place of each `#`.
+/// Appends what a repetition repeats, `part`, once: these decimal digits for each `#`, and the other bytes unchanged.
 fn append_numbered(bytes: &mut Vec<u8>, part: &[u8], digits: &str) -> Result<(), AllocError> {
     for byte in part {
         if *byte == b'#' {
@@ -64,7 +65,7 @@ fn append_numbered(bytes: &mut Vec<u8>, part: &[u8], digits: &str) -> Result<(),
     Ok(())
 }
 
-/// Appends a part a number of times. Each `#` in it becomes the number of repetitions before, from 0 on.
+/// Appends what a repetition repeats, `part`, as often as `times` says. Each `#` in it becomes the number of repetitions before, from 0 on.
 fn append_times(
     alloc: Global,
     bytes: &mut Vec<u8>,
@@ -89,8 +90,8 @@ fn append_repeated(alloc: Global, bytes: &mut Vec<u8>, text: &str) -> Result<(),
     append_text(bytes, rest)
 }
 
-/// The bytes that a text in the notation of cases represents, with its `;`, `\xHH` and `{COUNT*PART}`. Each piece but the first follows a
-/// `{`.
+/// The bytes that a text in the notation of cases represents, with its `;`, `\xHH` and `{COUNT*PART}`. It is split at each `{`, so each
+/// piece but the first begins with a repetition. `Notation` or `Digits` if the notation is wrong.
 pub fn written(alloc: Global, text: &str) -> Result<Vec<u8>, CaseError> {
     let mut bytes = Vec::new(alloc);
     for (index, piece) in text.split('{').enumerate() {
@@ -108,7 +109,8 @@ pub fn text_of(bytes: &[u8]) -> Result<&str, CaseError> {
     str::from_utf8(bytes).map_err(|_| CaseError::NoText)
 }
 
-/// The bytes of hex digits, which blanks may separate. Repetitions of digits are replaced first, as in a text.
+/// The bytes of hex digits, which blanks may separate. The notation of texts is replaced first, so digits may be repeated. `Digits` if what
+/// is left is no hex digits, `NoText` if it is not UTF-8, and the errors of `written`.
 pub fn bytes_of(alloc: Global, text: &str) -> Result<Vec<u8>, CaseError> {
     let text = written(alloc, text)?;
     let digits = text_of(&text)?;
@@ -150,7 +152,8 @@ fn append_lines(alloc: Global, shown: &mut String, lines: &[&str]) -> Result<(),
     }
 }
 
-/// A text on one line: `;` for each line feed, and equal neighbours as a repetition. Its own `;`, `\` and braces are not escaped.
+/// A text on one line: `;` for each line feed, and equal lines that follow each other as a repetition. Its own `;`, `\` and braces are not
+/// escaped.
 pub fn shown(alloc: Global, text: &str) -> Result<String, AllocError> {
     let lines: Vec<&str> = text.split_inclusive('\n').collect(alloc)?;
     let mut shown = String::new(alloc);

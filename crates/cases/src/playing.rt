@@ -6,7 +6,7 @@ use std::io;
 
 /// Plays the lines of a file of cases in order. Its state is what earlier lines have made.
 pub trait Player {
-    /// Does what a line that is no remark asks for. Returns the lines to write below it, or the empty text.
+    /// Does what a line that is no remark asks for. Returns the lines to write below it, or the empty text; an error is written there too.
     fn play(&mut self, line: &str) -> Result<String, CaseError>;
 }
 

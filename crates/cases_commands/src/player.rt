@@ -25,8 +25,8 @@ impl CommandPlayer {
         })
     }
 
-    /// The bytes of a reply, for the words of a line: a tenant, a command, a status, and the hex digits of the payload. `OutOfRange` if it
-    /// is longer than a reply may have.
+    /// The bytes of a reply, for the words of a line: a tenant, a command, a status, and the hex digits of the payload. `OutOfRange` if the
+    /// payload is longer than `LONGEST_PAYLOAD`.
     fn reply(&mut self, rest: &str) -> Result<String, CaseError> {
         let (tenant, rest) = first_word(rest);
         let (command, rest) = first_word(rest);
@@ -67,7 +67,8 @@ impl CommandPlayer {
         }
     }
 
-    /// What `place`, `get` or `close` (`_`), the `word` of the line, returns for each number after it, with commas between them.
+    /// What the call that `word` names returns for each number in `rest`, with commas between them. `play` gives only the words `place`,
+    /// `get` and `close`, so the last arm is that of `close`.
     fn each(&mut self, word: &str, rest: &str) -> Result<String, CaseError> {
         let mut text = String::new(self.alloc);
         for number in rest.split_whitespace() {

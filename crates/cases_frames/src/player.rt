@@ -142,7 +142,7 @@ impl HostPlayer {
     }
 
     /// The reply to MAP_CREATE, for the words of a line: a tenant, and the five numbers of the body: the kind of map, and in `sizes` the
-    /// sizes of a key and of a value, the most entries, and the flags.
+    /// sizes of a key and of a value, `max_entries`, and the flags.
     fn create(&mut self, rest: &str) -> Result<String, CaseError> {
         let (tenant, rest) = first_word(rest);
         let (kind, sizes) = first_word(rest);
@@ -191,7 +191,7 @@ impl HostPlayer {
         self.command(tenant, PROG_TEST_RUN, descriptor, &input)
     }
 
-    /// The reply to the frame that a line asks for.
+    /// The reply to the frame that a line asks for, by its first word. `UnknownWord` if no such line begins with it.
     fn reply_to_line(&mut self, word: &str, rest: &str) -> Result<String, CaseError> {
         match word {
             "frame" => self.reply_to_digits(rest),
@@ -208,7 +208,7 @@ impl HostPlayer {
         }
     }
 
-    /// The replies to lines separated by `|`.
+    /// The replies to lines that are separated by `|`, which also separates the replies.
     fn round(&mut self, lines: &str) -> Result<String, CaseError> {
         let mut replies = String::new(self.alloc);
         for line in lines.split('|') {
@@ -221,8 +221,8 @@ impl HostPlayer {
         Ok(replies)
     }
 
-    /// Plays the lines again until they have been played `count` times, or their replies differ from `first`, those of round 0. Returns the
-    /// number of such a round and its replies; `None` if there is none.
+    /// Plays the lines again, until they have been played `count` times, round 0 included, or until a round has other replies than round 0,
+    /// which had `first`. Returns the number of this round and its replies; `None` if there is none.
     fn other_round(
         &mut self,
         lines: &str,
@@ -250,13 +250,13 @@ impl HostPlayer {
         }
     }
 
-    /// Plays the lines that follow on a new host. The empty text means that nothing is written below the line.
+    /// Makes a new host, on which the lines that follow are played. Returns the empty text, so nothing is written below the line.
     fn begin(&mut self, tenants: &str) -> Result<String, CaseError> {
         self.host = new_host(self.alloc, tenants)?;
         Ok(String::new(self.alloc))
     }
 
-    /// Sets the context words of the runs that follow. The empty text means that nothing is written below the line.
+    /// Sets the context words of the runs that follow. Returns the empty text, so nothing is written below the line.
     fn set_words(&mut self, digits: &str) -> Result<String, CaseError> {
         self.words = bytes_of(self.alloc, digits)?;
         Ok(String::new(self.alloc))

@@ -29,8 +29,8 @@ fn ended(alloc: Global, end: Result<u32, ServeFault>, output: &[u8]) -> Result<S
     format!(in alloc; "{end}\n{output}")
 }
 
-/// How `serve` ends on these bytes, of which it serves at most `limit` frames, in decimal digits; and below it what it wrote. `OutOfRange`
-/// if `limit` is above `MOST_FRAMES`.
+/// How `serve` ends on these bytes, and below it what it wrote. It serves at most `limit` frames, a number in decimal digits; `OutOfRange`
+/// if that is above `MOST_FRAMES`.
 fn served(alloc: Global, host: &mut Host, limit: &str, input: &[u8]) -> Result<String, CaseError> {
     let limit: u32 = limit.parse()?;
     if limit > MOST_FRAMES {
@@ -51,7 +51,7 @@ pub fn stream(alloc: Global, line: &str) -> Result<String, CaseError> {
     served(alloc, &mut host, limit, &input)
 }
 
-/// The first bytes of those that the hex digits represent; `count`, in decimal digits, is how many. All of them if there are fewer.
+/// Of the bytes that the hex digits represent, the first `count`, a number in decimal digits; all of them if there are fewer.
 fn front(alloc: Global, count: &str, digits: &str) -> Result<Vec<u8>, CaseError> {
     let mut input = bytes_of(alloc, digits)?;
     input.truncate(count.parse()?);

@@ -19,7 +19,7 @@ pub struct LiveMapsPlayer {
     alloc: Global,
     maps: Maps,
     arena: Arena,
-    // The key (`MapKey`) of each map so far, once. A map's number in the lines is the index of its key.
+    // The handles that maps have had so far, each once. A map's number in the lines is the index of its handle here.
     keys: Vec<MapKey>,
 }
 
@@ -34,7 +34,8 @@ impl Model for LiveMapsPlayer {
     ghost invariant = { λ p. IsPartOf 0 p.arena };
 }
 
-/// Creates a map, and adds `holds` references to the one that it has. `part` is the tenant's part of the memory, which gets its area.
+/// Creates a map with its area in `part`, the tenant's part of the memory, and adds `holds` references to its first one. The fault of the
+/// creation, if it has one.
 fn create_held(
     maps: &mut Maps,
     shape: MapShape,
@@ -62,13 +63,13 @@ impl LiveMapsPlayer {
         })
     }
 
-    /// Plays the lines that follow on no live maps.
+    /// Starts anew without maps, for the lines that follow. Returns the empty text.
     fn begin(&mut self) -> Result<String, CaseError> {
         *self = LiveMapsPlayer::new(self.alloc)?;
         Ok(nothing(self.alloc))
     }
 
-    /// The live map with this number, in decimal digits; `NoMap` if no map has had the number yet, or its map is not live.
+    /// The handle of the live map with this number, in decimal digits; `NoMap` if no map has had the number yet, or the map is not live.
     fn live_map(&self, number: &str) -> Result<MapKey, CaseError>
         ensures { IfOk result (λ map. IsSome (live_at self.now map)) }
     {
@@ -79,8 +80,8 @@ impl LiveMapsPlayer {
         }
     }
 
-    /// The number of a map in the lines: the index of its key in `keys`, to which a new one is appended. The live maps, all that contracts
-    /// see, are unchanged.
+    /// The number of a map in the lines: the index of its handle in `keys`, to which a handle is appended that is not in it yet. The live
+    /// maps, all that contracts see, are unchanged.
     fn number_of(&mut self, map: MapKey) -> Result<usize, AllocError>
         ensures { self.new ≡ self.old }
     {
@@ -135,7 +136,7 @@ impl LiveMapsPlayer {
         Ok(format!(in self.alloc; "{kind:?} {key} {value} {entries}")?)
     }
 
-    /// The offset in the part of the value of an element; `OutOfRange` if the map has no such element.
+    /// The offset of an element's value in the tenant's part; `OutOfRange` if the map has no such element.
     fn offset(&self, map: MapKey, element: u32) -> Result<usize, CaseError>
         requires { IsSome (live_at self.now map) }
     {
@@ -145,7 +146,7 @@ impl LiveMapsPlayer {
         Ok(self.maps.value_at(map, element))
     }
 
-    /// The offset of a value, for the words of a line: the map and the element.
+    /// The offset of an element's value in the part, as text, for the words of a line: the map and the element.
     fn at(&self, rest: &str) -> Result<String, CaseError> {
         let (number, element) = first_word(rest);
         let map = self.live_map(number)?;
@@ -168,6 +169,7 @@ impl LiveMapsPlayer {
     }
 
     /// An update, for the words of a line: the map, the flags, the key and the value. It claims an element, and writes the value there.
+    /// Returns `claimed`, or the name of the map's fault.
     fn claim(&mut self, rest: &str) -> Result<String, CaseError> {
         let (number, rest) = first_word(rest);
         let (flags, rest) = first_word(rest);
@@ -190,7 +192,7 @@ impl LiveMapsPlayer {
         }
     }
 
-    /// The removal of a key, for the words of a line: the map and the key.
+    /// Removes a key, for the words of a line: the map and the key. Returns `removed`, or the name of the map's fault.
     fn remove(&mut self, rest: &str) -> Result<String, CaseError> {
         let (number, digits) = first_word(rest);
         let map = self.live_map(number)?;
@@ -198,8 +200,8 @@ impl LiveMapsPlayer {
         Ok(done(self.alloc, self.maps.remove(map, &key), "removed")?)
     }
 
-    /// The key that follows a key, for the words of a line: the map, and the key, or nothing for the first key. So `Size` only if a key of
-    /// another size is given.
+    /// The key that follows a key, as hex digits, for the words of a line: the map, and the key, or nothing for the first key. `Size` if a
+    /// key is given that has not the size of the map's keys.
     fn next(&self, rest: &str) -> Result<String, CaseError> {
         let (number, digits) = first_word(rest);
         let map = self.live_map(number)?;
@@ -213,7 +215,7 @@ impl LiveMapsPlayer {
         key_text(self.alloc, outcome, &buffer, size)
     }
 
-    /// Ends a run on a map, so that the elements of removed keys are free again.
+    /// Ends a run on a map, so that the elements of removed keys are free again. Returns the empty text.
     fn end(&mut self, number: &str) -> Result<String, CaseError> {
         let map = self.live_map(number)?;
         self.maps.end_run(map);

@@ -61,7 +61,7 @@ impl MemoryPlayer {
         })
     }
 
-    /// Plays the lines that follow on a new memory: the number of its parts, and their size.
+    /// Makes a new memory, on which the lines that follow are played, for the words of a line: the number of its parts, and their size.
     fn begin(&mut self, rest: &str) -> Result<String, CaseError> {
         let (parts, size) = first_word(rest);
         self.arena = new_memory(self.alloc, parts.parse()?, size.parse()?)?;

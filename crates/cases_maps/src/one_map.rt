@@ -20,8 +20,8 @@ fn find<M: ValueMap>(alloc: Global, map: &M, size: u32, digits: &str) -> Result<
     }
 }
 
-/// Claims an element for a key. `rest` has the flags, and the key as hex digits; `size` is the size of the map's keys. The text `claimed`,
-/// or the map's fault as text; the element is not in it.
+/// Claims an element for a key. `rest` has the flags, and the key as hex digits; `size` is the size of the map's keys. Returns the text
+/// `claimed`, without the element, or the name of the map's fault.
 fn claim<M: ValueMap>(
     alloc: Global,
     map: &mut M,
@@ -36,7 +36,7 @@ fn claim<M: ValueMap>(
     Ok(done(alloc, map.claim(&key, flags), "claimed")?)
 }
 
-/// The removal of a key, given as hex digits. `size` is the size of the map's keys.
+/// Removes a key, given as hex digits. `size` is the size of the map's keys. Returns `removed`, or the name of the map's fault.
 fn remove<M: ValueMap>(
     alloc: Global,
     map: &mut M,
@@ -63,7 +63,7 @@ fn next<M: ValueMap>(alloc: Global, map: &M, size: u32, digits: &str) -> Result<
     key_text(alloc, outcome, &buffer, size)
 }
 
-/// What a call on a map returns, as text. `size` is the size of the map's keys.
+/// What a call on a map returns, as text, by the call's name and the words after it. `size` is the size of the map's keys.
 fn play_call<M: ValueMap>(
     alloc: Global,
     map: &mut M,
@@ -99,14 +99,15 @@ impl OneMapPlayer {
         OneMapPlayer { alloc, map: None }
     }
 
-    /// Plays the lines that follow on a new map of this shape. The seed of a hash map is always the same.
+    /// Makes a new map of this shape, on which the lines that follow are played. The seed of a hash map is always the same. Returns the
+    /// empty text.
     fn begin(&mut self, shape: &str) -> Result<String, CaseError> {
         let shape = shape_of(self.alloc, shape)?;
         self.map = Some(BpfMap::new(self.alloc, shape, HashSeed::new(1, 2))?);
         Ok(nothing(self.alloc))
     }
 
-    /// Plays the line of a call on the map: the call's name, and the words after it.
+    /// Plays the line of a call on the map: the call's name, and the words after it. `NoMap` before the first `map new`.
     pub fn play(&mut self, call: &str, rest: &str) -> Result<String, CaseError> {
         if call == "new" {
             return self.begin(rest);

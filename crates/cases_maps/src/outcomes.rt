@@ -4,7 +4,7 @@ use bpf_maps::MapFault;
 use cases::{CaseError, GROUP, hex_groups};
 use std::alloc::{AllocError, Global};
 
-/// The text of a call that returns nothing.
+/// The empty text, for a call that returns nothing.
 pub fn nothing(alloc: Global) -> String {
     String::new(alloc)
 }
@@ -21,7 +21,7 @@ pub fn done<T: Drop>(
     }
 }
 
-/// The text `what` if the call succeeded, else (`None`) that a range of it is outside of the memory.
+/// The text `what` if a call on a memory succeeded, else (`None`) `outside`: bytes that it loads, stores or copies are not in the memory.
 pub fn done_inside(alloc: Global, outcome: Option<()>, what: &str) -> Result<String, AllocError> {
     match outcome {
         Some(()) => what.to_string(alloc),

@@ -36,8 +36,8 @@ fn accepted(alloc: Global, text: &str, shape: MapShape) -> Result<Verified, Case
 }
 
 /// The result of a program, given as text, on this packet and zeros as the other words of the context. `map` is live, and the program has
-/// to load it, by `DESCRIPTOR`: `NoMap` if it loads none. `OutOfRange` if the packet is too long. The map's run is ended first, as a bound
-/// map has no element that is kept apart. The values are in part 0 of the memory.
+/// to load it, by `DESCRIPTOR`: `NoMap` if it loads none. `OutOfRange` if the packet is too long. The run before is ended first on the map,
+/// since a map that is bound to a run may have no element that is kept apart. The values are in part 0 of the memory.
 pub fn run_text(
     alloc: Global,
     text: &str,

@@ -14,8 +14,8 @@ pub fn grouped(alloc: Global, bytes: &[u8]) -> Result<String, AllocError> {
     hex_groups(alloc, bytes, SLOT)
 }
 
-/// An instruction as Rust prints it for debugging, `slots`, from how many slots it was decoded, and its bytes as they are encoded, at most
-/// 16: two slots.
+/// An instruction as Rust prints it for debugging, the number of slots from which it was decoded (`slots`), and the bytes to which it is
+/// encoded, at most those of two slots.
 fn encoded(alloc: Global, insn: &Insn, slots: usize) -> Result<String, AllocError> {
     let mut out = [0; 16];
     let length = encode(insn, &mut out);
@@ -23,7 +23,8 @@ fn encoded(alloc: Global, insn: &Insn, slots: usize) -> Result<String, AllocErro
     format!(in alloc; "{insn:?} in {slots}: {written}")
 }
 
-/// `codec`: the instruction at the front of the bytes, the number of its slots, and its bytes as they are encoded.
+/// `codec`: the instruction at the front of the bytes, the number of its slots, and the bytes to which it is encoded; `Slots` if there is
+/// no instruction.
 pub fn decoded(alloc: Global, text: &str) -> Result<String, CaseError> {
     let bytes = bytes_of(alloc, text)?;
     match &decode(&bytes) {
@@ -52,7 +53,7 @@ fn insns_of(alloc: Global, program: &Program) -> Result<Vec<Insn>, AllocError> {
     Ok(insns)
 }
 
-/// Appends the instruction that begins at a slot, or `none`. Before each slot but slot 0 it appends a semicolon.
+/// Appends the number of a slot, and the instruction that begins there, or `none`; before them a semicolon, unless it is slot 0.
 fn append_place(text: &mut String, program: &Program, slot: usize) -> Result<(), AllocError> {
     if slot != 0 {
         text.push_str("; ")?;
@@ -63,8 +64,8 @@ fn append_place(text: &mut String, program: &Program, slot: usize) -> Result<(),
     }
 }
 
-/// `places`: what begins at each slot of a program, given by its slots, and after the last one. This is read from a clone of a program that
-/// is made of its instructions, so that `Program::new` and `clone` are played too.
+/// `places`: which instruction begins at each slot of a program, given as hex digits, and after its last slot, or none. This is read from a
+/// clone of a program that is made of the instructions, so that `Program::new` and `clone` are played too.
 pub fn places(alloc: Global, text: &str) -> Result<String, CaseError> {
     let bytes = bytes_of(alloc, text)?;
     let program = read_program(alloc, &bytes)?;
@@ -87,7 +88,7 @@ pub fn made_of_exits(alloc: Global, digits: &str) -> Result<String, CaseError> {
     Ok(answer)
 }
 
-/// Whether the opcode is an instruction's: two slots of zeros, but for this opcode, are decoded or have another fault than their opcode.
+/// Whether the opcode is an instruction's: two slots of zeros but for this opcode either are decoded, or have a fault other than `Opcode`.
 fn is_known(opcode: u8) -> bool {
     let mut bytes = [0; 16];
     bytes[0] = opcode;

@@ -33,7 +33,7 @@ pub fn printed(alloc: Global, text: &str) -> Result<String, CaseError> {
     Ok(answer)
 }
 
-/// `hex`: the slots of the hex lines.
+/// `hex`: the bytes of the slots that the hex lines spell, as hex digits.
 pub fn read_hex_lines(alloc: Global, text: &str) -> Result<String, CaseError> {
     let text = written(alloc, text)?;
     let bytes = from_hex_lines(alloc, text_of(&text)?)?;

@@ -41,8 +41,9 @@ fn looked_up(text: &str) -> Result<Kind, CaseError> {
     })
 }
 
-/// A kind of value as a case writes it: its word, and then its numbers. These are the range of a `scalar`, the descriptor of a `map`, the
-/// offset of a `stack` pointer, descriptor and offsets of a `value`, descriptor and slot of what is `looked-up`; the others have none.
+/// A `Kind` as a case writes it: its word, and then its numbers. These are the range of a `scalar`, the descriptor of a `map`, the offset
+/// of a `stack` pointer, the descriptor and the offsets of a `value`, the descriptor and the slot of a `looked-up`; `unreadable` and
+/// `context` have none. `Notation` for any other word.
 fn kind_of(text: &str) -> Result<Kind, CaseError> {
     let (word, rest) = first_word(text);
     match word {
@@ -57,8 +58,8 @@ fn kind_of(text: &str) -> Result<Kind, CaseError> {
     }
 }
 
-/// The facts at program entry with one change. After `bytes`, the lowest stack slot has the mask of its written bytes. Any other text is a
-/// kind: register 0 has it, and if it is a pointer, the slot is a spill of it.
+/// The facts at program entry with one change. The text `bytes` and a mask changes the lowest stack slot: of its bytes those of the mask
+/// are written. Any other text is a `Kind`: register 0 has it, and if it is a pointer, the lowest stack slot is a spill of it.
 fn facts_of(text: &str) -> Result<Facts, CaseError> {
     let mut facts = Facts::at_entry();
     let (word, rest) = first_word(text);
@@ -74,8 +75,8 @@ fn facts_of(text: &str) -> Result<Facts, CaseError> {
     Ok(facts)
 }
 
-/// What the join of the facts of two texts, with a `|` between them, has for the register and for the slot; or that `join` and `join_into`
-/// make different facts.
+/// What the join of the facts of two texts, with a `|` between them, has for register 0 and for the lowest stack slot; or that `join` and
+/// `join_into` make different facts. `Notation` without a `|`.
 pub fn joined(alloc: Global, text: &str) -> Result<String, CaseError> {
     let (one, other) = text.split_once('|').ok_or(CaseError::Notation)?;
     let (one, other) = (facts_of(one.trim())?, facts_of(other.trim())?);

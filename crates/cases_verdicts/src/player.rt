@@ -23,7 +23,7 @@ impl VerdictPlayer {
         }
     }
 
-    /// The program of a text in the notation of cases, accepted with the open descriptors.
+    /// The program of a text in the notation of cases, accepted with the open descriptors; `Refused` if it is rejected.
     fn accepted(&self, text: &str) -> Result<Verified, CaseError> {
         let text = written(self.alloc, text)?;
         let program = assemble(self.alloc, text_of(&text)?)?;

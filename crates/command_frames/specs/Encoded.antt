@@ -36,7 +36,7 @@ body_of (close fd) = little_bytes 4 fd
 abbrev pub frame_of : ℕ → Command → List ℕ
 frame_of tenant c = little_bytes 2 tenant ++ (little_bytes 2 (command_code c) ++ body_of c)
 
--- the numbers of a command fit into the bytes of its frame, and a test run has as many words of
+-- the numbers of a command fit into their fields in its frame, and a test run has as many words of
 -- context as a run is given
 abbrev pub FitsFields : Command → Type 0
 FitsFields (map_create kind key value max flags) =

@@ -13,8 +13,8 @@ framed frame = little_bytes 4 (length frame) ++ frame
 abbrev pub IsFrame : List ℕ → Type 0
 IsFrame frame = length frame < 2 ^ 32
 
--- the bytes don't begin with a whole frame: they are fewer than the four of a length, or fewer than
--- these four and as many as the length is
+-- the bytes don't begin with a whole frame: they are fewer than the four bytes of a length, or
+-- fewer than these four and a frame of this length
 abbrev pub IsPartial : List ℕ → Type 0
 IsPartial bytes = (length bytes < 4) ⊎ (length bytes < 4 + little_number 4 bytes)
 
@@ -54,8 +54,8 @@ longest_payload = 4096
 abbrev pub longest_reply : ℕ
 longest_reply = 4 + reply_head + longest_payload
 
--- the bytes of a reply before its payload: `size`, the number of bytes that follow this number, the
--- tenant, the command and the status
+-- the bytes of a reply before its payload: `size`, the tenant, the command and the status. `size`
+-- is the number of bytes that follow it
 abbrev pub front_bytes : ℕ → ℕ → ℤ → ℕ → List ℕ
 front_bytes tenant command status size =
     little_bytes 4 size

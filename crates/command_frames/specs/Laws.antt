@@ -27,8 +27,8 @@ OneStream =
     (bytes : List ℕ) (frames others : List (List ℕ)) (rest left : List ℕ)
     → IsStream bytes frames rest → IsStream bytes others left → (frames ≡ others) × (rest ≡ left)
 
--- if the bytes of a stream begin with whole frames (`first`), these are its first ones, and what
--- follows them (`left`) is a stream of its other frames (`more`) with the same rest
+-- if the bytes of a stream begin with some whole frames (`first`), these are its first ones, and
+-- what follows them (`left`) is a stream of its remaining frames (`more`) with the same rest
 abbrev pub FramesInFront : Type 0
 FramesInFront =
     (bytes : List ℕ) (first frames : List (List ℕ)) (left rest : List ℕ)

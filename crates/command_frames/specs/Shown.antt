@@ -18,6 +18,7 @@ shown_command (code.ProgLoad kind slots) = prog_load kind slots.now
 shown_command (code.ProgTestRun fd words packet) = prog_test_run fd words packet.now
 shown_command (code.Close fd) = close fd
 
--- the result of parsing as contracts see it: a command by `shown_command`; a fault is unchanged
+-- the result of parsing as contracts see it: a command by `shown_command`; a `BadFrame`, why the
+-- frame carries no command, is unchanged
 abbrev pub shown_result : Result CodeCommand BadFrame → Result Command BadFrame
 shown_result r = result_map_both shown_command (λ e. e) r

@@ -36,8 +36,8 @@ fn word(bytes: &[u8], at: usize) -> u32
     LittleEndian::read_u32(&bytes[at..])
 }
 
-/// Reads the body of MAP_CREATE, command 0: the type of the map, the sizes of a key and of a value in bytes, the most entries, and the
-/// flags, four bytes each. `Body` if the body has another length.
+/// Reads the body of MAP_CREATE, command 0: the type of the map, the sizes of a key and of a value in bytes, `max_entries`, and the flags,
+/// four bytes each. `Body` if the body has another length.
 fn map_create(body: &[u8]) -> Result<Command<'_>, BadFrame>
     ensures { shown_result result ≡ command_in 0 body.now }
 {
@@ -120,8 +120,8 @@ fn prog_load(body: &[u8]) -> Result<Command<'_>, BadFrame>
     })
 }
 
-/// Reads the ten words of the context that a frame has from the front of `bytes`, in order: all but the context's first one, which is the
-/// packet's length. The caller has tested that there are so many bytes.
+/// Reads the words of the context that a frame has from the front of `bytes`, in order. There are `GIVEN_WORDS`: all words of a context but
+/// the first, the packet's length. The caller has tested that the bytes are there.
 fn given_words(bytes: &[u8]) -> [u32; GIVEN_WORDS]
     requires { context_length ≤ length bytes.now }
     ensures { result ≡ words given_words bytes.now }

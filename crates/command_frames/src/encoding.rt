@@ -15,7 +15,7 @@ use byteorder::{ByteOrder, LittleEndian};
 use std::alloc::AllocError;
 use words::GIVEN_WORDS;
 
-/// Appends a number in four bytes, little-endian.
+/// Appends a number in four bytes, little-endian. `AllocError`: out of memory.
 #[inline(always)]
 fn append(frame: &mut Vec<u8>, number: u32) -> Result<(), AllocError>
     ensures { OnOk result (frame.new.items ≡ frame.old.items ++ little_bytes 4 number) }
@@ -23,7 +23,8 @@ fn append(frame: &mut Vec<u8>, number: u32) -> Result<(), AllocError>
     frame.extend_from_slice(&number.to_le_bytes())
 }
 
-/// Replaces the buffer's contents by the head of a frame: the tenant and the number of the command, two bytes each, little-endian.
+/// Replaces the contents of `frame` by a head: the tenant and the number of the command, two bytes each, little-endian. `AllocError`: out
+/// of memory.
 #[inline(always)]
 fn begin(frame: &mut Vec<u8>, tenant: u16, command: u16) -> Result<(), AllocError>
     ensures { OnOk result (frame.new.items ≡ little_bytes 2 tenant ++ little_bytes 2 command) }
@@ -33,8 +34,8 @@ fn begin(frame: &mut Vec<u8>, tenant: u16, command: u16) -> Result<(), AllocErro
     frame.extend_from_slice(&command.to_le_bytes())
 }
 
-/// Replaces the buffer's contents by a frame to `tenant`. `command` is the number of its command, and its body is `number` in four bytes, a
-/// descriptor or the type of a program, and then `bytes`.
+/// Replaces the contents of `frame` by a frame to `tenant`. `command` is the number of its command. Its body is `number` (a descriptor, or
+/// the type of a program) in four bytes, little-endian, and then `bytes`. `AllocError`: out of memory.
 #[inline(always)]
 fn write_with_number(
     frame: &mut Vec<u8>,
@@ -51,7 +52,7 @@ fn write_with_number(
     frame.extend_from_slice(bytes)
 }
 
-/// Appends the words of a context, four bytes each, little-endian.
+/// Appends the words of a context, four bytes each, little-endian. `AllocError`: out of memory.
 #[inline(always)]
 fn append_words(frame: &mut Vec<u8>, words: [u32; GIVEN_WORDS]) -> Result<(), AllocError>
     ensures { OnOk result (frame.new.items ≡ frame.old.items ++ flat_map (little_bytes 4) words) }
@@ -61,7 +62,8 @@ fn append_words(frame: &mut Vec<u8>, words: [u32; GIVEN_WORDS]) -> Result<(), Al
     frame.extend_from_slice(&bytes)
 }
 
-/// Replaces the buffer's contents by the frame of a test run, command 10: a descriptor, the words of the context, and the packet.
+/// Replaces the contents of `frame` by the frame of a test run (PROG_TEST_RUN) for `tenant`: after the head a descriptor, the words of the
+/// context, and the packet. `AllocError`: out of memory.
 #[inline(always)]
 fn write_run(
     frame: &mut Vec<u8>,

@@ -12,8 +12,8 @@ use byteorder::{ByteOrder, LittleEndian};
 /// The length of a head (a tenant and a command) in bytes.
 pub const HEAD_LENGTH: usize = 4;
 
-/// The length of the longest frame that is read, in bytes. Each command within its own limits is shorter: the longest is a test run on a
-/// packet of 65,536 bytes.
+/// The length of the longest frame that is read, in bytes. The frame of each command within its own limits is shorter: the longest is that
+/// of a test run on the longest packet.
 pub const LONGEST_FRAME: usize = 131_072;
 
 /// The head of a frame; `None` if it has fewer than four bytes.

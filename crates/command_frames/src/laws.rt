@@ -13,20 +13,19 @@ pub fn one_stream()
     ensures { OneStream }
 {}
 
-/// A law: if the bytes of a stream begin with whole frames, these are its first ones, and the bytes after them are a stream of its other
-/// frames with the same rest.
+/// A law: if the bytes of a stream begin with some whole frames, these are its first ones, and the bytes after them are a stream of its
+/// remaining frames with the same rest.
 pub fn frames_in_front()
     ensures { FramesInFront }
 {}
 
-/// A law: the frame of a command is parsed as this command, if its numbers fit and it is at most `LONGEST_FRAME` bytes long. A frame that
-/// is parsed as a command is the frame of this command to its owner, the number in its first two bytes.
+/// A law: the frame of a command is parsed as this command, if the command's numbers fit into their fields and the frame has at most
+/// `LONGEST_FRAME` bytes. A frame that is parsed as a command is the frame of this command to its owner, the tenant in its first two bytes.
 pub fn encoding_inverts_parsing()
     ensures { EncodingInvertsParsing }
 {}
 
-/// A law: the frame of a command to a tenant, a number below 2^16, has this tenant as its owner, which is the number in its first two
-/// bytes.
+/// A law: the owner of the frame of a command to a tenant, the number in its first two bytes, is this tenant, if its number is below 2^16.
 pub fn frames_have_owners()
     ensures { FramesHaveOwners }
 {}

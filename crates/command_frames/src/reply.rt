@@ -14,7 +14,7 @@ const REPLY_HEAD: usize = 8;
 /// The number of bytes of a reply before its payload: the length field, tenant, command and status.
 const FRONT_LENGTH: usize = 4 + REPLY_HEAD;
 
-/// What the length field has in a reply whose payload is a number of four bytes: the bytes after this field.
+/// What the length field has in a reply whose payload is a number of four bytes: how many bytes follow this field.
 const NUMBER_LENGTH: u32 = REPLY_HEAD as u32 + 4;
 
 /// The length of the longest payload of a reply, in bytes: that of the longest value of a map.
@@ -42,7 +42,7 @@ impl Model for ReplyBuf {
 }
 
 impl ReplyBuf {
-    /// Allocates a buffer for the longest reply, 4,108 bytes, so that no reply takes memory. `AllocError`: out of memory.
+    /// Allocates a buffer of `LONGEST_REPLY` bytes, so that no reply takes memory. `AllocError`: out of memory.
     pub fn new(alloc: Global) -> Result<ReplyBuf, AllocError>
         ensures { IfOk result (λ reply. reply ≡ []) }
     {
@@ -51,8 +51,8 @@ impl ReplyBuf {
         })
     }
 
-    /// The buffer with the memory of a vector, whose contents are dropped; `None` if its capacity is less than the longest reply, 4,108
-    /// bytes.
+    /// An empty buffer with the memory of a vector, whose contents are dropped; `None` if its capacity is less than `LONGEST_REPLY`. Then
+    /// the vector is freed.
     pub fn from_vec(bytes: Vec<u8>) -> Option<ReplyBuf>
         ensures some { IfSome result (λ reply.
             (reply ≡ []) × (longest_reply ≤ vec_capacity bytes)) }
@@ -66,7 +66,7 @@ impl ReplyBuf {
         Some(ReplyBuf { bytes })
     }
 
-    /// The vector with the bytes of the reply, and a capacity of at least 4,108 bytes.
+    /// The vector with the bytes of the reply, and a capacity of at least `LONGEST_REPLY`.
     pub fn into_vec(self) -> Vec<u8>
         ensures bytes { result.items ≡ self }
         ensures bound { length result.items ≤ longest_reply }
@@ -76,7 +76,8 @@ impl ReplyBuf {
         bytes
     }
 
-    /// The reply that was written last: its length, tenant, command, status and payload, at most 4,108 bytes.
+    /// The reply that was written last: its length field, tenant, command, status and payload, at most `LONGEST_REPLY` bytes. Empty before
+    /// the first reply.
     pub fn bytes(&self) -> &[u8]
         ensures bytes { result.now ≡ self.now }
         ensures bound { length result.now ≤ longest_reply }
@@ -91,8 +92,8 @@ impl ReplyBuf {
         self.bytes.clear();
     }
 
-    /// Appends bytes. The caller appends no more than a reply has, and the buffer has the capacity for the longest reply, so `unwrap` never
-    /// meets an error.
+    /// Appends bytes. Each caller keeps to the length of the longest reply, for which the buffer has the capacity, so `unwrap` never meets
+    /// an error.
     fn append(&mut self, bytes: &[u8])
         requires { length self.old + length bytes.now ≤ longest_reply }
         ensures { self.new ≡ self.old ++ bytes.now }
@@ -113,7 +114,7 @@ fn front(head: Head, status: i32, length: u32) -> [u8; FRONT_LENGTH]
     [a, b, c, d, e, f, g, h, i, j, k, l]
 }
 
-/// Replaces the contents of `reply` by a reply. The payload has at most 4,096 bytes, as each command sees to it.
+/// Replaces the contents of `reply` by a reply. The payload has at most `LONGEST_PAYLOAD` bytes: no command gives a longer one.
 pub fn write_reply(head: Head, status: i32, payload: &[u8], reply: &mut ReplyBuf)
     requires { length payload.now ≤ longest_payload }
     ensures { reply.new ≡ reply_bytes head.tenant head.command status payload.now }

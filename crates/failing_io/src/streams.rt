@@ -70,7 +70,8 @@ impl Read for Input<'_> {
 }
 
 /// A writer with room for `room` more bytes, which takes at most `at_once` in a call. Its flush fails unless `flushes`. It compares what it
-/// takes with `expected`, the bytes that are still to come; `differs` if some were others. Without room it takes none, which ends a stream.
+/// takes with `expected`, the bytes that have to come next; `differs` is true once it took others. Without room it takes no byte, which
+/// ends a stream.
 #[derive(Drop)]
 struct Output<'a> {
     room: usize,
@@ -140,8 +141,8 @@ fn assert_ends(rt: &impl Abort, alloc: Global, case: &str, number: usize, stream
     assert!(rt; found == end && is_written && is_counted, "{case} {number}");
 }
 
-/// A stream of these bytes, which are read at once, with these replies. As made here it has to end after two frames, with no call failed;
-/// a case changes the fields in which it differs.
+/// A stream of these bytes, all read in one call if there is room, after which the reader does as `then` says; `expected` are the replies.
+/// As made here it has to end after two frames, with no call failed; a case changes the fields in which it differs.
 fn stream_of<'a>(bytes: &'a [u8], then: Then, expected: &'a [u8]) -> Stream<'a> {
     Stream {
         input: Input {
@@ -164,8 +165,8 @@ fn stream_of<'a>(bytes: &'a [u8], then: Then, expected: &'a [u8]) -> Stream<'a> 
     }
 }
 
-/// How a stream of the first `length` bytes of `LOAD_AND_RUN` ends, and how many bytes are written: at the end of a frame, inside the
-/// first frame, or inside the second one (`_`).
+/// How a stream of the first `length` bytes of `LOAD_AND_RUN` ends, and how many bytes of replies are written. The cut is at the beginning
+/// or at the end of a frame, inside the first frame, or inside the second one (`_`).
 fn end_of_cut(length: usize) -> (Result<u32, ServeFault>, usize) {
     match length {
         0 => (Ok(0), 0),

@@ -3,7 +3,8 @@ use Rattle.std.specs.Prelude.{◌≡◌, ℕ, ◌<◌, is_none, List, Option, No
 use Rattle.std.specs.Int.{bit_at}
 use Rattle.fd_table.specs.Table.{most}
 
--- for each index below 64, the bit of the word is 0 if the entry is free, and 1 if it is taken
+-- for each index below `most`, the bit of the word there is 0 if the list has None at this index,
+-- so that its descriptor is free, and else 1
 abbrev pub MarksTaken : {A : Type 0} → ℕ → List (Option A) → Type 0
 MarksTaken word entries =
     (index : ℕ)

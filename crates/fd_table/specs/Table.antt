@@ -12,8 +12,8 @@ abbrev pub most : ℕ
 most = 64
 
 module _ {A : Type 0} where
-  -- the table with nothing open. The entry of a table at index k, from 0, is what descriptor 3 + k
-  -- names, and None if that is free
+  -- the table with nothing open: None for each descriptor. A table has at index k, from 0, the
+  -- object that descriptor 3 + k names, and None if that is free
   abbrev pub nothing_open : List (Option A)
   nothing_open = replicate most None
 
@@ -41,8 +41,9 @@ module _ {A : Type 0} where
   with_closed table fd =
       if nat_lt fd first_descriptor then table else slice_set table (fd - first_descriptor) None
 
-  -- the first argument is the lowest free descriptor of the table `old`, at which x is opened; if
-  -- it is None, no descriptor is free, x is returned as an error, and the table is unchanged
+  -- opening x in the table `old` returns `answer` and makes the table `new`. The first argument is
+  -- the lowest free descriptor of `old`: x is open at it in `new`, and it is returned. If none is
+  -- free (None), x is returned as an error, and the table is unchanged
   abbrev pub OpensLowest : Option ℕ → List (Option A) → A → Result ℕ A → List (Option A) → Type 0
   OpensLowest (Some fd) old x answer new = (answer ≡ Ok fd) × (new ≡ with_open old fd x)
   OpensLowest None old x answer new = (answer ≡ Err x) × (new ≡ old)

@@ -13,12 +13,13 @@ pub const FIRST: u32 = 3;
 /// How many descriptors may be open at once: as many as a word has bits, since a bit mask has one for each.
 pub const MOST: usize = 64;
 
-/// The open objects by descriptor. Contracts see a list of 64 entries, each free (`None`) or with an object; entry 0 is descriptor
-/// 3.
+/// The open objects by descriptor. Contracts see a list of `MOST` options: at index k, from 0, the object that descriptor `FIRST` + k
+/// names, or `None` if this descriptor is free.
 #[derive(Drop)]
 pub struct FdTable<T> {
+    /// The list that contracts see.
     entries: Vec<Option<T>>,
-    /// Bit k is set if entry k is taken.
+    /// Bit k is 1 if descriptor `FIRST` + k is open, and 0 if it is free.
     taken: u64,
 }
 
@@ -34,7 +35,7 @@ impl<T> Model for FdTable<T> {
     ghost invariant = { λ t. (vec_len t.entries ≡ most) × MarksTaken t.taken t.entries.items };
 }
 
-/// `MOST` free entries. `AllocError`: out of memory.
+/// The list of a table with nothing open: `None` for each descriptor, `MOST` times. `AllocError`: out of memory.
 fn free_entries<T: Drop>(alloc: Global) -> Result<Vec<Option<T>>, AllocError>
     ensures { IfOk result (λ entries. entries.items ≡ nothing_open) }
 {
@@ -57,8 +58,8 @@ impl<T: Drop> FdTable<T> {
         })
     }
 
-    /// The index of the lowest free entry, which is that of the lowest bit of `taken` that is not set. `None` if all entries are taken:
-    /// then all 64 bits are ones.
+    /// The index of the lowest free descriptor, its distance from `FIRST`: that of the lowest bit of `taken` that is 0. `None` if no
+    /// descriptor is free: then all bits are ones.
     fn free_index(&self) -> Option<usize>
         ensures value { result ≡ position is_none self.now }
         ensures bound { IfSome result (λ index. index < most) }

@@ -28,7 +28,7 @@ pub(crate) fn bytes_fit(bytes: &[u8])
 }
 
 /// A law: if there is a next instruction with these maps and this memory (`HasNext`), there is one with only the maps known, one with only
-/// the memory known, and one with neither. Each arm requires no more than its step reads.
+/// the memory known, and one with neither. So each arm of `dispatch` requires no more than its step reads.
 #[inline(always)]
 pub(crate) fn has_some_next(maps: BoundMaps, rest: &[RawSlot], registers: &Registers, arena: &Arena)
     requires { HasNext rest.now registers.now
@@ -59,7 +59,8 @@ fn steps_stay_inside()
     bpf_helpers::laws::stores_keep_simulation();
 }
 
-/// The premises of a run's proof: the laws of its steps, its start and its end, and of the maps of a program.
+/// The premises of a run's proof: the laws of its steps and of loads of packet bytes, of its start and its end, of maps that are not bound,
+/// and of the maps that a program names.
 pub(crate) fn run_premises()
     ensures { RunLaws }
 {

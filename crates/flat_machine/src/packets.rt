@@ -14,7 +14,7 @@ ghost use Rattle.flat_machine.specs.Packets.{longest_packet, packets_in, inputs_
 use std::marker::Model;
 use words::GIVEN_WORDS;
 
-/// The length of the longest packet of a run, in bytes: this project's own limit.
+/// The most bytes that a packet may have: this project's own limit.
 pub const LONGEST_PACKET: usize = 65_536;
 
 /// The highest bit of a word, 2^63. No slice has so many bytes, so an end of a packet that has it is outside.
@@ -23,7 +23,7 @@ const HIGHEST_BIT: usize = 0x8000_0000_0000_0000;
 /// Why packets are refused.
 #[derive(Clone, Copy, Debug, PartialEq, Eq)]
 pub enum PacketFault {
-    /// There are words for neither all packets together nor each of them.
+    /// There is neither one array of context words for all packets nor one for each.
     Contexts,
     /// A packet ends before it begins, or after the last byte.
     Outside,
@@ -53,7 +53,7 @@ impl<'a> Model for Packets<'a> {
         ≡ None };
 }
 
-/// Whether this number of arrays of words of context is 1, one for all packets, or that of the packets, one for each.
+/// Whether so many arrays of context words (`contexts`) are one for all packets, or one for each.
 #[inline(always)]
 fn are_enough(contexts: usize, packets: usize) -> bool
     ensures { result ≡ are_contexts contexts packets }
@@ -80,7 +80,8 @@ fn are_plain(many: usize, ends: &[usize]) -> bool
     lengths < LONGEST_PACKET && reach < HIGHEST_BIT && start <= many
 }
 
-/// Why packets with these ends, in `many` bytes, are refused, by tests of each in turn; `None` if they are not.
+/// Why packets with these ends, in `many` bytes, are refused: the fault of the first one that has a fault, by tests of each in turn; `None`
+/// if none has. It is cold, since almost all batches are accepted without it (`are_plain`).
 #[cold]
 #[inline(never)]
 fn first_fault(many: usize, ends: &[usize]) -> Option<PacketFault>
@@ -113,8 +114,8 @@ fn fault_of(many: usize, ends: &[usize]) -> Option<PacketFault>
 }
 
 impl<'a> Packets<'a> {
-    /// The packets that end at these numbers of bytes. Each begins at the end of the one before it. `contexts` has one array of
-    /// words for all packets, or one for each.
+    /// The packets in `bytes`: for each, `ends` has how many of the bytes are before its end. The first begins at 0, each other at the end
+    /// of the one before it. `contexts` has one array of context words for all packets, or one for each.
     ///
     /// # Errors
     ///

@@ -10,23 +10,24 @@ use Rattle.tenant.specs.Errno.{status_of}
 use Rattle.tenant.specs.State.{TenantState}
 use Rattle.host_core.specs.Handled.{Turn, frames_in, replies_in, HandlesInOrder}
 
--- the program at descriptor fd of a tenant runs on these inputs, which leads from one state to the
--- other; `written` is `room` with the results at its front; a tenant that is not served runs none
+-- the runs of the program at descriptor fd of a tenant on these inputs lead from its state s to
+-- `after`; `written` is `room` with their results at its front. False for a tenant that is not
+-- served (None)
 abbrev pub RunsFor : ℕ → Option TenantState → List BatchInput → List ℕ → List ℕ → Option TenantState
     → Type 0
 RunsFor fd None inputs room written after = ⊥
 RunsFor fd (Some s) inputs room written after =
     (last : TenantState) × RunsBatch fd s inputs room written last × (after ≡ Some last)
 
--- why a batch of so many contexts, `many` bytes of packets with these ends, and room for `room`
--- results is rejected: its tenant is not served, or the error of the tenant; None if it is run
+-- why a batch is rejected: its tenant is not served, or the tenant's own error; None if it is run.
+-- It has `contexts` contexts, `many` bytes of packets with these ends, and room for `room` results
 abbrev pub refusal_for : Option TenantState → ℕ → ℕ → ℕ → List ℕ → ℕ → Option Errno
 refusal_for None fd contexts many ends room = Some NotPermitted
 refusal_for (Some s) fd contexts many ends room =
     batch_refusal (named s.objects fd) contexts many ends room
 
--- n is the number of packets that a bound on executed instructions allows a batch of so many; all
--- for a tenant that is not served, since such a batch is rejected as a whole
+-- n is how many of the `packets` of a batch a bound on executed instructions allows; all for a
+-- tenant that is not served, since such a batch is rejected as a whole
 abbrev pub IsAllowedFor : Option TenantState → ℕ → ℕ → ℕ → ℕ → Type 0
 IsAllowedFor None fd bound packets n = n ≡ packets
 IsAllowedFor (Some s) fd bound packets n = IsAllowed (named s.objects fd) bound packets n
@@ -41,8 +42,9 @@ pub record ChangesTenant (tenant : ℕ) (before after : List TenantState) : Type
   pub others : (other : ℕ) → other ≢ tenant → slice_get after other ≡ slice_get before other
   pub count : length after ≡ length before
 
--- If a tenant runs a batch, there are turns, calls of `Host::handle`, with the same effect: their
--- frames are the test runs of its packets, and their replies have its results.
+-- If a tenant runs a batch, and `frames` are frames of the tenant with the test runs of its
+-- packets, then turns with these frames, which are calls of `Host::handle`, have the same effect on
+-- all states, and their replies have the results of the batch.
 abbrev pub BatchIsItsCalls : Type 0
 BatchIsItsCalls =
     (tenant fd : ℕ) (frames : List (List ℕ)) (inputs : List BatchInput) (results : List ℕ)

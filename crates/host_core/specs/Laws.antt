@@ -46,8 +46,8 @@ EachIsServedAloneUntilRefused =
     → Noninterference before (frames_in (take n turns)) (replies_in (take n turns))
     (states_after before (take n turns))
 
--- Noninterference by a tenant's own replies: if none of them is that memory was refused, the tenant
--- gets exactly the replies of its own machine without refusals of memory. Whether its flag is set
+-- Noninterference by a tenant's own replies: if none of them says that memory was refused, they are
+-- exactly those of its own machine without refusals of memory. Whether the tenant's flag is set
 -- before does not matter, nor what is refused to others.
 abbrev pub NoninterferenceByReplies
     : List TenantState → List (List ℕ) → List (List ℕ) → List TenantState → Type 0
@@ -55,8 +55,8 @@ NoninterferenceByReplies before frames replies after =
     (t : ℕ) → let own = replies_of t frames replies in NoneIsRefusedMemory own
     → IsServedAlone (slice_get before t) (frames_of t frames) own (slice_get after t)
 
--- In each stretch of turns, n after the first m, a tenant none of whose replies is that memory was
--- refused gets exactly the replies of its own machine, from the state before the stretch.
+-- In each stretch of turns, n after the first m: if no reply to a tenant says that memory was
+-- refused, it gets exactly the replies of its own machine, from its state before the stretch.
 abbrev pub EachStretchIsServedAlone : Type 0
 EachStretchIsServedAlone =
     (before after : List TenantState) (turns : List Turn) (m n : ℕ)

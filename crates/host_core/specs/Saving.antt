@@ -13,8 +13,8 @@ use Rattle.host_core.specs.Batch.{RunsFor, ChangesTenant}
 use Rattle.host_core.specs.Handled.{Handles}
 use Rattle.host_core.specs.States.{HostState, new_host}
 
--- a frame with its reply, and the births before and after it: those of its tenant change as its
--- command says, and no others do
+-- at this frame, with this reply, the births of the frame's tenant change as its command says, and
+-- no other births change
 pub record Records (frame reply : List ℕ) (before after : HostState) : Type 0 where
   pub own : (s : TenantState) (births : List Birth)
       → slice_get before.states (owner frame) ≡ Some s
@@ -29,8 +29,8 @@ pub record Records (frame reply : List ℕ) (before after : HostState) : Type 0 
       → slice_get after.births other ≡ slice_get before.births other
   pub count : length after.births ≡ length before.births
 
--- the frames of a part of a tenant, each with its length before it; None if the tenant is not
--- served or has no such part
+-- the frames of one part of a save of a tenant, each with its length before it; None if the tenant
+-- is not served or there is no such part
 abbrev pub saved_part : HostState → ℕ → ℕ → Option (List ℕ)
 saved_part host tenant part =
     option_and_then (λ s.
@@ -66,13 +66,13 @@ abbrev pub Calls : HostState → List HostState → HostState → Type 0
 Calls before [] after = after ≡ before
 Calls before (next ∷ later) after = Call before next × Calls next later after
 
--- these are the bytes of all parts of a tenant, from part 0 on, and it has no more parts
+-- `saved` has the bytes of all parts of a save of the tenant, from part 0 on, and there are no more
 abbrev pub AreParts : HostState → ℕ → List (List ℕ) → Type 0
 AreParts host tenant saved = (part : ℕ) → saved_part host tenant part ≡ slice_get saved part
 
--- The parts of each tenant, one after another, are frames with their lengths, each the tenant's
--- own, and they restore it: a new tenant that gets them replies as it does. A frame has 16 bits for
--- the number of its tenant.
+-- All parts of a save of a tenant, one after another, are frames of this tenant, each with its
+-- length before it. They restore it: a new tenant that gets them replies as it does. This holds for
+-- each tenant with a number of 16 bits, since a frame has no more for it.
 abbrev pub AreRestored : HostState → Type 0
 AreRestored host =
     (tenant : ℕ) (s : TenantState) → tenant < 2 ^ 16 → slice_get host.states tenant ≡ Some s
@@ -81,7 +81,7 @@ AreRestored host =
     × AllByRecursion (λ frame. owner frame ≡ tenant) frames
     × IsRestoredBy s frames
 
--- after any of these calls on a new host, the parts of each tenant restore it
+-- after any of these calls on a new host, the parts of a save of each tenant restore this tenant
 abbrev pub TenantsAreRestored : Type 0
 TenantsAreRestored =
     (count : ℕ) (calls : List HostState) (host : HostState)

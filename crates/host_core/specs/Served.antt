@@ -16,7 +16,7 @@ use Rattle.tenant.specs.Alone.{frames_of, replies_of, IsFault, IsServedAlone}
 
 -- ---- the replies to the tenants
 
--- no memory was ever refused to the tenant; one that is not served takes none
+-- no memory was ever refused to the tenant; true of one that is not served (None), which takes none
 abbrev pub IsUnrefused : Option TenantState → Type 0
 IsUnrefused None = Unit {0}
 IsUnrefused (Some s) = s.refused ≡ false
@@ -69,8 +69,8 @@ abbrev pub NoCallFailed : StreamState → StreamState → Type 0
 NoCallFailed old new =
     (new.read_failures ≡ old.read_failures) × (new.write_failures ≡ old.write_failures)
 
--- frames were read and got replies, one after another, and then the bytes `rest` were read; of the
--- replies, `out` was written
+-- the frames of the turns were read and got replies, one after another, and then the bytes `rest`
+-- were read; the bytes `out` were written
 pub record Serves (old new : StreamState) (turns : List Turn) (rest out : List ℕ) : Type 0 where
   pub each : AllByRecursion IsFrame (frames_in turns)
   pub read : Consumes old.input new.input (flat_map framed (frames_in turns) ++ rest)
@@ -102,8 +102,8 @@ pub record ServesAlone (old new : StreamState) (count : ℕ) (rest : List ℕ) :
   pub alone : Noninterference old.states frames replies new.states
   pub no_fault : NoneFaults replies
 
--- `count` replies were written whole, and of the reply to one more frame the first n bytes: a part
--- of it, or all if only the flush failed; nothing after that frame was read
+-- `count` replies were written whole, and of the reply to one more frame the first n bytes: fewer
+-- than all, or all if only the flush failed; nothing after that frame was read
 abbrev pub CutsLastReply : StreamState → StreamState → ℕ → Type 0
 CutsLastReply old new count =
     (turns : List Turn) × (last : Turn) × (n : ℕ) × (length turns ≡ count)
@@ -136,8 +136,8 @@ StopsWithFault old new TooManyFrames count =
     (byte : ℕ) × AnswersFrames old new count (byte ∷ []) × NoCallFailed old new
 StopsWithFault old new Memory count = (count ≡ 0) × (new ≡ old)
 
--- at any fault but Write, which cuts a reply, the frames before it are served like those of a whole
--- stream
+-- at any fault but Write, which cuts a reply, `ServesAlone` holds of the frames before it, as of
+-- those of a whole stream
 abbrev pub StopsAlone : StreamState → StreamState → ServeFaultKind → ℕ → Type 0
 StopsAlone old new kind count = kind ≢ Write → (rest : List ℕ) × ServesAlone old new count rest
 

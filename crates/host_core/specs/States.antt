@@ -24,10 +24,10 @@ pub record HostState : Type 0 where
 abbrev pub births_in : List RecordedTenant → List (List Birth)
 births_in tenants = map (λ t. t.births) tenants
 
--- the states and births of these tenants, whose values lie in this memory
+-- the states and births of these tenants, the values of whose maps lie in this memory
 abbrev pub host_state : Memory → List RecordedTenant → HostState
 host_state m tenants = record { states = states_in m tenants; births = births_in tenants }
 
--- a host of so many new tenants, which have no objects and no births
+-- a host of `count` new tenants, which have no objects and no births
 abbrev pub new_host : ℕ → HostState
 new_host count = record { states = replicate count new_tenant; births = replicate count [] }

@@ -38,7 +38,7 @@ fn serve_from_the_beginning<R: Source, W: Sink>(
     serve_new_host(alloc, tenants, HashSeed::new(0, 0), reader, writer, 100).ok()
 }
 
-/// Whatever streams a host served, the parts of its tenants restore them.
+/// Whatever streams a host served, the saved parts of each of its tenants restore this tenant.
 fn serve_and_save<R: Source, W: Sink>(
     alloc: Global,
     host: &mut Host,
@@ -53,8 +53,8 @@ fn serve_and_save<R: Source, W: Sink>(
     host.tenants_are_restored();
 }
 
-/// Two frames are handled: `refused`, which may be refused memory, and `next`. If the status of the second reply, the one that `reply` has
-/// at the end, is not `NoMemory`, it is exactly the reply of its tenant's own machine from the state between the two, even if memory was
+/// Two frames are handled: `refused`, to which memory may be refused, and `next`, whose reply `reply` has at the end. Unless the status of
+/// this reply is `NoMemory`, it is exactly the reply of its tenant's own machine from the state between the two frames, even if memory was
 /// refused to the tenant by then.
 fn handle_after_a_refusal(host: &mut Host, refused: &[u8], next: &[u8], reply: &mut ReplyBuf)
     ensures { (first : List ℕ) × (between : List TenantState)

@@ -60,8 +60,9 @@ impl Model for Host {
         × AreReached (host_state h.arena h.tenants.items) };
 }
 
-/// Creates `count` tenants with nothing open. The keys of their hash maps will be hashed with `seed`. Each is in the state of a new tenant
-/// whatever the memory has (`m`) and whichever number it gets (`first`), since it has no map there. `AllocError`: out of memory.
+/// Creates `count` tenants with nothing open. The keys of their hash maps will be hashed with `seed`. Each is in the state of a new tenant,
+/// whatever bytes the arena has (`m`) and whatever number the first of them gets (`first`), since none has a map. `AllocError`: out of
+/// memory.
 fn new_tenants(
     alloc: Global,
     count: usize,
@@ -98,7 +99,7 @@ impl Host {
         })
     }
 
-    /// Whether memory was ever refused to `tenant`, so that its replies may differ from those of its own machine. False
+    /// Whether memory was ever refused to `tenant`, so that its replies may differ from those of its own machine without refusals. False
     /// for a number that is not served.
     pub fn memory_was_refused(&self, tenant: usize) -> bool
         ensures refused { result ≡ true → ¬ IsUnrefused (slice_get self.now.states tenant) }
@@ -144,8 +145,8 @@ impl Host {
     ///
     /// A new tenant of this number that is given the frames of all parts in their order, on this host or another one, then replies as this
     /// one does, unless it is refused memory. Between two parts the tenant must not change; others may be served. A part creates one map or
-    /// program, puts at most 1,024 keys into a map, or opens or closes descriptors. So a save of any size takes the memory of one part at a
-    /// time.
+    /// program, puts at most `KEYS_OF_PART` keys (`saving`) into a map, or opens or closes descriptors. So a save of any size takes the
+    /// memory of one part at a time.
     ///
     /// # Errors
     ///
@@ -160,9 +161,9 @@ impl Host {
         kept.save_part(self.alloc, tenant as u16, part, self.arena.part(tenant))
     }
 
-    /// A law, which does nothing when it runs: what `save` returns restores a tenant. The parts of each tenant are frames. A new tenant to
-    /// which no memory is refused succeeds at each of them and then replies as this one does, whatever calls this host had, and
-    /// whatever memory was refused.
+    /// A law, which does nothing when it runs: what `save` returns restores a tenant. All parts of a save of a tenant, one after another,
+    /// are frames of this tenant. A new tenant to which no memory is refused succeeds at each of them and then replies as this one does,
+    /// whatever calls this host had, and whatever memory was refused.
     pub fn tenants_are_restored(&self)
         ensures { AreRestored self.now }
     {
@@ -174,8 +175,8 @@ impl Host {
     }
 
     /// Runs the program at a descriptor of `tenant` on many packets, one after another. The packets lie one after another in `bytes`,
-    /// and `ends` has for each how many bytes are before its end. `contexts` has the ten words of context that all packets get, or those
-    /// of each. The results are written to the front of `results`, whose rest is unchanged.
+    /// and `ends` has for each packet the number of bytes up to its end. `contexts` has one context for all packets, or one for each; a
+    /// context has `GIVEN_WORDS` words. The results are written to the front of `results`, whose rest is unchanged.
     ///
     /// Results and states afterwards are those of the test-run frames of these packets in this order. The states of all other
     /// tenants are unchanged.
@@ -184,8 +185,8 @@ impl Host {
     ///
     /// The first that applies: `NotPermitted` if the tenant is not served; `BadDescriptor` if the descriptor is not open, `Invalid` if it
     /// names a map; `Invalid` if `results` has room for fewer results than packets, or if there is neither one context nor one for each
-    /// packet; `Invalid` or `TooBig` for the first packet that is outside of `bytes` or has more than 65,536 bytes. Then no packet was run,
-    /// and nothing has changed.
+    /// packet; for the first wrong packet `Invalid` if its end is before the previous one or outside of `bytes`, `TooBig` if it is longer
+    /// than a packet may be. Then no packet was run, and nothing has changed.
     pub fn run_packets(
         &mut self,
         tenant: usize,

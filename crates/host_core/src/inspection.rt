@@ -23,8 +23,8 @@ impl Host {
         self.tenants.get(tenant)
     }
 
-    /// How much `tenant` has at this moment: its live maps, their keys and the bytes of their values, its open programs and all its open
-    /// descriptors; and whether memory was ever refused to it. All 0 for a number that is not served.
+    /// How many live maps `tenant` has at this moment, how many keys these have, and how many bytes their areas take; how many open
+    /// programs and open descriptors it has; and whether memory was ever refused to it. All 0, and false, for a number that is not served.
     pub fn counts(&self, tenant: usize) -> Counts
         ensures { result ≡ counts_if_served (slice_get self.now.states tenant) }
     {
@@ -45,8 +45,8 @@ impl Host {
         }
     }
 
-    /// The cost of the program that the descriptor `fd` of `tenant` names, the most instructions and the most calls on its paths; `None` if
-    /// it names no program, and for a number that is not served.
+    /// The cost of the program that the descriptor `fd` of `tenant` names: the most instructions, and the most calls, on a path through it.
+    /// `None` if `fd` names no program, and for a number that is not served.
     pub fn program_cost(&self, tenant: usize, fd: u32) -> Option<Cost>
         ensures { HasCostAt (slice_get self.now.states tenant) fd result }
     {
@@ -56,10 +56,10 @@ impl Host {
         }
     }
 
-    /// How many of `packets` packets a batch may have, for the program at a descriptor of `tenant`, so that its runs execute at most
-    /// `bound` instructions by the cost of the program; a call of a helper counts as `CALL_WEIGHT` of `tenant` more. A bound below one run
-    /// still allows one packet; 0 is no bound, and allows all. If the tenant is not served or the descriptor names no program, all are
-    /// allowed: such a batch is rejected as a whole.
+    /// How many of the `packets` of a batch a bound allows. Each run of the program at the descriptor `fd` of `tenant` counts for its most
+    /// instructions, and `CALL_WEIGHT` (of the crate `tenant`) more for each call of a helper. As many packets are allowed as count for at
+    /// most `bound` together, but at least one, if there is one. All are allowed if `bound` is 0, and if the tenant is not served or the
+    /// descriptor names no program: such a batch is rejected as a whole.
     #[tactic(auto, using(crate::proofs::Allowed::no_bound_allows_all))]
     pub fn allowed_packets(&self, tenant: usize, fd: u32, bound: u64, packets: usize) -> usize
         ensures allowed { IsAllowedFor (slice_get self.now.states tenant) fd bound packets result }
@@ -75,8 +75,8 @@ impl Host {
         }
     }
 
-    /// The open descriptors of `tenant` and their objects, as the verifier sees them: those with which a load of it is verified. An
-    /// empty list for a number that is not served. `AllocError`: out of memory.
+    /// The open descriptors of `tenant` and their objects, as the verifier gets them for a load of this tenant. An empty list for a number
+    /// that is not served. `AllocError`: out of memory.
     pub fn targets(&self, tenant: usize) -> Result<Vec<Named>, AllocError>
         ensures { IfOk result (λ named. named.items
             ≡ targets_if_served (slice_get self.now.states tenant)) }

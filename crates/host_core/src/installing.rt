@@ -7,7 +7,7 @@ use crate::host::Host;
 use tenant::{Errno, Verified, laws};
 
 impl Host {
-    /// Opens a program of `tenant` that was verified elsewhere, and returns the status of the reply to the frame that would load it: a
+    /// Opens, for `tenant`, a program that was verified elsewhere, and returns the status of the reply to the frame that would load it: a
     /// descriptor, or the negated error number. What happens is what happens at this frame; but the program is neither copied nor
     /// verified again.
     ///

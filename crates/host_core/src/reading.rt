@@ -128,9 +128,9 @@ fn read_whole<S: Source>(
     Ok(())
 }
 
-/// Reads a frame of `total` bytes, which is longer than `buffer`, and keeps only its head, in the first four bytes of `buffer`. The bytes
-/// that are skipped are read over the rest of the buffer, since the reply depends only on the head. `Truncated` if the input ends before
-/// all are read, `Read` if a call of the reader failed.
+/// Reads a frame of `total` bytes, which is longer than `buffer`, and keeps only its head, in the first four bytes of `buffer`, since the
+/// reply depends only on the head. Later bytes of the frame overwrite the rest of the buffer. `Truncated` if the input ends before all are
+/// read, `Read` if a call of the reader failed.
 fn read_long<S: Source>(
     reader: &mut S,
     buffer: &mut [u8],
@@ -152,9 +152,9 @@ fn read_long<S: Source>(
     Ok(())
 }
 
-/// Reads a frame of `total` bytes, and returns how many bytes of `buffer` have to be handled: the frame, which is at the front of the
-/// buffer. For a frame that is longer they are the whole buffer, and only the first four, the head, are sure to be those of the frame.
-/// `Truncated` if the input ends before all are read, `Read` if a call of the reader failed.
+/// Reads a frame of `total` bytes to the front of `buffer`, and returns how many bytes of the buffer have to be handled: those of the
+/// frame. If it is longer than the buffer, the whole buffer has to be handled, and only its first four bytes, the head, are sure to be the
+/// frame's. `Truncated` if the input ends before all are read, `Read` if a call of the reader failed.
 fn read_body<S: Source>(
     reader: &mut S,
     buffer: &mut [u8],
@@ -181,9 +181,9 @@ fn read_body<S: Source>(
     }
 }
 
-/// Reads a frame, with its length before it, and returns how many bytes of `buffer` have to be handled: the frame, which is at the front of
-/// the buffer. For a frame that is longer they are the whole buffer, and only the first four, the head, are sure to be those of the frame.
-/// `None` if the input ends before a frame. `Truncated` if it ends inside one, `Read` if a call of the reader failed.
+/// Reads a length and then a frame to the front of `buffer`, and returns how many bytes of the buffer have to be handled: those of the
+/// frame. If it is longer than the buffer, the whole buffer has to be handled, and only its first four bytes, the head, are sure to be the
+/// frame's. `None` if the input ends before a frame. `Truncated` if it ends inside one, `Read` if a call of the reader failed.
 pub(crate) fn read_frame<S: Source>(
     reader: &mut S,
     buffer: &mut [u8],

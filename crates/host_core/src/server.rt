@@ -23,7 +23,7 @@ use command_frames::ReplyBuf;
 use seeded_hash::HashSeed;
 use std::alloc::{AllocError, Global};
 
-/// The greatest limit on the frames of one call of `serve`: 2^24, a limit of this project.
+/// The greatest `limit` on the frames of one call of `serve`, chosen by this project.
 pub const MOST_FRAMES: u32 = 16_777_216;
 
 /// Why a stream was not served to its end.
@@ -66,8 +66,9 @@ impl Buffers {
     }
 }
 
-/// Reads a frame, handles it, and writes and flushes its reply; false if the input ends before a frame. `Err`: why the stream ends.
-/// Of a frame that is longer than the buffer only the front is handled, since its reply depends only on its head.
+/// Reads a frame, handles it, and writes and flushes its reply: true. False if the input ends before a frame. `Truncated` if it ends inside
+/// one, `Read` or `Write` if a call of the reader or the writer failed. If the frame is longer than the buffer, a frame of the buffer's
+/// length with the same head is handled instead, since the reply depends only on the head.
 fn serve_frame<R: Source, W: Sink>(
     host: &mut Host,
     reader: &mut R,
@@ -110,7 +111,7 @@ fn is_at_end<R: Source>(reader: &mut R) -> Result<bool, ServeFaultKind>
 }
 
 /// Serves a stream: reads a frame, handles it, writes and flushes its reply, and so on until the input ends or `limit` frames
-/// got replies. Returns their number. `limit` is at most 16,777,216. Fewer than 2^64 - 1 calls of the reader, and of the
+/// got replies. Returns the number of these frames. `limit` is at most `MOST_FRAMES`. Fewer than 2^64 - 1 calls of the reader, and of the
 /// writer, have failed before.
 ///
 /// # Errors

@@ -27,7 +27,7 @@ pub trait Source {
 }
 
 /// A writer of replies. Contracts see the bytes that were written, if they are known, whether they are flushed, and how many
-/// calls failed; a write that takes none of at least one byte counts as failed.
+/// calls failed; a write that takes no byte, although it is given some, counts as failed.
 pub trait Sink {
     // The bytes written so far, if they are known; by default they are not (`None`).
     ghost contents: { Self → Option (List ℕ) } = { λ _. None };
@@ -38,8 +38,8 @@ pub trait Sink {
     // How many calls failed so far.
     ghost failures: { Self → ℕ };
 
-    /// Writes bytes from the front of `bytes`, and returns how many. If that is 0 although there are some, the call counts as failed. A
-    /// call that fails writes none.
+    /// Writes bytes from the front of `bytes`, and returns how many. If that is 0 although `bytes` is not empty, the call counts as failed.
+    /// A call that returns an error writes none.
     fn write(&mut self, bytes: &[u8]) -> io::Result<usize>
         requires { failures self.old < 2 ^ 64 - 1 }
         ensures bound { WritesAtMost result bytes.now }
@@ -120,8 +120,8 @@ impl<W: Write> Sink for Counted<W> {
 
     ghost failures = { λ c. c.failures };
 
-    /// Writes to the writer of std, and counts the call if it fails, or accepts none of at least one byte, which ends a stream too. After
-    /// the call not everything counts as flushed, even if it failed.
+    /// Writes to the writer of std, and counts the call as failed if it returns an error, or takes no byte although `bytes` has some: both
+    /// end a stream. After the call not everything counts as flushed, even if it failed.
     fn write(&mut self, bytes: &[u8]) -> io::Result<usize> {
         self.is_flushed = false;
         let outcome = self.inner.write(bytes);

@@ -10,7 +10,7 @@ use crate::stream::Sink;
 ///
 /// # Errors
 ///
-/// `Write` if a call of the writer failed, or took none of at least one byte. What was written until then is a prefix of `bytes`.
+/// `Write` if a call of the writer failed, or took no byte although some were left. What was written until then is a prefix of `bytes`.
 pub fn write_whole<S: Sink>(writer: &mut S, bytes: &[u8]) -> Result<(), ServeFaultKind>
     requires { S.failures writer.old < 2 ^ 64 - 1 }
     ensures whole { OnOk result

@@ -20,9 +20,10 @@ HasFirstSlot top bytes = (i : Insn) × IsInsnUpTo top i × (take 8 bytes ≡ slo
 abbrev pub HasInsn : List ℕ → Type 0
 HasInsn bytes = (i : Insn) × IsInsn i × Begins i bytes
 
--- the bytes begin with no instruction, and this is the reason; a register field has room for 0 to
--- 15, section 3.1, of which 10 is the last register. Empty, TooLong and Memory are kinds of whole
--- programs, and never the reason
+-- the bytes begin with no instruction, and this is the lowest kind of fault that applies. Reserved:
+-- even with registers up to 15, the most that a field of four bits has room for (section 3.1), they
+-- do not begin with a first slot. Register: they do, but not with registers up to 10. Empty,
+-- TooLong and Memory are faults of whole programs, and never this one
 abbrev pub HasFault : List ℕ → FaultKind → Type 0
 HasFault bytes Ragged = length bytes < 8
 HasFault bytes Opcode = (8 ≤ length bytes) × ¬ HasOpcode bytes

@@ -26,8 +26,8 @@ use insn_set::{
 };
 use words::{AluOp, ByteOrder, Condition, ExtendedBits, KeptBits};
 
-/// Checks the fields of a slot. `is_listed`: each has a value that the slot's form allows. The fault is `Reserved` if not, else `Register`
-/// if the number of one of its registers is above 10.
+/// Checks the fields of a first slot. The caller has computed `is_listed`: whether each field has a value that the form of the opcode
+/// allows. The fault is `Reserved` if not, else `Register` if the destination or the source register is above 10.
 #[inline(always)]
 #[tactic(auto, unfolding(crate::specs::inside::FirstFault::fault_in_form))]
 pub(crate) fn check_fields(is_listed: bool, slot: &RawSlot) -> Result<(), FaultKind>
@@ -46,9 +46,10 @@ pub(crate) fn check_fields(is_listed: bool, slot: &RawSlot) -> Result<(), FaultK
     Ok(())
 }
 
-/// Reads an operation on two operands, of 64 bits (`wide`) or 32, into `entry`; it has no second slot (`None`). `op` is the operator of the
-/// opcode at offset 0: another offset makes a division or a remainder signed, and is the number of bits from which a move extends the
-/// sign, 8, 16 or 32 (`_`). `source` says which field has the second operand.
+/// Reads an operation on two operands, of 64 bits (`wide`) or 32, into `entry`; it has no second slot (`None`). `op` is the operator that
+/// the opcode has at offset 0. Another offset makes a division or a remainder signed; of a move it is the number of bits from which the
+/// sign is extended, 8, 16 or 32: `check_fields` lets no other pass, so `_` is 32. `source` says which field has the second operand. The
+/// faults are those of that call: `Reserved`, `Register`.
 #[inline(always)]
 fn read_operation(
     wide: bool,
@@ -97,8 +98,8 @@ fn read_operation(
     Ok(None)
 }
 
-/// Reads a negation, of 64 bits (`wide`) or 32, into `entry`; it has no second slot (`None`). The operand is the destination, so all other
-/// fields are zero.
+/// Reads a negation, of 64 bits (`wide`) or 32, into `entry`; it has no second slot (`None`). The operand is the destination register; the
+/// source, the offset and the immediate have to be 0. The faults are those of `check_fields`: `Reserved`, `Register`.
 #[inline(always)]
 fn read_negation(wide: bool, entry: &mut Insn, slot: &RawSlot) -> Result<Option<RawSlot>, FaultKind>
     requires opcode { slot.now.opcode ≡ opcode_of (form.Neg wide) }
@@ -117,7 +118,8 @@ fn read_negation(wide: bool, entry: &mut Insn, slot: &RawSlot) -> Result<Option<
 }
 
 /// Reads a byte-order conversion into `entry`; it has no second slot (`None`). `how` is to little endian, to big endian, or a swap of the
-/// bytes. The immediate is the number of bits that it keeps, 16, 32 or 64 (`_`).
+/// bytes. The immediate is the number of bits that it keeps, 16, 32 or 64: `check_fields` lets no other pass, so `_` is 64. The faults are
+/// those of that call: `Reserved`, `Register`.
 #[inline(always)]
 fn read_byte_order(
     how: ByteOrder,
@@ -146,8 +148,9 @@ fn read_byte_order(
     Ok(None)
 }
 
-/// Reads a negation (code 8) or a byte-order conversion (code 13) into `entry`; it has no second slot (`None`). No operator with two
-/// operands has these codes. All that is left is no instruction's opcode, so the fault is `Opcode`. `wide` is class ALU64.
+/// Reads a negation (code 8, the upper four bits of the opcode) or a byte-order conversion (code 13) into `entry`; it has no second slot
+/// (`None`). `wide` is true of class ALU64, false of ALU. No operator of two operands has the opcode's code (precondition `code`). So an
+/// opcode without an arm here is no instruction's, and the fault is `Opcode`; the other faults are `Reserved` and `Register`.
 fn read_one_operand(
     wide: bool,
     entry: &mut Insn,
@@ -170,8 +173,9 @@ fn read_one_operand(
     }
 }
 
-/// Reads an instruction of class ALU64 (`wide`) or ALU into `entry` (RFC 9669, sections 4.1 and 4.2); it has no second slot (`None`). Each
-/// source bit has an arm of its own, so that the inlined `read_operation` has it as a constant.
+/// Reads an instruction of class ALU64 (`wide`) or ALU into `entry` (RFC 9669, sections 4.1 and 4.2); it has no second slot (`None`). The
+/// faults are `Opcode`, `Reserved` and `Register`. Each source bit has an arm of its own, so that the inlined `read_operation` has it as a
+/// constant.
 #[inline(always)]
 pub(crate) fn read_alu(
     wide: bool,
@@ -192,8 +196,8 @@ pub(crate) fn read_alu(
     }
 }
 
-/// Reads a jump that is taken if a condition holds into `entry`; it has no second slot (`None`). It compares 64 bits (`wide`) or 32, and
-/// `source` says which field has the second operand of the comparison.
+/// Reads a conditional jump into `entry`; it has no second slot (`None`). It compares 64 bits (`wide`) or 32, and `source` says which field
+/// has the second operand of the comparison. The faults are those of `check_fields`: `Reserved`, `Register`.
 #[inline(always)]
 fn read_branch(
     wide: bool,
@@ -219,7 +223,8 @@ fn read_branch(
     Ok(None)
 }
 
-/// Reads a jump of class JMP without a condition, whose distance is the offset, into `entry`; it has no second slot (`None`).
+/// Reads an unconditional jump of class JMP into `entry`; it has no second slot (`None`). Its distance is the offset field; the registers
+/// and the immediate have to be 0, else the fault is `Reserved`.
 fn read_goto(entry: &mut Insn, slot: &RawSlot) -> Result<Option<RawSlot>, FaultKind>
     requires opcode { slot.now.opcode ≡ opcode_of form.Ja }
     ensures value { OnOk result (IsInsn entry.new) }
@@ -234,7 +239,8 @@ fn read_goto(entry: &mut Insn, slot: &RawSlot) -> Result<Option<RawSlot>, FaultK
     Ok(None)
 }
 
-/// Reads a jump of class JMP32 without a condition, whose distance is the immediate, into `entry`; it has no second slot (`None`).
+/// Reads an unconditional jump of class JMP32 into `entry`; it has no second slot (`None`). Its distance is the immediate; the registers
+/// and the offset have to be 0, else the fault is `Reserved`.
 fn read_goto_far(entry: &mut Insn, slot: &RawSlot) -> Result<Option<RawSlot>, FaultKind>
     requires opcode { slot.now.opcode ≡ opcode_of form.Jal }
     ensures value { OnOk result (IsInsn entry.new) }
@@ -249,7 +255,8 @@ fn read_goto_far(entry: &mut Insn, slot: &RawSlot) -> Result<Option<RawSlot>, Fa
     Ok(None)
 }
 
-/// Reads a call of a helper into `entry`; it has no second slot (`None`). The immediate is the helper's number; the other fields are zero.
+/// Reads a call of a helper into `entry`; it has no second slot (`None`). The immediate is the helper's number; the registers and the
+/// offset have to be 0, else the fault is `Reserved`.
 fn read_call(entry: &mut Insn, slot: &RawSlot) -> Result<Option<RawSlot>, FaultKind>
     requires opcode { slot.now.opcode ≡ opcode_of form.Call }
     ensures value { OnOk result (IsInsn entry.new) }
@@ -264,7 +271,7 @@ fn read_call(entry: &mut Insn, slot: &RawSlot) -> Result<Option<RawSlot>, FaultK
     Ok(None)
 }
 
-/// Reads the exit into `entry`; it has no second slot (`None`). All fields but the opcode are zero.
+/// Reads the exit into `entry`; it has no second slot (`None`). All fields but the opcode have to be 0, else the fault is `Reserved`.
 fn read_exit(entry: &mut Insn, slot: &RawSlot) -> Result<Option<RawSlot>, FaultKind>
     requires opcode { slot.now.opcode ≡ opcode_of form.Exit }
     ensures value { OnOk result (IsInsn entry.new) }
@@ -280,9 +287,10 @@ fn read_exit(entry: &mut Insn, slot: &RawSlot) -> Result<Option<RawSlot>, FaultK
     Ok(None)
 }
 
-/// Reads a jump without a condition (code 0), a call (code 8) or the exit (code 9) into `entry`; it has no second slot (`None`). No
-/// condition has these codes. `wide` is class JMP, which has all three; JMP32 has only the jump. All that is left is no
-/// instruction's opcode, so the fault is `Opcode`.
+/// Reads an unconditional jump (code 0, the upper four bits of the opcode), a call (code 8) or the exit (code 9) into `entry`; it has no
+/// second slot (`None`). `wide` is true of class JMP, which has all three, false of JMP32, which has only the jump. No condition has the
+/// opcode's code (precondition `code`). So an opcode without an arm here is no instruction's, and the fault is `Opcode`; the other fault is
+/// `Reserved`.
 fn read_unconditional(
     wide: bool,
     entry: &mut Insn,
@@ -305,8 +313,8 @@ fn read_unconditional(
     }
 }
 
-/// Reads an instruction of class JMP (`wide`) or JMP32 into `entry` (RFC 9669, section 4.3); it has no second slot (`None`). Each source
-/// bit has an arm of its own, so that the inlined `read_branch` has it as a constant.
+/// Reads an instruction of class JMP (`wide`) or JMP32 into `entry` (RFC 9669, section 4.3); it has no second slot (`None`). The faults are
+/// `Opcode`, `Reserved` and `Register`. Each source bit has an arm of its own, so that the inlined `read_branch` has it as a constant.
 #[inline(always)]
 pub(crate) fn read_jump(
     wide: bool,
@@ -331,7 +339,7 @@ pub(crate) fn read_jump(
 }
 
 /// Reads a load, of class LDX, into `entry` (RFC 9669, sections 5.1 and 5.2); it has no second slot (`None`). An opcode that the table of
-/// loads does not have is no instruction's, so the fault is `Opcode`.
+/// loads does not have is no instruction's, so the fault is `Opcode`. The other faults are those of `check_fields`: `Reserved`, `Register`.
 #[inline(always)]
 pub(crate) fn read_load(entry: &mut Insn, slot: &RawSlot) -> Result<Option<RawSlot>, FaultKind>
     ensures value { OnOk result (IsInsn entry.new) }
@@ -354,7 +362,8 @@ pub(crate) fn read_load(entry: &mut Insn, slot: &RawSlot) -> Result<Option<RawSl
 }
 
 /// Reads a store of a constant (class ST, `SourceBit::Imm`) or of a register (class STX) into `entry` (RFC 9669, section 5.1); it has no
-/// second slot (`None`). The mode, the upper three bits of the opcode, is MEM, which is 3; with another one the fault is `Opcode`.
+/// second slot (`None`). The mode, the upper three bits of the opcode, has to be MEM, which is 3, else the fault is `Opcode`. The other
+/// faults are those of `check_fields`: `Reserved`, `Register`.
 #[inline(always)]
 pub(crate) fn read_store(
     source: SourceBit,
@@ -381,7 +390,7 @@ pub(crate) fn read_store(
 }
 
 /// Reads an atomic operation into `entry` (RFC 9669, section 5.3); it has no second slot (`None`). The immediate selects the operation; if
-/// it selects none, `check_fields` has returned the fault before `op` is taken.
+/// it selects none, `check_fields` has returned `Reserved` before `op` is taken. Its other fault is `Register`.
 fn read_atomic(
     size: AtomicSize,
     entry: &mut Insn,
@@ -408,8 +417,8 @@ fn read_atomic(
     Ok(None)
 }
 
-/// Reads an instruction of class STX into `entry`, an atomic operation on four bytes (opcode 0xc3) or eight (0xdb), or a store of a
-/// register; it has no second slot (`None`).
+/// Reads an instruction of class STX into `entry`: an atomic operation on four bytes (opcode 0xc3) or eight (0xdb), or else a store of a
+/// register. It has no second slot (`None`). The faults are `Opcode`, `Reserved` and `Register`.
 #[inline(always)]
 pub(crate) fn read_register_store(
     entry: &mut Insn,

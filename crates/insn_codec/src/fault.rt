@@ -9,18 +9,18 @@ use std::alloc::{AllocError, AllocFailed};
 pub enum FaultKind {
     /// No instruction has this opcode.
     Opcode = 1,
-    /// A field has a value that its form does not allow: most often it is unused, and not zero.
+    /// A field has a value that the form of the opcode does not allow: most often the instruction does not use it, and it is not zero.
     Reserved = 2,
     /// A register's number is above 10.
     Register = 3,
-    /// The second slot of a wide instruction is missing, or has a field that is not zero. The immediate may be any number, if the
-    /// instruction uses it.
+    /// The second slot of a wide instruction is missing, or has a field that is not zero, other than an immediate that the instruction
+    /// uses.
     SecondSlot = 4,
     /// The number of bytes of a program is no multiple of eight; for `decode`, it is below eight.
     Ragged = 5,
     /// There is no slot.
     Empty = 6,
-    /// There are more slots than a program may have.
+    /// There are more slots than a program may have, `MAX_SLOTS`.
     TooLong = 7,
     /// Out of memory: the allocator refused a growth.
     Memory = 8,
@@ -37,8 +37,8 @@ impl FaultKind {
     }
 }
 
-/// A fault and its slot, which is the first slot of a faulty instruction. Of other faults it is 0 for `Empty` and `Memory`, the maximum
-/// number of slots for `TooLong`, and the number of whole slots for `Ragged`.
+/// A fault and its slot, which is the first slot of a faulty instruction. Of other faults it is 0 for `Empty` and `Memory`, `MAX_SLOTS` for
+/// `TooLong`, and the number of whole slots for `Ragged`.
 #[derive(Clone, Copy, Debug, PartialEq, Eq)]
 pub struct CodecFault {
     pub slot: usize,

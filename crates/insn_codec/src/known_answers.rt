@@ -70,7 +70,8 @@ fn kinds_at_front() {
     prove!(is_second_slot);
 }
 
-/// In a program of a wide load and an exit, instructions begin at slots 0 and 2, and none at slot 1 or past the end.
+/// In a program of a wide load and an exit, instructions begin at slots 0 and 2, and none at slot 1 or past the end. It fails only if
+/// memory is refused.
 #[tactic(auto, unfolding(insn_set::specs::Program::begins_at))]
 fn first_slots_of_a_program(alloc: Global) -> Result<(), CodecFault> {
     let program = Program::new(alloc, &[wide(7), Insn::Exit])?;
@@ -85,7 +86,8 @@ fn first_slots_of_a_program(alloc: Global) -> Result<(), CodecFault> {
     Ok(())
 }
 
-/// A wide load in `run_slots`: its first slot has the register and the low half of the number, its second the high half.
+/// A wide load in `run_slots`: its first slot has the register and the low half of the number, its second the high half. It fails only if
+/// memory is refused.
 fn spelled_program(alloc: Global) -> Result<(), CodecFault> {
     let program = Program::new(alloc, &[wide(0x7_0000_0009), Insn::Exit])?;
     let run_slots = program.run_slots();
@@ -104,7 +106,7 @@ fn read_program_of_an_exit(alloc: Global) -> Result<(), CodecFault> {
     Ok(())
 }
 
-/// A program of a wide load and an exit is written in 24 bytes, and the opcode of the exit is byte 16.
+/// A program of a wide load and an exit is written in 24 bytes, and the opcode of the exit is byte 16. It fails only if memory is refused.
 #[tactic(auto, unfolding(insn_set::specs::Spelling::spelling))]
 fn written_program(alloc: Global) -> Result<(), CodecFault> {
     let program = Program::new(alloc, &[wide(7), Insn::Exit])?;

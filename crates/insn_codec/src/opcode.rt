@@ -1,4 +1,4 @@
-//! The parts of an opcode, and the tables of their codes.
+//! The bit fields of an opcode, and what their codes mean.
 
 ghost use Rattle.std.specs.Prelude.{◌≡◌, ◌≢◌, ◌<◌, ◌≤◌, IsTrue, false};
 ghost use Rattle.insn_codec.specs.declared.opcode.SourceBit.TheVariants as source_variant;
@@ -34,7 +34,7 @@ impl SourceBit {
         }
     }
 
-    /// Whether the operand field that this source bit does not select, the source register or the immediate, is zero.
+    /// Whether the operand field that is not used is zero: the source register if this is `Imm`, the immediate if it is `Reg`.
     pub(crate) fn lists_operand(self, slot: &RawSlot) -> bool
         ensures { result ≡ one_operand self (fields slot.now) }
     {
@@ -62,17 +62,17 @@ impl SourceBit {
     }
 }
 
-/// Whether an operation of 64 bits (`wide`) or 32 with the opcode of this operator may have this offset (RFC 9669, section 4.1). Of two
-/// operators with one opcode, `op` is the unsigned one.
+/// Whether an operation of 64 bits (`wide`) or 32 with the opcode of `op` may have this offset (RFC 9669, section 4.1): 0, or one that
+/// `allows_other_offset` allows. Of two operators with one opcode, `op` is the unsigned one.
 pub(crate) fn allows_offset(op: AluOp, wide: bool, source: SourceBit, offset: u16) -> bool
     ensures { result ≡ offset_listed wide op source offset }
 {
     offset == 0 || allows_other_offset(op, wide, source, offset)
 }
 
-/// Whether an operation of 64 bits (`wide`) or 32 with the opcode of this operator may have this offset, which is not 0: 1 is for a signed
-/// division or remainder, and 8, 16 or, if `wide`, 32 are the bits from which a move of a register extends the sign. Other operators have
-/// only offset 0.
+/// Whether an operation of 64 bits (`wide`) or 32 with the opcode of `op` may have this offset, which is not 0: 1 is for a signed division
+/// or remainder, and 8, 16 or, if `wide`, 32 are the bits from which a move of a register extends the sign. Other operators have only
+/// offset 0.
 fn allows_other_offset(op: AluOp, wide: bool, source: SourceBit, offset: u16) -> bool
     requires { offset ≢ 0 }
     ensures { result ≡ offset_listed wide op source offset }
@@ -84,8 +84,8 @@ fn allows_other_offset(op: AluOp, wide: bool, source: SourceBit, offset: u16) ->
     }
 }
 
-/// The signed operator with the opcode of `op`, which is meant at offset 1. By the precondition an offset of 1 is allowed, so `op` is `Div`
-/// or `Mod`.
+/// The signed operator that shares the opcode of `op`, and is selected by offset 1. By the precondition the opcode allows offset 1, so `op`
+/// is `Div` or `Mod`.
 pub(crate) fn signed_operator(op: AluOp) -> AluOp
     requires { IsTrue (offset_listed false op source_variant.Imm 1) }
     ensures number { alu_number result ≡ alu_number op }

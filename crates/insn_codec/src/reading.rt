@@ -18,10 +18,10 @@ use crate::fault::{CodecFault, FaultKind};
 use crate::opcode::{SourceBit, lists_second};
 use insn_set::{Insn, RawSlot, Reg};
 
-/// Reads a wide instruction into `entry` (RFC 9669, section 5.4). `slot` is its first slot, whose fields are checked, `dst` the register in
-/// its destination field, and `rest` the bytes after it. Returns the second slot, which is at the front of `rest`; `SecondSlot` if it is
-/// missing or wrong. The source field is 0 for a number of 64 bits, 1 for a map, and 2 for an address in the first value of a map; by the
-/// precondition `listed`, which `check_fields` has tested, it is no other, so `_` is 2.
+/// Reads a wide instruction into `entry` (RFC 9669, section 5.4). `slot` is its first slot, which has passed `check_fields`, and `dst` the
+/// register in its destination field. The second slot is at the front of `rest`, the bytes after the first, and is returned; `SecondSlot`
+/// if it is missing, or if `lists_second` is false of it. The source field is 0 for a number of 64 bits, 1 for a map, and 2 for an address
+/// in the first value of a map; by the precondition `listed` it is no other, so `_` is 2.
 fn read_wide(entry: &mut Insn, slot: &RawSlot, dst: Reg, rest: &[u8]) -> Result<RawSlot, FaultKind>
     requires opcode { slot.now.opcode ≡ 0x18 }
     requires listed { IsTrue (listed Wide (fields slot.now)) }
@@ -57,8 +57,9 @@ fn read_wide(entry: &mut Insn, slot: &RawSlot, dst: Reg, rest: &[u8]) -> Result<
     Ok(next)
 }
 
-/// Reads an instruction of class LD into `entry`: a wide load, whose opcode is 0x18; another opcode has the fault `Opcode`. `slot` is its
-/// first slot, and `rest` the bytes after that. Returns its second slot, never `None`.
+/// Reads an instruction of class LD into `entry`: a wide load, whose opcode is 0x18. `slot` is its first slot, and `rest` the bytes after
+/// that. Returns its second slot, never `None`. The fault of any other opcode is `Opcode`; the others are `Reserved` and `Register`, by
+/// `check_fields`, and `SecondSlot`.
 #[tactic(auto, unfolding(crate::specs::inside::Form::form_at))]
 fn read_class_ld(
     entry: &mut Insn,
@@ -83,7 +84,7 @@ fn read_class_ld(
 
 /// Reads the instruction whose first slot is `slot` into `entry`, by its class, the opcode's low three bits (RFC 9669, section 3.3). `rest`
 /// are the bytes after that slot. The classes 0 to 7 are LD, LDX, ST, STX, ALU, JMP, JMP32 and ALU64. Returns the second slot if the
-/// instruction is wide, else `None`.
+/// instruction is wide, else `None`. The fault is the first of `Opcode`, `Reserved`, `Register` and `SecondSlot` that applies.
 #[inline(always)]
 #[tactic(auto, unfolding(crate::specs::inside::Form::form_at))]
 fn read_slot(entry: &mut Insn, slot: &RawSlot, rest: &[u8]) -> Result<Option<RawSlot>, FaultKind>
@@ -107,8 +108,8 @@ fn read_slot(entry: &mut Insn, slot: &RawSlot, rest: &[u8]) -> Result<Option<Raw
 }
 
 /// Reads the instruction at the front of the bytes, which are at least eight, into `entry`. `first` is the slot in their first eight bytes.
-/// Returns whether the instruction is wide. The instruction is written to its entry directly: it is as large as two slots, and would be
-/// copied if it were returned.
+/// Returns whether the instruction is wide; if there is none, the first of `Opcode`, `Reserved`, `Register` and `SecondSlot` that applies.
+/// The instruction is written to `entry` directly: it is as large as two slots, and would be copied if it were returned.
 #[inline(always)]
 #[tactic(auto, unfolding(crate::specs::inside::FirstFault::first_fault))]
 pub(crate) fn read_from(entry: &mut Insn, first: &RawSlot, bytes: &[u8]) -> Result<bool, FaultKind>
@@ -124,7 +125,7 @@ pub(crate) fn read_from(entry: &mut Insn, first: &RawSlot, bytes: &[u8]) -> Resu
 }
 
 /// Reads the instruction at the front of the bytes, of which there may be any number, into `entry`. The fault of fewer than eight bytes is
-/// `Ragged`.
+/// `Ragged`; the others are those of `read_from`.
 #[tactic(auto, unfolding(crate::specs::inside::FirstFault::first_fault))]
 fn read_front(entry: &mut Insn, bytes: &[u8]) -> Result<(), FaultKind>
     ensures found { OnOk result (IsInsn entry.new × Begins entry.new bytes.now) }

@@ -6,7 +6,7 @@ use Rattle.insn_set.specs.declared.atomic.AtomicOp.{AtomicOp}
 use Rattle.insn_set.specs.declared.atomic.TheConstants.{OPERATIONS}
 use Rattle.insn_set.specs.Table.{Row, by_number, by_symbol}
 
--- the rows of the code (`OPERATIONS`): each atomic operation, its immediate and its symbol
+-- the rows of `OPERATIONS`, as definitions read them: each operation, its immediate and its symbol
 abbrev pub atomic_rows : List (Row AtomicOp)
 atomic_rows = map (λ row. (row.0, row.1, row.2.now)) OPERATIONS
 

@@ -6,7 +6,7 @@ use Rattle.words.specs.declared.operator.Condition.{Condition}
 use Rattle.insn_set.specs.declared.condition.TheConstants.{CONDITIONS}
 use Rattle.insn_set.specs.Table.{Row, by_number, by_symbol}
 
--- the rows of the code (`CONDITIONS`): each condition, its code and its symbol
+-- the rows of `CONDITIONS`, as definitions read them: each condition, its code and its symbol
 abbrev pub condition_rows : List (Row Condition)
 condition_rows = map (λ row. (row.0, row.1, row.2.now)) CONDITIONS
 

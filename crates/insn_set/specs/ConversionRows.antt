@@ -7,7 +7,7 @@ use Rattle.words.specs.declared.operator.ExtendedBits.{ExtendedBits}
 use Rattle.insn_set.specs.declared.conversion.TheConstants.{ORDERS, EXTENSIONS}
 use Rattle.insn_set.specs.Table.{named}
 
--- the rows of the code (`ORDERS`): each name and its byte-order conversion
+-- the rows of `ORDERS`, as definitions read them: each name and its byte-order conversion
 abbrev pub orders : List (List ℕ × (ByteOrder × KeptBits))
 orders = map (λ row. (row.0.now, row.1)) ORDERS
 
@@ -15,8 +15,8 @@ orders = map (λ row. (row.0.now, row.1)) ORDERS
 abbrev pub order_by_name : List ℕ → Option (ByteOrder × KeptBits)
 order_by_name n = named orders n
 
--- the rows of the code (`EXTENSIONS`): each name and the number of bits from which its sign
--- extension starts
+-- the rows of `EXTENSIONS`, as definitions read them: each name and the number of bits from which
+-- its sign extension starts
 abbrev pub extensions : List (List ℕ × ExtendedBits)
 extensions = map (λ row. (row.0.now, row.1)) EXTENSIONS
 

@@ -34,7 +34,7 @@ abbrev pub jump_offset : Insn → ℤ
 jump_offset i = offset_by (profile i).successors
 
 -- the slot to which an instruction at this slot jumps: at its distance from the slot after this
--- one; None below slot 0. It is meant for jumps: the distance of another instruction is 0
+-- one; None below slot 0. It is meant for jumps: of any other instruction the distance is 0
 abbrev pub jumps_to : Insn → ℕ → Option ℕ
 jumps_to i at = natural (pos (at + 1) +ℤ jump_offset i)
 
@@ -73,18 +73,20 @@ jump_target i at = target_by (profile i).successors at
 -- ---- what it writes and names
 
 -- the register that an instruction writes; None if it writes none, as an atomic operation (those
--- that fetch are no instructions here), and for a call, whose row has none of registers 0 to 5
+-- that fetch are no instructions here), and for a call, whose effect on registers 0 to 5 is not in
+-- its row
 abbrev pub written_register : Insn → Option ℕ
 written_register i = (profile i).written
 
--- the descriptor in what an instruction refers to: of the map, or of the map whose first value it
--- is; None for a helper, and for nothing
+-- the descriptor of the map that a reference names, or in whose first value it names a byte; None
+-- if it names a helper or nothing
 abbrev pub descriptor_by : Reference → Option ℕ
 descriptor_by names.Nothing = None
 descriptor_by (names.Helper id) = None
 descriptor_by (names.Map fd) = Some fd
 descriptor_by (names.Value fd off) = Some fd
 
--- the descriptor of the map that an instruction names, or whose first value it names, if any
+-- the descriptor of the map that an instruction names, or in whose first value it names a byte;
+-- None if it names neither
 abbrev pub descriptor : Insn → Option ℕ
 descriptor i = descriptor_by (profile i).reference

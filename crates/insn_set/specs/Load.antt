@@ -8,8 +8,8 @@ use Rattle.insn_set.specs.Numbers.{load_mode, memory_opcode}
 abbrev pub load_opcode : Bool → AccessSize → ℕ
 load_opcode signed s = memory_opcode (load_mode signed) s 1
 
--- the name of a size in a line of text: of an access that extends the sign, or of another. No load
--- has the size s64, but each size has a name
+-- the name that a line of text has for a size: with s if the access extends the sign (true), else
+-- with u. No load has the size s64, but each size has a name
 abbrev pub size_name : Bool → AccessSize → List ℕ
 size_name false size.Byte = codes "u8"
 size_name false size.Half = codes "u16"

@@ -5,8 +5,8 @@ use Rattle.words.specs.declared.stack.AccessSize.{AccessSize}
 use Rattle.insn_set.specs.declared.load.TheConstants.{LOADS}
 use Rattle.insn_set.specs.Table.{Row, by_number, by_symbol}
 
--- the rows of the code (`LOADS`): each load, by whether it extends the sign and its size, its
--- opcode and the name of its size
+-- the rows of `LOADS`, as definitions read them: of each load, whether it extends the sign, with
+-- its size; its opcode; the name of its size
 abbrev pub load_rows : List (Row (Bool × AccessSize))
 load_rows = map (λ row. (row.0, row.1, row.2.now)) LOADS
 
@@ -14,7 +14,7 @@ load_rows = map (λ row. (row.0, row.1, row.2.now)) LOADS
 abbrev pub load_by_opcode : ℕ → Option (Bool × AccessSize)
 load_by_opcode n = by_number load_rows n
 
--- whether an access of the size with this name extends the sign, and the size; None if no load has
--- the name
+-- by a size's name in a line of text: whether the access extends the sign, and the size; None if no
+-- load has the name
 abbrev pub size_by_name : List ℕ → Option (Bool × AccessSize)
 size_by_name s = by_symbol load_rows s

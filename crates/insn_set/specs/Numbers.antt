@@ -30,8 +30,8 @@ size_number size.Half = 1
 size_number size.Byte = 2
 size_number size.Double = 3
 
--- the opcode of a byte-order conversion, section 4.2, of code 13: class ALU with source bit 0 to
--- little-endian and 1 to big-endian, class ALU64 for a swap
+-- the opcode of a byte-order conversion, section 4.2, whose code is 13: to little-endian class ALU
+-- and source bit 0, to big-endian class ALU and 1, for a swap class ALU64 and 0
 abbrev pub end_opcode : ByteOrder → ℕ
 end_opcode Little = opcode 13 0 4
 end_opcode Big = opcode 13 1 4
@@ -47,10 +47,10 @@ load_mode true = 4
 abbrev pub memory_opcode : ℕ → AccessSize → ℕ → ℕ
 memory_opcode mode s class = 32 * mode + 8 * size_number s + class
 
--- section 3.1: the 16 bits of a signed offset
+-- the 16 bits of a signed offset, in two's complement (section 3.1)
 abbrev pub offset_bits : ℤ → ℕ
 offset_bits z = cast_unsigned w16 z
 
--- section 3.1: the 32 bits of a signed immediate
+-- the 32 bits of a signed immediate, in two's complement (section 3.1)
 abbrev pub imm_bits : ℤ → ℕ
 imm_bits z = cast_unsigned w32 z

@@ -5,7 +5,7 @@ use Rattle.words.specs.declared.operator.AluOp.{AluOp}
 use Rattle.insn_set.specs.declared.operator.TheConstants.{OPERATORS}
 use Rattle.insn_set.specs.Table.{Row, by_number, by_symbol}
 
--- the rows of the code (`OPERATORS`): each operator, its code and its symbol
+-- the rows of `OPERATORS`, as definitions read them: each operator, its code and its symbol
 abbrev pub alu_rows : List (Row AluOp)
 alu_rows = map (λ row. (row.0, row.1, row.2.now)) OPERATORS
 

@@ -35,11 +35,12 @@ imm_field (Reg r) = 0
 -- ---- the grammar: one case for each form, section 4 (arithmetic, jumps) and section 5 (loads,
 -- stores, atomic operations)
 
--- the first slot: opcode (`opcode` of a code, the source bit and a class, or `memory_opcode` of a
--- mode, a size and a class), destination, source, offset and immediate, 0 if not used. Codes: 11 is
--- a move, 8 a negation or (class 5) a call, 9 the exit; modes: 3 MEM, 6 ATOMIC. The number of bits
--- is the offset of a sign extension and the immediate of a byte-order conversion. In a wide load
--- (0x18) the source field is 0 for a number, 1 for a map, and 2 for a value
+-- an instruction's first slot: opcode (`opcode` of a code, the source bit and a class, or
+-- `memory_opcode` of a mode, a size and a class), destination, source, offset and immediate, each 0
+-- if not used. Codes: 11 is a move, 8 a negation or (class 5) a call, 9 the exit; modes: 3 MEM, 6
+-- ATOMIC. A sign extension has its number of bits in the offset, a byte-order conversion in the
+-- immediate. In a wide load (0x18) the source field is 0 for a number, 1 for a map, and 2 for a
+-- value
 abbrev pub first : Insn → SlotFields
 first (Alu wide op dst src) =
     slot (opcode (alu_number op) (source_bit src) (alu_class wide)) dst (src_field src)

@@ -5,12 +5,12 @@ use Rattle.std.specs.Str.{bytes_eq}
 use Rattle.std.specs.Map.{lookup}
 use Rattle.std.specs.Borrow.{Bor}
 
--- a value, its number and its symbol
+-- a row of a table: a value, its number and its symbol
 abbrev pub Row : Type 0 → Type 0
 Row A = A × ℕ × List ℕ
 
--- the rows of a table of the code as definitions read them: with the symbols that are borrowed in
--- the code
+-- the rows of a table of the code, as definitions read them: with the bytes of each symbol, which
+-- the code borrows
 abbrev pub shown : {A : Type 0} → List (A × ℕ × Bor (List ℕ)) → List (Row A)
 shown rows = map (λ row. (row.0, row.1, row.2.now)) rows
 
@@ -26,8 +26,8 @@ by_symbol (row ∷ rows) s = if bytes_eq s row.2 then Some row.0 else by_symbol 
 
 -- ---- only with names
 
--- the rows of a table of the code that has only names, as definitions read them: with the names
--- that are borrowed in the code
+-- the rows of a table of the code that has only names, as definitions read them: with the bytes of
+-- each name, which the code borrows
 abbrev pub names : {A : Type 0} → List (Bor (List ℕ) × A) → List (List ℕ × A)
 names rows = map (λ row. (row.0.now, row.1)) rows
 

@@ -23,8 +23,8 @@ const CONDITIONS: [(Condition, u32, &str); 11] = [
     (Condition::CommonBit, 4, "&"),
 ];
 
-/// The condition of each code, 0 to 15; `None` for a code that no condition has. A look-up needs no search. The array is proved to agree
-/// with `CONDITIONS`.
+/// The condition of each code, 0 to 15; `None` for a code that no condition has. With this array, a condition is found by its code without
+/// a search. The array is proved to agree with `CONDITIONS`.
 const CONDITIONS_BY_CODE: [Option<Condition>; 16] = [
     None,
     Some(Condition::Equal),

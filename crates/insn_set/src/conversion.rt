@@ -7,8 +7,8 @@ ghost use Rattle.insn_set.specs.ConversionRows.{order_by_name, extension_by_name
 use crate::table::named;
 use words::{ByteOrder, ExtendedBits, KeptBits};
 
-/// The name that a line of text has for each byte-order conversion, in the order of the two enums, so that it is found by their numbers:
-/// three rows for each `ByteOrder`.
+/// The name that a line of text has for each byte-order conversion: three rows for each `ByteOrder`, one for each `KeptBits`. The rows are
+/// in the order of the variants of both, so the two variants determine the index of a row.
 const ORDERS: [(&str, (ByteOrder, KeptBits)); 9] = [
     ("le16", (ByteOrder::Little, KeptBits::Bits16)),
     ("le32", (ByteOrder::Little, KeptBits::Bits32)),
@@ -21,15 +21,16 @@ const ORDERS: [(&str, (ByteOrder, KeptBits)); 9] = [
     ("bswap64", (ByteOrder::Swap, KeptBits::Bits64)),
 ];
 
-/// The name that a line of text has for each sign extension, in the order of the enum, so that it is found by its number.
+/// The name that a line of text has for each sign extension. The rows are in the order of the variants, so `bits as usize` is the index of
+/// a row.
 const EXTENSIONS: [(&str, ExtendedBits); 3] = [
     ("s8", ExtendedBits::Bits8),
     ("s16", ExtendedBits::Bits16),
     ("s32", ExtendedBits::Bits32),
 ];
 
-/// The name of a byte-order conversion, which keeps `bits` low bits, in a line of text. Each `ByteOrder` has three rows of `ORDERS`, one
-/// for each `KeptBits`.
+/// The name that a line of text has for the byte-order conversion that keeps `bits` low bits. `ORDERS` has three rows for each `ByteOrder`,
+/// one for each `KeptBits`.
 pub fn order_name(how: ByteOrder, bits: KeptBits) -> &'static str
     ensures { result.now ≡ order_name how bits }
 {
@@ -44,7 +45,7 @@ pub fn order_by_name(name: &str) -> Option<(ByteOrder, KeptBits)>
     named(&ORDERS, name)
 }
 
-/// The name of the sign extension from `bits` low bits in a line of text.
+/// The name that a line of text has for the sign extension from `bits` low bits.
 pub fn extension_name(bits: ExtendedBits) -> &'static str
     ensures { result.now ≡ extension_name bits }
 {

@@ -55,8 +55,8 @@ pub enum Operand {
     Reg(Reg),
 }
 
-/// A move with sign extension, from `bits` to 64 bits (`wide`) or 32 (RFC 9669, section 4.1). Only the wide one may start from 32 bits:
-/// `listed`, which only contracts see.
+/// A move with sign extension, from `bits` to 64 bits (`wide`) or 32 (RFC 9669, section 4.1). Only the wide one may start from 32 bits: the
+/// ghost field `listed`, which only contracts see, states that.
 ///
 /// It is a struct of its own, as is `Load`, because enum variants have no ghost fields to state such restrictions.
 #[derive(Clone, Copy, Debug, PartialEq, Eq)]
@@ -68,8 +68,8 @@ pub struct Movsx {
     pub ghost listed: { IsTrue (wide || is_short bits) },
 }
 
-/// A load into `dst` from the address in `src` plus `off` bytes, with sign extension if `signed` (RFC 9669, sections 5.1 and 5.2). A double
-/// word has no sign extension: `listed`, which only contracts see.
+/// A load into `dst` from the address in `src` plus `off` bytes, with sign extension if `signed` (RFC 9669, sections 5.1 and 5.2). No load
+/// of a double word extends the sign: the ghost field `listed`, which only contracts see, states that.
 #[derive(Clone, Copy, Debug, PartialEq, Eq)]
 pub struct Load {
     pub size: AccessSize,
@@ -97,7 +97,8 @@ pub enum Insn {
         wide: bool,
         dst: Reg,
     },
-    /// A byte-order conversion of `dst`, in place: its `bits` low bits in another order, and the others 0 (RFC 9669, section 4.2).
+    /// A byte-order conversion of `dst`, in place: the bytes of its `bits` low bits in the order `how`, and the higher bits 0 (RFC 9669,
+    /// section 4.2).
     End {
         how: ByteOrder,
         bits: KeptBits,
@@ -135,7 +136,7 @@ pub enum Insn {
         off: i16,
     },
     /// An atomic operation on the bytes at the address in `dst` plus `off` bytes, with `src` as second operand (RFC 9669, section 5.3). It
-    /// changes no register: those with FETCH are no instructions here.
+    /// changes no register: operations with FETCH are no instructions here.
     Atomic {
         size: AtomicSize,
         op: AtomicOp,
@@ -166,14 +167,14 @@ impl Insn {
     ghost use Rattle.std.specs.Prelude.{length};
     ghost use Rattle.insn_set.specs.Spelling.{slots, has_two_slots, IsInsn};
 
-    /// Whether the instruction takes two slots: a wide instruction (RFC 9669, section 3.2).
+    /// Whether the instruction takes two slots, as only `Const`, `MapFd` and `MapValue` do (RFC 9669, section 3.2).
     pub fn has_two_slots(&self) -> bool
         ensures { result ≡ has_two_slots self.now }
     {
         self.profile().slots == 2
     }
 
-    /// The number of the instruction's slots: one, or two if it is wide.
+    /// The number of the instruction's slots: two for `Const`, `MapFd` and `MapValue`, else one.
     pub fn slots(&self) -> usize
         ensures count { result ≡ length (slots self.now) }
         ensures some { 1 ≤ result }
@@ -182,8 +183,8 @@ impl Insn {
         self.profile().slots
     }
 
-    /// A law, for proofs that have an instruction of the code: its numbers lie in the ranges of its fields. Each arm only names the
-    /// instruction's numbers, whose types, and `number` of a register, bound them; an exit has none. It does nothing when it runs.
+    /// A law, for proofs that have an instruction of the code: its numbers lie in the ranges of its fields. Each arm only names these
+    /// numbers, which their types bound, or calls a function whose contract bounds them. It does nothing when it runs.
     pub fn in_range(&self)
         ensures { IsInsn self.now }
     {

@@ -20,7 +20,7 @@ fn registers() {
     prove!(number == 10);
 }
 
-/// A wide load of a number takes two slots, the exit one.
+/// A load of a 64-bit number takes two slots, the exit one.
 fn slots_of_instructions() {
     let (dst, value) = (Reg::new(2), 7);
     let (wide, exit) = (Insn::Const { dst, value }, Insn::Exit);

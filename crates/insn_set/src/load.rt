@@ -8,8 +8,8 @@ ghost use Rattle.insn_set.specs.LoadRows.{load_by_opcode, size_by_name};
 use crate::table::{by_number, by_symbol};
 use words::AccessSize;
 
-/// Each load, by whether it extends the sign and its size; its opcode (RFC 9669, sections 5.1 and 5.2); and the name that a line of text
-/// has for its size. A double word has no sign extension.
+/// A row for each load: whether it extends the sign, and its size; its opcode (RFC 9669, sections 5.1 and 5.2); and the name that a line of
+/// text has for its size. No load of a double word extends the sign.
 const LOADS: [((bool, AccessSize), u32, &str); 7] = [
     ((false, AccessSize::Byte), 0x71, "u8"),
     ((false, AccessSize::Half), 0x69, "u16"),
@@ -29,7 +29,7 @@ pub fn load_by_opcode(opcode: u8) -> Option<(bool, AccessSize)>
     by_number(&LOADS, u32::from(opcode))
 }
 
-/// Whether an access of the size with this name extends the sign, and the size; `None` if no load has the name.
+/// By a size's name in a line of text: whether the access extends the sign, and the size. `None` if no load has the name.
 pub fn size_by_name(name: &str) -> Option<(bool, AccessSize)>
     ensures value { result ≡ size_by_name name.now }
     ensures inverse { IfSome result (λ l. size_name l.0 l.1 ≡ name.now) }
@@ -37,7 +37,8 @@ pub fn size_by_name(name: &str) -> Option<(bool, AccessSize)>
     by_symbol(&LOADS, name)
 }
 
-/// The name of a size in a line of text: of an access that extends the sign, or of another. No load is an `s64`, but the function is total.
+/// The name that a line of text has for a size: with `s` if the access extends the sign (`signed`), else with `u`. No load is an `s64`, but
+/// the function is total.
 pub fn size_name(signed: bool, size: AccessSize) -> &'static str
     ensures { result.now ≡ size_name signed size }
 {

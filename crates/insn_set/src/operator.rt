@@ -27,8 +27,8 @@ const OPERATORS: [(AluOp, u32, &str); 14] = [
     (AluOp::SignedShiftRight, 12, "s>>="),
 ];
 
-/// The operator of each code, 0 to 15, in a slot whose offset field is 0; `None` for a code that no operator of two operands has. A look-up
-/// needs no search. The array is proved to agree with `OPERATORS`.
+/// The operator of each code, 0 to 15, in a slot whose offset field is 0; `None` for a code that no operator of two operands has. With this
+/// array, an operator is found by its code without a search. The array is proved to agree with `OPERATORS`.
 const OPERATORS_BY_CODE: [Option<AluOp>; 16] = [
     Some(AluOp::Add),
     Some(AluOp::Sub),

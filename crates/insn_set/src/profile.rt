@@ -29,7 +29,8 @@ pub enum Reference {
     Helper(i32),
     /// A map, by its descriptor, whose 32 bits are read as unsigned (RFC 9669, section 5.4.1).
     Map(u32),
-    /// A byte in the first value of a map, by the map's descriptor, unsigned too, and the byte's offset (RFC 9669, section 5.4.1).
+    /// A byte in the first value of a map: the map's descriptor, unsigned too, and the byte's offset in the value (RFC 9669, section
+    /// 5.4.1).
     Value(u32, u32),
 }
 
@@ -39,16 +40,16 @@ pub struct Profile {
     /// The register of its first or only operand, of the address of an access, or of the result (register 0, which an exit reads); `None`
     /// if it reads none of them.
     pub first_read: Option<Reg>,
-    /// The register of its second operand: of the value that a store writes, or that an atomic operation combines with the bytes in memory,
-    /// or that an operator or a condition reads. `None` if that is a constant, or there is none. A call also reads its helper's arguments,
-    /// which are not included here.
+    /// The register of its second operand, that is, of the value that a store writes, that an atomic operation combines with the bytes in
+    /// memory, or that an operator or a condition reads second. `None` if that is a constant, or there is none. A call also reads its
+    /// helper's arguments, which are not included here.
     pub second_read: Option<Reg>,
     /// The register that it writes; `None` if there is none, also for an atomic operation, as those with FETCH are no instructions here. A
     /// call's effect on registers 0 to 5 is not included.
     pub written: Option<Reg>,
-    /// Its possible successors.
+    /// Its possible successors in the control flow graph.
     pub successors: Successors,
-    /// What it names.
+    /// What it names outside the registers: a helper, a map, a byte in the first value of a map, or nothing.
     pub reference: Reference,
     /// The number of its slots: one or two (RFC 9669, section 3.2).
     pub slots: usize,

@@ -81,7 +81,7 @@ impl RawSlot {
         self.registers == 0
     }
 
-    /// The slot's eight bytes.
+    /// The slot's eight bytes: the opcode, the registers, the offset and the immediate, both little-endian.
     pub fn bytes(&self) -> [u8; 8]
         ensures { result ≡ slot_bytes (fields self.now) }
     {

@@ -28,7 +28,7 @@ pub(crate) fn by_symbol<T: Copy>(rows: &[(T, u32, &str)], symbol: &str) -> Optio
     None
 }
 
-/// The value of the first row with this name; `None` if there is no such row.
+/// The value of the first row with this name; `None` if there is no such row. A row has a name and its value.
 pub fn named<T: Copy>(rows: &[(&str, T)], name: &str) -> Option<T>
     ensures { result ≡ named (names rows.now) name.now }
 {

@@ -18,8 +18,8 @@ abbrev pub swapped : Option RangePair → Option RangePair
 swapped None = None
 swapped (Some p) = Some (p.1, p.0)
 
--- r without v, if the rest is still one range; None if no member is left; r if v is none of its
--- ends, as a number between them can't be taken out of a range
+-- r without v, if v is one of its ends; None if no member is left; else r itself, as a number
+-- between the ends can't be taken out of a range
 abbrev pub except : Range → ℕ → Option Range
 except r v =
     if (r.lo == v) && (r.hi == v) then None else
@@ -36,8 +36,8 @@ if_equal a b =
     let hi = min a.hi b.hi in
     if nat_le lo hi then Some (span lo hi, span lo hi) else None
 
--- the edge on which the operands differ: if one is one number, the range of the other loses it at
--- its ends; None if both are this number
+-- the edge on which the operands differ: if one range has only one member, the other loses this
+-- number at its ends; None if it is the only member of both
 abbrev pub if_different : Range → Range → Option RangePair
 if_different a b =
     if is_constant b then option_map (λ r. (r, b)) (except a b.lo) else
@@ -67,8 +67,8 @@ EdgePairs = Option RangePair × Option RangePair
 abbrev pub unchanged : Range → Range → EdgePairs
 unchanged a b = (Some (a, b), Some (a, b))
 
--- the ranges on both edges, first of the edge on which the comparison holds, for operands of its
--- width; signed comparisons and the test of a common bit refine nothing
+-- the ranges on both edges, first of the edge on which the comparison holds, for operands of no
+-- more bits than it reads; signed comparisons and the test of a common bit refine nothing
 abbrev pub edges : Condition → Range → Range → EdgePairs
 edges Equal a b = (if_equal a b, if_different a b)
 edges NotEqual a b = (if_different a b, if_equal a b)

@@ -13,7 +13,7 @@ use Rattle.interval.specs.Ranges.{span, constant, is_constant, full}
 
 -- ---- one row for each operator, on operands below 2 ^ n
 
--- the sums of members, modulo 2 ^ n: exact if none wraps or all do, else all numbers
+-- the range of the sums of members, modulo 2 ^ n: exact if none wraps or all do, else all numbers
 abbrev pub sum_range : ℕ → Range → Range → Range
 sum_range n a b =
     if nat_lt (a.hi + b.hi) (2 ^ n) then span (a.lo + b.lo) (a.hi + b.hi) else
@@ -21,28 +21,29 @@ sum_range n a b =
     then span (a.lo + b.lo - 2 ^ n) (a.hi + b.hi - 2 ^ n)
     else full n)
 
--- the differences of members, modulo 2 ^ n: exact if none wraps or all do, else all numbers
+-- the range of the differences of members, modulo 2 ^ n: exact if none wraps or all do, else all
+-- numbers
 abbrev pub difference_range : ℕ → Range → Range → Range
 difference_range n a b =
     if nat_le b.hi a.lo then span (a.lo - b.hi) (a.hi - b.lo) else
     (if nat_lt a.hi b.lo then span (a.lo + 2 ^ n - b.hi) (a.hi + 2 ^ n - b.lo) else full n)
 
--- the products of members, modulo 2 ^ n: all numbers if the greatest wraps
+-- the range of the products of members, modulo 2 ^ n: all numbers of n bits if the greatest wraps
 abbrev pub product_range : ℕ → Range → Range → Range
 product_range n a b =
     if nat_lt (a.hi * b.hi) (2 ^ n) then span (a.lo * b.lo) (a.hi * b.hi) else full n
 
--- the unsigned quotients of members: from 0 to the greatest dividend if the divisor may be 0, since
--- a quotient by 0 is 0 and no quotient is above its dividend
+-- the range of the unsigned quotients of members: from 0 to the greatest dividend if the divisor
+-- may be 0, since a quotient by 0 is 0 and no quotient is above its dividend
 abbrev pub quotient_range : Range → Range → Range
 quotient_range a b = if nat_le 1 b.lo then span (a.lo / b.hi) (a.hi / b.lo) else span 0 a.hi
 
--- the unsigned remainders of members: from 0 to the greatest dividend, and below the greatest
--- divisor if no divisor is 0; a remainder by 0 is the dividend
+-- the range of the unsigned remainders of members: from 0 to the greatest dividend, and below the
+-- greatest divisor if no divisor is 0; a remainder by 0 is the dividend
 abbrev pub remainder_range : Range → Range → Range
 remainder_range a b = if nat_le 1 b.lo then span 0 (min a.hi (b.hi - 1)) else span 0 a.hi
 
--- bitwise and of members: from 0 to the lesser high end
+-- the range of the bitwise AND of members: from 0 to the lesser high end
 abbrev pub and_range : Range → Range → Range
 and_range a b = span 0 (min a.hi b.hi)
 
@@ -50,49 +51,50 @@ and_range a b = span 0 (min a.hi b.hi)
 abbrev pub binary_digits : ℕ → ℕ
 binary_digits v = 64 - leading_zeros w64 v
 
--- the greatest number with as many binary digits as the greater high end
+-- the greatest number with as many binary digits as the greater high end of the two ranges
 abbrev pub digits_end : Range → Range → ℕ
 digits_end a b = 2 ^ binary_digits (max a.hi b.hi) - 1
 
--- bitwise or of members: at least each low end, with no more binary digits than the greater high
--- end
+-- the range of the bitwise OR of members: at least each low end, with no more binary digits than
+-- the greater high end
 abbrev pub or_range : Range → Range → Range
 or_range a b = span (max a.lo b.lo) (digits_end a b)
 
--- bitwise exclusive or of members: from 0, with no more binary digits than the greater high end
+-- the range of the bitwise XOR of members: from 0, with no more binary digits than the greater high
+-- end
 abbrev pub xor_range : Range → Range → Range
 xor_range a b = span 0 (digits_end a b)
 
--- the members of a times 2 ^ k, that is, shifted left by k bits; all numbers if the greatest is no
--- longer below 2 ^ n
+-- the range of the members of a times 2 ^ k, that is, shifted left by k bits; all numbers of n bits
+-- if the greatest is no longer below 2 ^ n
 abbrev pub scaled_range : ℕ → Range → ℕ → Range
 scaled_range n a k =
     if nat_lt (a.hi * 2 ^ k) (2 ^ n) then span (a.lo * 2 ^ k) (a.hi * 2 ^ k) else full n
 
--- the members of a shifted left by members of b: all numbers unless b is one number and no member
--- loses a bit
+-- the range of the members of a shifted left by members of b: all numbers of n bits unless b is one
+-- number and no member loses a bit
 abbrev pub shift_left_range : ℕ → Range → Range → Range
 shift_left_range n a b = if is_constant b then scaled_range n a (b.lo % n) else full n
 
--- the members of a shifted right by members of b, with zeros from the left; from 0 to the greatest
--- member of a if b is not one number, as a shift by 0 leaves a member as it is
+-- the range of the members of a shifted right by members of b, with zeros from the left; from 0 to
+-- the greatest member of a if b is not one number, as a shift by 0 leaves a member as it is
 abbrev pub shift_right_range : ℕ → Range → Range → Range
 shift_right_range n a b =
     if is_constant b then span (a.lo / 2 ^ (b.lo % n)) (a.hi / 2 ^ (b.lo % n)) else span 0 a.hi
 
--- the members of a shifted right by members of b, with the sign bit copied: all numbers if the sign
--- bit of a member may be 1, else as for a shift with zeros
+-- the range of the members of a shifted right by members of b, with the sign bit copied: all
+-- numbers if the sign bit of a member may be 1, else as for a shift with zeros
 abbrev pub signed_shift_right_range : ℕ → Range → Range → Range
 signed_shift_right_range n a b =
     if nat_lt a.hi (2 ^ (n - 1)) then shift_right_range n a b else full n
 
--- the members of b extended by the sign of their low k bits: themselves if all fit into these bits
--- with sign bit 0, else all numbers
+-- the range of the members of b extended by the sign of their low k bits: b itself if all fit into
+-- these bits with sign bit 0, else all numbers of n bits
 abbrev pub sign_extend_range : ℕ → ℕ → Range → Range
 sign_extend_range n k b = if nat_lt b.hi (2 ^ (k - 1)) then b else full n
 
--- the results of an operator of two operands on n bits, by the ends of their ranges; signed
--- quotients and remainders may be all numbers, and the result of a move is the second operand
+-- the range of the results of an operator of two operands on n bits, by the ends of their ranges:
+-- all numbers for signed quotients and remainders; that of the second operand for a move
 abbrev pub alu_range : ℕ → AluOp → Range → Range → Range
 alu_range n Add a b = sum_range n a b
 alu_range n Sub a b = difference_range n a b
@@ -109,8 +111,8 @@ alu_range n Xor a b = xor_range a b
 alu_range n Mov a b = b
 alu_range n SignedShiftRight a b = signed_shift_right_range n a b
 
--- the results of an operator on n bits, by the ends of its operands' ranges; a change of sign may
--- give all numbers of n bits, a byte-order conversion all of the bits that it keeps
+-- the range of the results of an operator on n bits, by the ends of its operands' ranges; a change
+-- of sign may give all numbers of n bits, a byte-order conversion all of the bits that it keeps
 abbrev pub general_range : ℕ → Operator → Range → Range → Range
 general_range n (Binary op) a b = alu_range n op a b
 general_range n Neg a b = full n

@@ -27,7 +27,7 @@ pub fn alu64(op: Operator, a: Range, b: Range) -> Range
 }
 
 /// The range of the results of an operator of two operands on 64 bits: one number if each operand that `op` reads is one, else that of
-/// `alu_range`. Most operators are such, so they have a function of their own, with one dispatch.
+/// `alu_range`. Most operators are such: with a function of their own, one test, in `alu64`, separates them from those of one operand.
 fn binary64(op: AluOp, a: Range, b: Range) -> Range
     ensures exact { result ≡ range_of 64 (Binary op) a b }
     ensures sound { (x y : ℕ) → IsMember x a → IsMember y b
@@ -87,7 +87,7 @@ fn range_of_low_word(r: Range) -> Range
     }
 }
 
-/// Whether each operand that `op` reads is a constant.
+/// Whether the range of each operand that `op` reads has only one member.
 fn are_constants(op: Operator, a: Range, b: Range) -> bool
     ensures { result ≡ are_constants op a b }
 {
@@ -98,7 +98,7 @@ fn are_constants(op: Operator, a: Range, b: Range) -> bool
     }
 }
 
-/// Whether each operand that `op`, an operator of two operands, reads is a constant: a move only reads the second.
+/// Whether the range of each operand that `op`, an operator of two operands, reads has only one member: a move only reads the second.
 fn are_alu_constants(op: AluOp, a: Range, b: Range) -> bool
     ensures { result ≡ are_alu_constants op a b }
 {

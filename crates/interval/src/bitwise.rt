@@ -26,8 +26,8 @@ pub(crate) fn exclusive_or(a: Range, b: Range) -> Range
     Range::new(0, digits_end(a, b))
 }
 
-/// The greatest number with as many binary digits as the greatest member of both ranges, so that no OR or XOR of members is above it. 0 has
-/// no digits, and a shift by 64 bits is not defined, so it has a case. `first` and `second`: the ends of an OR's range are in order.
+/// The greatest number with as many binary digits as the greatest member of both ranges, so that no OR or XOR of members is above it. The
+/// number 0 has a case of its own, as a shift by 64 bits is not defined. By `first` and `second`, the ends of an OR's range are in order.
 fn digits_end(a: Range, b: Range) -> u64
     ensures value { result ≡ digits_end a b }
     ensures first { a.hi ≤ result }

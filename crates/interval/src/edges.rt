@@ -9,7 +9,7 @@ ghost use Rattle.interval.specs.Refine.{except, if_equal, if_different, if_above
 use crate::range::{Range, greatest};
 use words::Condition;
 
-/// The ranges of the first and the second operand on an edge; `None`: no two members take it.
+/// The ranges of the first and the second operand on an edge of a conditional jump; `None` if no two members take the edge.
 pub type Edge = Option<(Range, Range)>;
 
 /// Refines the ranges of both operands of a conditional jump on 64 bits (`wide`) or 32: the first result is the edge that jumps, the second
@@ -42,7 +42,7 @@ pub fn refine(condition: Condition, wide: bool, a: Range, b: Range) -> (Edge, Ed
     }
 }
 
-/// The edge with the ranges of its operands swapped: for `a` below `b`, which is `b` above `a`.
+/// The edge with the ranges of its operands swapped, as `a` below `b` is refined as `b` above `a`; `None` if the edge is.
 fn swapped(edge: Edge) -> Edge
     ensures { result ≡ swapped edge }
 {
@@ -81,8 +81,8 @@ fn if_different(a: Range, b: Range) -> Edge
     }
 }
 
-/// `r` without `value`, if the rest is still one range; `None` if no member is left. `r` if `value` is no end of it: a number between the
-/// ends can't be taken out of a range.
+/// `r` without `value`, if `value` is one of its ends; `None` if no member is left. Else `r` itself: a number between the ends can't be
+/// taken out of a range.
 fn except(r: Range, value: u64) -> Option<Range>
     ensures { result ≡ except r value }
 {

@@ -8,7 +8,7 @@ ghost use Rattle.interval.specs.Table.{scaled_range, shift_left_range, shift_rig
 use crate::range::{Range, greatest};
 use words::ExtendedBits;
 
-/// The number of bits by which a shift by `by` shifts: modulo 64 (`wide`) or 32 (RFC 9669, section 4.1).
+/// `by` modulo 64 (`wide`) or 32: the number of bits by which a shift by `by` shifts (RFC 9669, section 4.1).
 fn places(wide: bool, by: u64) -> u64
     ensures value { result ≡ by % width wide }
     ensures bound { result < 64 }

@@ -12,7 +12,8 @@ use log_reasons::rejection_text;
 use std::alloc::{AllocError, Global};
 use tagged_model::Named;
 
-/// The text between the reason of a rejection and what is known and required: a colon in a line, and a line's end in a graph.
+/// The text between the reason of a rejection and what is known and required: a colon, and then a space in a line, or a line feed in a
+/// graph.
 fn separator(style: LogStyle) -> &'static str {
     match style {
         LogStyle::New | LogStyle::Whole => ": ",
@@ -20,9 +21,9 @@ fn separator(style: LogStyle) -> &'static str {
     }
 }
 
-/// The log of a program, if descriptors name the objects of `named`. As lines it ends with the verdict: a line with the cost and the line
-/// `accepted`, or the line of the refusal and another that says why. As a graph it has the lines of a refusal in the block of the
-/// rejected instruction.
+/// The log of a program, if descriptors name the objects of `named`, as lines or as a graph (`style`). As lines it ends with the verdict: a
+/// line with the cost and the line `accepted`, or the line of the refusal and then why. As a graph it has the text of a refusal in the
+/// block of the rejected instruction.
 ///
 /// # Errors
 ///

@@ -19,7 +19,7 @@ pub struct SlotsLog {
     pub is_accepted: bool,
 }
 
-/// The log of slots that are no program, for this fault of the codec: the line of their refusal.
+/// The log of slots that are no program, for this fault of the codec: the line of their refusal. The error is out of memory for the text.
 fn refused(alloc: Global, fault: CodecFault) -> Result<SlotsLog, AllocError>
     ensures { IfOk result (λ log. SaysNoProgram fault log.is_accepted (string_bytes log.text)) }
 {
@@ -30,7 +30,8 @@ fn refused(alloc: Global, fault: CodecFault) -> Result<SlotsLog, AllocError>
     })
 }
 
-/// The log of slots that are this program, without the facts of `log_of`.
+/// The log of the program that slots spell, if descriptors name the objects of `named`: that of `log_of`, without its facts. The error is
+/// out of memory.
 fn logged(
     alloc: Global,
     program: &Program,

@@ -18,7 +18,7 @@ use Rattle.verifier.specs.Verdict.{HasNoFault, IsAccepted, IsFirstFault, safety_
 abbrev pub facts_by_slot : List KnownFacts → List (ℕ × Facts)
 facts_by_slot known = map (λ here. (here.slot, here.facts)) known
 
--- `known` has the definition's facts before the slots below n that a run may reach, in order, and
+-- `known` has the facts before the slots below n that a run may reach (`reached`), in order, and
 -- nothing else
 abbrev pub IsKnownBelow : ℕ → List Insn → List Named → List KnownFacts → Type 0
 IsKnownBelow n code named known = facts_by_slot known ≡ reached (shapes_of code named) code n
@@ -55,7 +55,8 @@ IsJudged code named known (Ok cost) = IsAcceptedWith code named known × IsCostO
 IsJudged code named known (Err fault) = IsRefusedWith code named known fault
 
 -- the Boolean, which a log has, is whether the program is accepted, and `known` has the facts that
--- go with this verdict: of a rejected program for some fault, which the log does not have
+-- go with this verdict; of a rejected program those that go with its fault, which the log does not
+-- have
 abbrev pub IsLogged : List Insn → List Named → Bool → List KnownFacts → Type 0
 IsLogged code named true known = IsAcceptedWith code named known
 IsLogged code named false known = (fault : VerifyFault) × IsRefusedWith code named known fault

@@ -19,8 +19,8 @@ pub struct Edges {
     pub jumping: Facts,
 }
 
-/// Sets the ranges of both operands of a comparison, that of `dst` first, in the facts on one of its edges; `None` if no run takes the
-/// edge. Returns whether a run may take it.
+/// Sets `ranges`, those of both operands of a comparison, that of `dst` first, in the facts on one of its edges, and returns `true`. With
+/// `None` no run takes the edge: then the facts are unchanged, and it returns `false`.
 fn refine(facts: &mut Facts, dst: Reg, src: &Operand, ranges: Option<(Range, Range)>) -> bool {
     match ranges {
         Some(ranges) => {
@@ -32,7 +32,7 @@ fn refine(facts: &mut Facts, dst: Reg, src: &Operand, ranges: Option<(Range, Ran
 }
 
 impl Edges {
-    /// No edges. Both fields of facts are `filler`, which says nothing, since both flags are false.
+    /// No edges. Both fields of facts are `filler`, any facts: they mean nothing, since both flags are false.
     pub fn none(filler: &Facts) -> Edges {
         Edges {
             falls: false,
@@ -42,9 +42,9 @@ impl Edges {
         }
     }
 
-    /// Sets which edges out of an instruction a run may take, by the result of its transfer function, and refines the facts on them: by a
-    /// comparison the ranges of its operands, by a null test the result of its look-up, null on one edge and not on the other. Before this,
-    /// `falling` and `jumping` both are the facts after the instruction, without what only one edge has.
+    /// Sets which edges out of an instruction a run may take, by `flow`, the result of its transfer function, and refines the facts on
+    /// them: by a comparison the ranges of its operands, by a null test the result of its look-up, null on one edge and not on the other.
+    /// Before this, `falling` and `jumping` both are the facts after the instruction that hold on both edges.
     fn take(&mut self, flow: &Flow) {
         (self.falls, self.jumps) = match *flow {
             Flow::Ends => (false, false),
@@ -72,7 +72,7 @@ impl Edges {
     }
 
     /// Computes the edges out of the instruction at `slot` from the facts before it, if descriptors name the objects of `named`: no edges
-    /// if it is rejected.
+    /// if the instruction may not be run with these facts.
     pub fn leave(&mut self, facts: &Facts, named: &[Named], slot: usize, insn: &Insn) {
         self.falling = *facts;
         match apply(&mut self.falling, named, slot, insn) {

@@ -5,7 +5,7 @@ use reg_kinds::{Kind, ValuePointer};
 use std::alloc::AllocError;
 use std::fmt::Write;
 
-/// Writes a number, and after one of 2^63 or more its value as a signed number.
+/// Writes a number, and after one of 2^63 or more its value as a signed number, in parentheses. The error is out of memory.
 fn write_number(text: &mut String, number: u64) -> Result<(), AllocError> {
     let signed = number.cast_signed();
     if signed < 0 {
@@ -31,7 +31,7 @@ pub fn write_range(text: &mut String, range: Range) -> Result<(), AllocError> {
     }
 }
 
-/// Writes an offset in bytes from what has this name, as `stack - 8`; an offset of 0 as the name only.
+/// Writes an offset in bytes from what has this name, as `stack - 8`; an offset of 0 as the name only. The error is out of memory.
 fn write_offset_from(text: &mut String, name: &str, offset: i32) -> Result<(), AllocError> {
     let distance = offset.unsigned_abs();
     if offset == 0 {
@@ -43,7 +43,8 @@ fn write_offset_from(text: &mut String, name: &str, offset: i32) -> Result<(), A
     }
 }
 
-/// Writes a pointer into a map's value: the map's descriptor, and the offset, or the least and the greatest that it may have.
+/// Writes a pointer into a map's value: the map's descriptor, and the offset in bytes, or the least and the greatest that it may have. The
+/// error is out of memory.
 fn write_value_pointer(text: &mut String, pointer: ValuePointer) -> Result<(), AllocError> {
     let (map, lo, hi) = (pointer.map, pointer.lo, pointer.hi);
     write!(text, "value of map {map}, offset {lo}")?;
@@ -54,7 +55,7 @@ fn write_value_pointer(text: &mut String, pointer: ValuePointer) -> Result<(), A
     }
 }
 
-/// Writes a kind, by what its values are, as `any number` or `stack - 8`.
+/// Writes the kind of a register or a stack slot, by the values that it admits, as `any number` or `stack - 8`.
 ///
 /// # Errors
 ///
@@ -76,7 +77,7 @@ pub fn write_kind(text: &mut String, kind: Kind) -> Result<(), AllocError> {
     }
 }
 
-/// Writes a range of bytes by its first and its last, both included.
+/// Writes which bytes are meant, by the numbers of the first and the last, both included, as `bytes 0 to 3`.
 ///
 /// # Errors
 ///

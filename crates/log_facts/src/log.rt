@@ -13,9 +13,9 @@ use verifier::laws;
 /// What a log shows.
 #[derive(Clone, Copy, Debug, PartialEq, Eq)]
 pub enum LogStyle {
-    /// A line for each instruction, with what is new before it.
+    /// A line for each instruction, with what is new in the facts before it since the line above.
     New,
-    /// A line for each instruction, with all that is known before it.
+    /// A line for each instruction, with all facts before it.
     Whole,
     /// The control-flow graph, in the language of Graphviz.
     Graph,

@@ -13,7 +13,7 @@ pub fn is_of_shape(reason: Reason) -> bool {
     reason.number() < 20
 }
 
-/// Writes the first line of a refusal, with its slot and the number of its reason.
+/// Writes the first line of a refusal, with its slot and the number of its reason. The error is out of memory.
 fn write_fault(text: &mut String, fault: VerifyFault) -> Result<(), AllocError>
     ensures { OnOk result (string_bytes text.new ≡ string_bytes text.old ++ refusal_line fault) }
 {
@@ -21,7 +21,7 @@ fn write_fault(text: &mut String, fault: VerifyFault) -> Result<(), AllocError>
     writeln!(text, "{refusal}")
 }
 
-/// Writes the line of a refusal, and `why` after it.
+/// Writes the line of a refusal, and `why` after it. The error is out of memory.
 fn write_refusal(text: &mut String, fault: VerifyFault, why: &str) -> Result<(), AllocError>
     ensures { OnOk result (AddsVerdict (Err fault) (string_bytes text.old)
         (string_bytes text.new)) }
@@ -30,7 +30,7 @@ fn write_refusal(text: &mut String, fault: VerifyFault, why: &str) -> Result<(),
     text.push_str(why)
 }
 
-/// Writes what a program costs: the most instructions and the most calls of helpers that a run executes.
+/// Writes what a program costs: the most instructions and the most calls of helpers on a path. The error is out of memory.
 fn write_cost(text: &mut String, cost: Cost) -> Result<(), AllocError>
     ensures { OnOk result (string_bytes text.new ≡ string_bytes text.old ++ cost_line cost) }
 {
@@ -41,7 +41,7 @@ fn write_cost(text: &mut String, cost: Cost) -> Result<(), AllocError>
     writeln!(text, "cost: instructions {instructions}, calls {calls}")
 }
 
-/// Writes the line of the cost, and the line `accepted`.
+/// Writes the line of the cost, and the line `accepted`. The error is out of memory.
 fn write_acceptance(text: &mut String, cost: Cost) -> Result<(), AllocError>
     ensures { OnOk result (AddsVerdict (Ok cost) (string_bytes text.old) (string_bytes text.new)) }
 {

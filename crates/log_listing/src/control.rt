@@ -1,4 +1,4 @@
-//! Control flow: the jumps of a program by their targets, and its basic blocks.
+//! Control flow: the jumps of a program by their targets, and its basic blocks. `AllocError`: out of memory.
 
 use crate::steps::Step;
 use insn_codec::{Insn, MAX_SLOTS, Program, Successors};
@@ -21,7 +21,7 @@ pub(crate) fn target_at(program: &Program, slot: usize) -> Option<usize> {
     insn.profile().successors.target(slot)
 }
 
-/// The jumping edges of these steps that a run may take, in the order of their targets.
+/// The jumping edges of these steps that a run may take, in the order of their targets. `AllocError`: out of memory.
 pub(crate) fn live_jumps(
     alloc: Global,
     program: &Program,
@@ -45,14 +45,15 @@ fn ends_block(insn: &Insn) -> bool {
     insn.profile().successors != Successors::Next
 }
 
-/// Sets the flag of a slot. A slot past the end, as after the last instruction, has none.
+/// Sets the flag of a slot. Does nothing for a slot past the end, as after the last instruction.
 fn mark(flags: &mut [bool], slot: usize) {
     if let Some(flag) = flags.get_mut(slot) {
         *flag = true;
     }
 }
 
-/// For each slot whether a basic block begins there: at slot 0, at the target of a jump, and after a jump or an exit.
+/// For each slot whether a basic block begins there: at slot 0, at the target of a jump, and after a jump or an exit. `AllocError`: out of
+/// memory.
 pub(crate) fn block_starts(alloc: Global, program: &Program) -> Result<Vec<bool>, AllocError> {
     let slots = program.slots();
     let mut starts = vec![in alloc; false; slots]?;

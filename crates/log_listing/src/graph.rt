@@ -1,4 +1,4 @@
-//! The control-flow graph, in the language of Graphviz.
+//! The control-flow graph, in the language of Graphviz. `AllocError`: out of memory for the text.
 
 use crate::control::{block_starts, target_at};
 use crate::lines::ListingInput;
@@ -49,8 +49,8 @@ struct Block {
     is_refused: bool,
 }
 
-/// Writes the style of an edge and its label: `name`, and what is new on the edge. `name` is `taken` or `not taken` after a conditional
-/// jump, else empty, and then nothing is new.
+/// Writes the style of an edge if no run takes it, else its label: `name`, and what is new on the edge. `name` is `taken` or `not taken`
+/// after a conditional jump; else it is empty, nothing is new, and no label is written.
 fn write_style(text: &mut String, name: &str, edge: Edge<'_>) -> Result<(), AllocError> {
     match edge {
         Edge::Dead => write!(text, " [{UNREACHED}]"),
@@ -123,7 +123,7 @@ struct Graph<'a> {
     why: &'a str,
     /// For each slot whether a block begins there.
     starts: &'a [bool],
-    /// The index in the story's steps of the next step.
+    /// The index in the steps of `story` of the next step.
     next: usize,
     block: Block,
 }
@@ -134,8 +134,8 @@ impl<'a> Graph<'a> {
         self.starts.get(slot).copied().unwrap_or(true)
     }
 
-    /// The step of the instruction at a slot, and advances to the next step; `None` if the pass did not reach the instruction. Slots are
-    /// asked for in ascending order, which is also that of the steps.
+    /// Returns the step of the instruction at a slot and advances to the next step; `None` if the pass did not reach the instruction. Slots
+    /// are asked for in ascending order, which is also that of the steps.
     fn step_at(&mut self, slot: usize) -> Option<&'a Step> {
         let step = self.story.steps.get(self.next)?;
         if step.slot != slot {
@@ -230,8 +230,9 @@ fn write_blocks(text: &mut String, mut graph: Graph<'_>) -> Result<(), AllocErro
     Ok(())
 }
 
-/// The graph of a program: its basic blocks with their instructions, and the edges between them with what is new on each.
-/// Those that no run reaches, as far as the pass went, are dashed; the block with the rejected instruction is red, with `why` in it.
+/// The graph of a program: its basic blocks with their instructions, and the edges between them with what is new on each. Blocks and edges
+/// that no run reaches, as far as the pass went, are dashed; the block with the rejected instruction is red, with the verdict and `why` in
+/// it. `AllocError`: out of memory.
 pub(crate) fn graph_of(
     alloc: Global,
     story: &ListingInput<'_>,

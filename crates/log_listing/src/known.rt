@@ -1,6 +1,7 @@
 //! Facts as text: what is known of registers and of the stack, as far as it differs from earlier facts.
 //!
-//! `start` is the offset in the text at which the notes begin: each but the first one follows a semicolon.
+//! `start` is the offset in the text at which the notes begin: each but the first one follows a semicolon. `AllocError`: out of memory for
+//! the text.
 
 ghost use Rattle.std.specs.Prelude.{◌<◌};
 
@@ -66,7 +67,7 @@ fn write_lost_registers(
 }
 
 /// The mask of the bytes of a stack slot that are newly written; bit 0 is the lowest. Of an overwritten spill these are all that are
-/// written; 0 for a new spill, which has a note of its own (`write_spills`).
+/// written; 0 if there is a spill now, since a new spill has a note of its own (`write_spills`).
 fn written(old: Slot, new: Slot) -> u8 {
     match (old, new) {
         (Slot::Bytes(before), Slot::Bytes(after)) => after & !before,
@@ -104,7 +105,7 @@ struct Row {
 }
 
 impl Row {
-    /// Writes the bytes as a note, and `what` is new of them: that they are `written` or `lost`. Nothing if there is no byte.
+    /// Writes a note with the bytes and `what` is new of them, `written` or `lost`. Writes nothing if there is no byte.
     fn write(&self, text: &mut String, what: &str) -> Result<(), AllocError> {
         if self.first == self.end {
             return Ok(());
@@ -129,7 +130,7 @@ impl Row {
         Ok(())
     }
 
-    /// Adds the bytes of stack slot `index` that are in a mask, whose bit 0 is the lowest byte.
+    /// Adds each byte of stack slot `index` that is in a mask, as `take` does with `what`. Bit 0 of the mask is the lowest byte.
     fn take_slot(
         &mut self,
         text: &mut String,

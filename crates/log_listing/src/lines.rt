@@ -1,4 +1,4 @@
-//! The log: a line for each instruction.
+//! The log: a line for each instruction. `AllocError`: out of memory for the text.
 
 ghost use Rattle.std.specs.Prelude.{OnOk, string_bytes};
 ghost use Rattle.log_facts.specs.Said.{AreLines};
@@ -43,7 +43,8 @@ struct Line {
     end: usize,
 }
 
-/// Begins a note: the first one on the line after spaces up to `CODE_WIDTH` and ` // `, others after a semicolon.
+/// Begins a note after the instruction of a line: before the first one it writes spaces up to `CODE_WIDTH`, and ` // `; before each other
+/// one a semicolon.
 fn begin_note(text: &mut String, line: Line) -> Result<(), AllocError> {
     if text.len() > line.end {
         return text.push_str("; ");

@@ -13,7 +13,8 @@ use std::alloc::{AllocError, Global};
 use tagged_model::Named;
 use verifier::{Cost, VerifyFault};
 
-/// The lines of the instructions, of a rejected program up to the rejected one, and then the verdict, after a rejection with `why`.
+/// The lines of a program's instructions, up to the rejected one if there is one; then the verdict, and after a rejection `why`.
+/// `AllocError`: out of memory.
 fn lines_of(
     alloc: Global,
     story: &ListingInput<'_>,

@@ -1,4 +1,4 @@
-//! What is new before each instruction and on its edges, as text.
+//! What is new before each instruction and on its edges, as text. `AllocError`: out of memory for the text.
 
 use crate::known::write_known;
 use insn_codec::{Insn, Program, Successors};
@@ -19,7 +19,7 @@ pub(crate) struct Step {
     pub jumping: Option<String>,
 }
 
-/// Makes the steps of a program from the facts before its instructions.
+/// Makes the steps of a program from the facts before its instructions, if descriptors name the objects of `named`.
 #[derive(Drop)]
 struct StepMaker<'a> {
     alloc: Global,
@@ -60,8 +60,8 @@ impl StepMaker<'_> {
         Ok(())
     }
 
-    /// Adds to `step` the edges out of its instruction; an exit has none. Only those of a conditional jump have a text, others the empty
-    /// one, also if the instruction is rejected: what another instruction changes is new before the next one.
+    /// Adds to `step` the edges out of its instruction; an exit has none. Only an edge of a conditional jump has a text of what is new on
+    /// it. Another edge has the empty text, also if the instruction is rejected: what the instruction changes is new before the next one.
     fn leave(&mut self, step: &mut Step, insn: &Insn, facts: &Facts) -> Result<(), AllocError> {
         match insn.profile().successors {
             Successors::Next => step.falling = Some(String::new(self.alloc)),
@@ -72,8 +72,8 @@ impl StepMaker<'_> {
         Ok(())
     }
 
-    /// The step of the instruction before which `known` has the facts, with what is new in them against `shown`. There is an instruction at
-    /// each slot with facts.
+    /// The step of the instruction before which `known` has the facts, with what is new in them against `shown`: the facts of the step
+    /// before, or those in which nothing is known. There is an instruction at each slot with facts.
     fn step(&mut self, shown: &Facts, known: &KnownFacts) -> Result<Step, AllocError> {
         let KnownFacts { slot, facts } = known;
         let mut step = Step {
@@ -90,7 +90,7 @@ impl StepMaker<'_> {
 }
 
 /// The steps of a program, one for each instruction with facts in `known`, if descriptors name the objects of `named`. Each has what is new
-/// since the step before it, or if `is_whole`, all that is known.
+/// since the step before it, or if `is_whole`, all that is known. `AllocError`: out of memory.
 pub(crate) fn steps_of(
     alloc: Global,
     program: &Program,

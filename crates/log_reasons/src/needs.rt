@@ -1,4 +1,4 @@
-//! Why a program is rejected: what is known, and what is required.
+//! Why a program is rejected: what is known, and what is required. `AllocError`: out of memory for the text.
 
 pub(crate) mod access;
 pub(crate) mod arithmetic;

@@ -1,4 +1,4 @@
-//! The path on which something is missing that an instruction needs.
+//! The path on which something is missing that an instruction needs. `AllocError`: out of memory.
 
 use crate::needs::RefusedProgram;
 use crate::needs::registers::kind_of;
@@ -69,7 +69,8 @@ enum Cause {
 struct Arrival {
     /// Whether the value is present on some edge.
     is_there: bool,
-    /// The slot from which the first edge leads on which the value is missing, and why it is.
+    /// Of the first edge on which the value is missing, the slot from which it leads, and why the value is missing; `None` if there is no
+    /// such edge.
     lack: Option<(usize, Cause)>,
 }
 

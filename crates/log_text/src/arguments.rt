@@ -31,7 +31,7 @@ fn program<'a>(alloc: Global) -> Command<'a> {
         .no_binary_name(true)
 }
 
-/// Adds `--all` and `--dot`, the options for what is written, of which at most one may be given.
+/// Adds `--all` and `--dot`, the options for what is written, of which at most one may be given. `AllocError`: out of memory.
 fn with_styles<'a>(alloc: Global, program: Command<'a>) -> Result<Command<'a>, AllocError> {
     let all = flag(
         alloc,
@@ -47,7 +47,7 @@ fn with_styles<'a>(alloc: Global, program: Command<'a>) -> Result<Command<'a>, A
     program.arg(dot.conflicts_with("all")?)
 }
 
-/// Adds `--hex` and `--text`, the options for the form of the input, of which at most one may be given.
+/// Adds `--hex` and `--text`, the options for the form of the input, of which at most one may be given. `AllocError`: out of memory.
 fn with_forms<'a>(alloc: Global, program: Command<'a>) -> Result<Command<'a>, AllocError> {
     let hex = flag(alloc, "hex", "Read hex lines, whatever the first line is");
     let program = program.arg(hex.conflicts_with("text")?)?;
@@ -58,7 +58,7 @@ fn with_forms<'a>(alloc: Global, program: Command<'a>) -> Result<Command<'a>, Al
     ))
 }
 
-/// Adds any number of positional arguments, each of which names a map.
+/// Adds any number of positional arguments, each of which names a map. `AllocError`: out of memory.
 fn with_maps<'a>(alloc: Global, program: Command<'a>) -> Result<Command<'a>, AllocError> {
     let maps = Arg::new(alloc, "map")
         .value_name("MAP")
@@ -67,7 +67,8 @@ fn with_maps<'a>(alloc: Global, program: Command<'a>) -> Result<Command<'a>, All
     program.arg(maps)
 }
 
-/// Parses the arguments, those after the program's name, with clap. Help and the version are errors of clap too.
+/// Parses the arguments, those after the program's name, with clap. `clap::Error`: clap rejects them, they ask for help or the version, or
+/// out of memory.
 pub(crate) fn parse_arguments<'a>(
     alloc: Global,
     arguments: &'a [&'a str],

@@ -15,7 +15,8 @@ struct Output {
     status: u8,
 }
 
-/// The maps that the map arguments name; an empty list if there are none (`None`).
+/// The maps that the map arguments name; an empty list if there are none (`None`). Fails if an argument names no map, or the descriptor of
+/// an earlier one, and if out of memory.
 fn maps_given(alloc: Global, matches: &ArgMatches<'_>) -> Result<Vec<Named>, Failure> {
     match matches.get_strs("map") {
         Some(arguments) => maps_named(alloc, arguments),
@@ -31,8 +32,8 @@ impl Output {
     }
 }
 
-/// The output for an input: the log of its program, or the refusal of the slots on hex lines if they are no program. A fault of a
-/// line is a `Failure`, and so has no output.
+/// The output for an input: the log of its program, or the refusal of the slots on hex lines if they are no program. A `Failure`, and so no
+/// output, is a fault of a map argument or of a line, an input that can't be read or is too long, and refused memory.
 fn log_output<I: Read + Drop>(
     alloc: Global,
     matches: &ArgMatches<'_>,
@@ -60,7 +61,8 @@ fn log_output<I: Read + Drop>(
     }
 }
 
-/// The output for the arguments: the log, or help, or the version.
+/// The output for the arguments: the log, or help, or the version. Other arguments that clap rejects are a `Failure`, as are those of
+/// `log_output`.
 fn output_of<I: Read + Drop>(
     alloc: Global,
     arguments: &[&str],
@@ -77,7 +79,7 @@ fn output_of<I: Read + Drop>(
     }
 }
 
-/// Writes a text and flushes it.
+/// Writes a text and flushes it. `Failure::Write` if one of these fails.
 fn write_out<O: Write>(output: &mut O, text: &str) -> Result<(), Failure> {
     if output.write_all(text.as_bytes()).is_err() || output.flush().is_err() {
         return Err(Failure::Write);

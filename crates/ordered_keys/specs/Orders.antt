@@ -33,7 +33,7 @@ taken_out p (x ∷ xs) = if nat_eq p x then xs else x ∷ taken_out p xs
 
 -- ---- keys
 
--- keys with their elements, which are less than a bound, in order
+-- keys in an order, each with its element, which is less than a bound
 pub record BoundedKeys (K : Type 0) : Type 0 where
   pub bound : ℕ
   pub entries : List (K × ℕ)
@@ -42,8 +42,8 @@ pub record BoundedKeys (K : Type 0) : Type 0 where
 abbrev pub bounded_keys : {K : Type 0} → ℕ → List (K × ℕ) → BoundedKeys K
 bounded_keys bound es = record { bound = bound; entries = es }
 
--- the code of `BoundedKeys`, by which proofs distinguish its values (`coded` of a `Model`), from
--- the code of a key: that of the pair of the fields
+-- how values of `BoundedKeys` are coded, from how keys are: as the pair of the two fields. A
+-- `Model` has this as `coded`, and proofs distinguish values by their codes
 abbrev pub bounded_keys_code : {K : Type 0} → Coded K → Coded (BoundedKeys K)
 bounded_keys_code {K} k =
     code_by (ℕ × List (K × ℕ)) (coded× coded_ℕ (coded_list (coded× k coded_ℕ)))
@@ -62,7 +62,8 @@ module _ {K : Type 0} where
     key_after_match [] = None
     key_after_match (e ∷ es) = if test e.0 then first_key_of es else key_after_match es
 
-    -- the key that follows the first one that passes the test, or the first key if none passes
+    -- the key that follows the first one that passes the test, or the first key if none passes;
+    -- None if no key follows, or there is no key
     abbrev pub key_following : List (K × ℕ) → Option K
     key_following es = if is_some (lookup test es) then key_after_match es else first_key_of es
 

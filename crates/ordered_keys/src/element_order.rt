@@ -7,7 +7,8 @@ ghost use Rattle.ordered_keys.specs.Orders.{occurrences, following, first_elemen
 use std::alloc::{AllocError, Global};
 use std::marker::Model;
 
-/// The neighbours of an element, or of the bound, in the ring. The bound is the neighbour before the first element and after the last.
+/// The neighbours of an element, or of the bound, in the ring of an `ElementOrder`. The bound is before the first element and after the
+/// last.
 #[derive(Clone, Copy, Drop)]
 pub struct Link {
     pub(crate) before: u32,
@@ -67,7 +68,7 @@ impl ElementOrder {
         }
     }
 
-    /// The first element, if there is one.
+    /// The first element; `None` if there is no element.
     pub(crate) fn first(&self) -> Option<u32>
         ensures { result ≡ first_element self.now.elements }
     {
@@ -75,7 +76,7 @@ impl ElementOrder {
         self.unless_end(self.links[end].after)
     }
 
-    /// The element that follows an element of the order, if there is one.
+    /// The element that follows `element`, which is in the order; `None` if it is the last.
     pub(crate) fn after(&self, element: u32) -> Option<u32>
         requires { 0 < occurrences element self.now.elements }
         ensures { result ≡ following element self.now.elements }

@@ -1,7 +1,7 @@
 //! A map from keys to elements that keeps its keys in the order in which they were added. A removal costs as much as an insertion.
 //!
-//! The functions after the methods are given parts of the map: the table of the keys with their elements, and `indices`, which has for each
-//! element the index in the table of the element's key.
+//! The functions after the methods are given fields of the map: the table of the keys with their elements, and `indices`, which has, by
+//! element, the index of its key in the table.
 
 ghost use Rattle.std.specs.Prelude.{◌≡◌, ℕ, ◌+◌, ◌*◌, ◌<◌, ◌≤◌, true, [], ◌∷◌, ◌++◌, length, drop, option_map};
 ghost use Rattle.std.specs.Prelude.{slice_get, None, Some, IfSome, IfOk, vec_len, vec_capacity, swap_remove};
@@ -24,10 +24,10 @@ use std::marker::Model;
 #[derive(Drop)]
 pub struct OrderedMap<K: Eq + Hash + Copy, S: BuildHasher> {
     table: IndexMap<K, u32, S>,
-    // The index in the table of the key of each element.
+    // By element: the index of its key in the table.
     indices: Vec<u32>,
     order: ElementOrder,
-    // Empty, with room for half of the entries, rounded up: `rebuild_without` moves them through it.
+    // Empty between calls, with room for half of the entries that the bound allows, rounded up: `rebuild_without` moves entries through it.
     rows: Vec<(K, u32)>,
 }
 
@@ -49,8 +49,8 @@ impl<K: Eq + Hash + Copy, S: BuildHasher> Model for OrderedMap<K, S> {
 }
 
 impl<K: Eq + Hash + Copy, S: BuildHasher> OrderedMap<K, S> {
-    /// A map without keys, for elements less than `bound`. Allocates all memory that it can ever take, for a table of four times the bound,
-    /// since removals take some of its room (head of the crate). `AllocError`: out of memory.
+    /// A map without keys, for elements less than `bound`. Allocates all memory that it will ever have. The table gets room for four times
+    /// the bound, since removals take some of its room (head of the crate). `AllocError`: out of memory.
     pub fn new(alloc: Global, bound: u32, hash_builder: S) -> Result<OrderedMap<K, S>, AllocError>
     where
         S: Drop,
@@ -80,7 +80,7 @@ impl<K: Eq + Hash + Copy, S: BuildHasher> OrderedMap<K, S> {
         self.table.get(key).copied()
     }
 
-    /// The key that follows a key, if there is one. After an absent key it is the first.
+    /// The key that follows `key`, or the first key if `key` is absent. `None` if `key` is the last, or there are no keys.
     pub fn key_after<Q: Equivalent<K>>(&self, key: Q) -> Option<&K>
         ensures { option_map (λ k. k.now) result
             ≡ key_following (Q.equivalent key) self.now.entries }
@@ -93,15 +93,15 @@ impl<K: Eq + Hash + Copy, S: BuildHasher> OrderedMap<K, S> {
         key_at(&self.table, &self.indices, self.order.after(*element))
     }
 
-    /// The first key, if there is one.
+    /// The first key; `None` if there are no keys.
     pub fn first(&self) -> Option<&K>
         ensures { option_map (λ k. k.now) result ≡ first_key_of self.now.entries }
     {
         key_at(&self.table, &self.indices, self.order.first())
     }
 
-    /// The key after that of `element`, or the first key if no element is given, with the element of the key that is returned. `None` if
-    /// no key follows, or if no key has `element`.
+    /// The key that follows the key of `element`, or the first key if no element is given; and the element of the key that is returned.
+    /// `None` if no key follows, or if no key has `element`.
     pub fn entry_after(&self, element: Option<u32>) -> Option<(&K, u32)>
         ensures { option_map lent_entry result ≡ next_entry element self.now.entries }
     {
@@ -151,8 +151,8 @@ impl<K: Eq + Hash + Copy, S: BuildHasher> OrderedMap<K, S> {
     }
 }
 
-/// Whether a key of the table has this element: whether the entry at the element's index does. An element out of range has no index; the
-/// result is then false, by index 0, since in an `OrderedMap` the element of the entry there is in range.
+/// Whether a key of the table has this element: the entry at the index that `indices` has for it. An element out of range has no index, so
+/// index 0 is taken; in an `OrderedMap` the element of the entry there is in range, so the result is then false.
 fn has_element<K: Eq + Hash, S: BuildHasher>(
     table: &IndexMap<K, u32, S>,
     indices: &[u32],
@@ -218,7 +218,8 @@ fn element_at<K: Eq + Hash, S: BuildHasher>(
     }
 }
 
-/// Adds a new entry at the end of the table, which has room for it, so the insertion is never refused memory.
+/// Adds an entry at the end of the table. Its key is absent, and the table has room for one entry more, so the insertion is never refused
+/// memory.
 fn put_last<K: Eq + Hash + Copy, S: BuildHasher>(
     table: &mut IndexMap<K, u32, S>,
     key: K,
@@ -233,8 +234,9 @@ fn put_last<K: Eq + Hash + Copy, S: BuildHasher>(
     let Ok(_) = added else { unreachable!() };
 }
 
-/// Takes out the entry at an index, and returns it; the last entry gets the index. The table keeps room for `bound` entries: if a removal
-/// might lose some of it, the table is filled anew, through `rows`, which is empty before and after.
+/// Takes out the entry at an index, and returns it; the last entry gets the index. The table keeps room for `bound` entries in all. A
+/// removal may give up room for one, so a table with a capacity of only `bound` is filled anew, through `rows`, which is empty before and
+/// after.
 fn take_out<K: Eq + Hash + Copy, S: BuildHasher>(
     table: &mut IndexMap<K, u32, S>,
     rows: &mut Vec<(K, u32)>,
@@ -278,9 +280,9 @@ fn take_at<K: Eq + Hash + Copy, S: BuildHasher>(
     entry
 }
 
-/// Takes out the entry at an index, and returns it; the last entry gets the index. It takes as many steps as there are entries: the second
-/// half of them is taken out, which gives the table its full room again, and put back without the entry. They are moved through `rows`,
-/// which is empty before and after. It is rare, and so out of line.
+/// Takes out the entry at an index, and returns it; the last entry gets the index. The table loses no room: the second half of its entries
+/// is taken out, which gives it its full room again, and put back without the entry. They are moved through `rows`, which is empty before
+/// and after. The steps grow with the number of entries; but this is rare, and so out of line.
 #[cold]
 #[inline(never)]
 fn rebuild_without<K: Eq + Hash + Copy, S: BuildHasher>(

@@ -26,7 +26,7 @@ ones_small a b h =
     let one = pow_pos b in
     omega arith
 
--- the mask of those of n bytes at start p that lie in slot i is below 256
+-- the mask of those of n bytes from byte index p on that lie in stack slot i is below 256
 pub bits_in_small : (p n i : ℕ) → bits_in p n i < 256
 bits_in_small p n i =
     let a = min 8 (p + n - 8 * i) - (p - 8 * i) in

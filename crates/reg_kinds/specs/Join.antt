@@ -10,8 +10,8 @@ use Rattle.reg_kinds.specs.declared.facts.Facts.{Facts}
 use Rattle.reg_kinds.specs.Pointers.{offsets_hull}
 use Rattle.reg_kinds.specs.Kinds.{kind_at, slot_at, facts_of}
 
--- the join of kinds: the hull of two ranges, or of two ranges of offsets into values of one map;
--- else the kind, if both are the same; otherwise Unreadable
+-- the join of kinds: the hull (the least range that includes both) of two ranges, or of two ranges
+-- of offsets into values of one map; else the kind, if both are the same; otherwise Unreadable
 abbrev pub kind_join : Kind → Kind → Kind
 kind_join (Scalar a) (Scalar b) = Scalar (hull a b)
 kind_join (MapRef m) (MapRef n) = if m == n then MapRef m else Unreadable
@@ -22,7 +22,8 @@ kind_join (MaybeValue m s) (MaybeValue n t) =
     if (m == n) && (s == t) then MaybeValue m s else Unreadable
 kind_join _ _ = Unreadable
 
--- the slot that holds a spilled value of this kind; no written byte if it is Unreadable
+-- what is known of a stack slot that has a spilled value of this kind; if the kind is Unreadable,
+-- no byte counts as written
 abbrev pub spilled : Kind → Slot
 spilled Unreadable = Bytes 0
 spilled k = Spill k
@@ -40,16 +41,16 @@ facts_join a b =
     facts_of (λ r. kind_join (kind_at a r) (kind_at b r))
     (λ i. slot_join (slot_at a i) (slot_at b i))
 
--- the stack has eight groups, of eight slots each
+-- the stack has eight groups of eight stack slots each, which the verifier joins one by one
 abbrev pub stack_groups : ℕ
 stack_groups = 8
 
--- the number of the group of the stack that has stack slot i
+-- the number of the group that has stack slot i
 abbrev pub group_of : ℕ → ℕ
 group_of i = i / 8
 
--- what is known of stack slot i once the group with number `group` in facts b is joined into that
--- in facts a; the slots of all other groups are as in a
+-- what is known of stack slot i after a join of facts b into facts a only in the group of stack
+-- slots with number `group`; the slots of all other groups are as in a
 abbrev pub group_joined : ℕ → Facts → Facts → ℕ → Slot
 group_joined group a b i =
     if group_of i == group then slot_join (slot_at a i) (slot_at b i) else slot_at a i

@@ -28,8 +28,8 @@ abbrev pub is_touched_spill : Slot → Bool → Bool
 is_touched_spill (Bytes mask) touched = false
 is_touched_spill (Spill k) touched = touched
 
--- whether a byte of the slot, of those of the mask `bits`, may be unwritten; all bytes of a spill
--- are written
+-- whether one of the bytes of the slot that are in the mask `bits` may be unwritten; all bytes of a
+-- spill are written
 abbrev pub lacks : Slot → ℕ → Bool
 lacks (Bytes mask) bits = not (bit_and mask bits == bits)
 lacks (Spill k) bits = false
@@ -45,8 +45,8 @@ stack_input f x n =
     (λ i. lacks (slot_at f i) (bits_in (byte_index x) n i)) then Err UnwrittenStack else Ok tt))
 
 -- the facts after a write of lo to hi bytes at offset x from the stack's upper end: the first lo
--- count as written, and of a spill that hi bytes touch no other byte does. If lo is above hi, no
--- write has such a length, and the facts describe no run
+-- bytes count as written, and a spill that hi bytes touch is lost, so its other bytes do not. If lo
+-- is above hi, no write has such a length, and the facts describe no run
 abbrev pub filled : Facts → ℤ → ℕ → ℕ → Facts
 filled f x lo hi =
     with_slots f

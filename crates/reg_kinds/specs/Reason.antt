@@ -40,7 +40,7 @@ number LengthUnbounded = 35
 number UnalignedAtomic = 36
 number Memory = 40
 
--- f of the value, or the reason why there is no value
+-- what f returns for the value, if there is one; else the reason why there is none
 abbrev pub and_then_ok : {A B : Type 0} → Result A Reason → (A → Result B Reason) → Result B Reason
 and_then_ok (Ok a) f = f a
 and_then_ok (Err e) f = Err e

@@ -19,8 +19,8 @@ use Rattle.reg_kinds.specs.Kinds.{is_pointer, slot_at, with_slot}
 abbrev pub byte_bits : ℕ → ℕ → ℕ
 byte_bits at n = (2 ^ n - 1) * 2 ^ (at % 8)
 
--- the stack slot of an access and the mask of its bytes there, or the first reason against it; an
--- aligned access is in one slot
+-- the stack slot of an access at an offset from the stack's upper end, and the mask of its bytes
+-- there, or the first reason against it; an aligned access is in one slot
 abbrev pub touched : ℤ → AccessSize → Result (ℕ × ℕ) Reason
 touched offset size =
     if not (is_in_stack offset (bytes_of size)) then Err OutsideStack else
@@ -29,9 +29,9 @@ touched offset size =
 
 -- ---- loads
 
--- the kind of a load of bytes that are no spill: any number of this size, or, if sign-extended
--- (true), of 64 bits: as words the negative numbers are the greatest, so the least range with them
--- and 0 has all
+-- the kind of a load of bytes that are no spill: any number of this size, or any 64-bit number if
+-- the load extends the sign (true). As words the negative numbers are the greatest, so the least
+-- range with them and 0 has all
 abbrev pub loaded : AccessSize → Bool → Kind
 loaded size true = Scalar (full 64)
 loaded size false = Scalar (full (8 * bytes_of size))

@@ -4,8 +4,7 @@ use crate::kind::{Kind, Slot};
 use insn_set::Reg;
 use words::{REGISTERS, STACK_SLOTS};
 
-/// The kind of each register, and what is known of each stack slot. Slot i is the eight bytes from 8 * i bytes above the
-/// stack's lower end.
+/// The kind of each register, and what is known of each stack slot. Stack slot i is the eight bytes from byte index 8 * i on.
 #[derive(Clone, Copy, Debug, PartialEq, Eq)]
 pub struct Facts {
     pub registers: [Kind; REGISTERS],

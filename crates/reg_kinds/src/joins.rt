@@ -12,24 +12,24 @@ use crate::kind::{Kind, Slot, ValuePointer};
 use interval::{Range, hull};
 use words::{REGISTERS, STACK_SLOTS};
 
-/// The number of slots in a group of the stack. Parts are joined one by one (`join_group`): the verifier numbers them, and skips a group whose
-/// join is known to change nothing.
+/// The number of stack slots in a group. The verifier numbers what is known of each group, and does not join one (`join_group`) if this is
+/// known to change nothing.
 pub const GROUP_SLOTS: usize = 8;
 
-/// The number of groups of the stack.
+/// The number of groups of stack slots, of `GROUP_SLOTS` each.
 pub const STACK_GROUPS: usize = STACK_SLOTS / GROUP_SLOTS;
 
-/// A group of the stack: the eight slots from `GROUP_SLOTS * number` on.
+/// A group of stack slots: the `GROUP_SLOTS` of them from stack slot `GROUP_SLOTS * number` on.
 #[derive(Clone, Copy, Debug, PartialEq, Eq)]
 pub struct StackGroup {
     pub number: usize,
-    /// For contracts: the group is one of the stack's.
+    /// For contracts: `number` is below the number of groups.
     pub ghost within: { number < stack_groups },
 }
 
 impl Kind {
-    /// The join of two kinds: the hull of two ranges, or of two ranges of offsets into values of one map; else, if both are
-    /// the same, that kind; otherwise `Unreadable`.
+    /// The join of two kinds. Of two ranges, or of two ranges of offsets into values of one map, it is the hull, the least range that
+    /// includes both; else, if both kinds are the same, this kind; otherwise `Unreadable`.
     pub fn join(self, other: Kind) -> Kind
         ensures { result ≡ kind_join self other }
     {
@@ -67,7 +67,7 @@ fn offsets_hull(p: ValuePointer, q: ValuePointer) -> ValuePointer
     ValuePointer::new(p.map, p.lo.min(q.lo), p.hi.max(q.hi))
 }
 
-/// The slot that holds a spilled value of this kind; no written byte if it is `Unreadable`.
+/// What is known of a stack slot that has a spilled value of this kind; if the kind is `Unreadable`, no byte counts as written.
 fn spilled(kind: Kind) -> Slot
     ensures { result ≡ spilled kind }
 {
@@ -86,7 +86,7 @@ pub fn join(a: &Facts, b: &Facts) -> Facts
     both
 }
 
-/// Joins the facts of a further edge into `facts`.
+/// Joins `edge`, the facts on another edge to the same instruction, into `facts`.
 pub fn join_into(facts: &mut Facts, edge: &Facts)
     ensures { facts.new ≡ facts_join facts.old edge.now }
 {
@@ -103,8 +103,8 @@ fn holds_range(a: &Range, b: &Range) -> bool
     a.lo <= b.lo && b.hi <= a.hi
 }
 
-/// Joins the kind `edge` into `known`, in place if both are ranges, or offsets into values of one map. It is out of line: joins that change
-/// nothing are found inline, by `join_kind`.
+/// Joins the kind `edge` into `known`. Of two ranges, or of two pointers into values of one map, only the bounds change, without a copy of
+/// the kind. It is out of line: `join_kind`, which is inlined, finds the joins that change nothing.
 #[inline(never)]
 fn join_other_kind(known: &mut Kind, edge: &Kind)
     ensures { known.new ≡ kind_join known.old edge.now }
@@ -116,7 +116,7 @@ fn join_other_kind(known: &mut Kind, edge: &Kind)
     }
 }
 
-/// Joins the kind `edge` into `known`. It is out of line, so that `join_other_kind` saves no machine registers.
+/// Joins the kind `edge` into `known`. It is out of line, so that `join_other_kind` need not save machine registers on the machine's stack.
 #[inline(never)]
 fn join_any_kinds(known: &mut Kind, edge: &Kind)
     ensures { known.new ≡ kind_join known.old edge.now }
@@ -124,8 +124,8 @@ fn join_any_kinds(known: &mut Kind, edge: &Kind)
     *known = known.join(*edge);
 }
 
-/// Joins the kind `edge` into `known`. Nothing is written if the join is `known`: a range or offsets that include those of `edge`,
-/// `Unreadable`, or the same kind.
+/// Joins the kind `edge` into `known`. Nothing is written if the join is `known`: if this is `Unreadable`, the same kind as `edge`, or a
+/// range or offsets that include those of `edge`.
 #[inline(always)]
 fn join_kind(known: &mut Kind, edge: &Kind)
     ensures { known.new ≡ kind_join known.old edge.now }
@@ -139,7 +139,7 @@ fn join_kind(known: &mut Kind, edge: &Kind)
     }
 }
 
-/// Joins the kind of register `r` in the facts of a further edge into that in `facts`.
+/// Joins the kind of register `r` in `edge`, the facts on another edge, into its kind in `facts`.
 #[inline(always)]
 fn join_register(facts: &mut Facts, edge: &Facts, r: usize)
     requires { r < REGISTERS }
@@ -149,8 +149,8 @@ fn join_register(facts: &mut Facts, edge: &Facts, r: usize)
     join_kind(&mut facts.registers[r], &edge.registers[r]);
 }
 
-/// Joins the registers of a further edge into those of `facts`. There is a call for each register, since the compiler does not
-/// unroll a loop of such a length.
+/// Joins the kind of each register in `edge`, the facts on another edge to the same instruction, into its kind in `facts`. No stack slot
+/// changes. There is a call for each register, since the compiler does not unroll a loop of such a length.
 pub fn join_registers(facts: &mut Facts, edge: &Facts)
     ensures { facts.new ≡ with_registers facts.old
         (λ r. kind_join (kind_at facts.old r) (kind_at edge.now r)) }
@@ -209,7 +209,8 @@ fn keep_common(mask: &mut u8, other: u8) -> bool
     true
 }
 
-/// Joins the stack slot `edge` into `known`. Returns false only if `known` is unchanged; a join out of line counts as a change.
+/// Joins `edge`, what is known of a stack slot on another edge, into `known`. Returns false only if `known` is unchanged; after a join out
+/// of line, by `join_other_slots`, it returns true whether `known` has changed or not.
 #[inline(always)]
 fn join_slot(known: &mut Slot, edge: &Slot) -> bool
     ensures slot { known.new ≡ slot_join known.old edge.now }
@@ -232,8 +233,8 @@ fn join_slot(known: &mut Slot, edge: &Slot) -> bool
     }
 }
 
-/// Joins the stack slot `edge` into `known`, a spill that may change. The joins that a program can force in many slots, of offsets into
-/// values of one map and of a spill with bytes, are done in place, the others out of line.
+/// Joins the stack slot `edge` into `known`, a spill that the join may change. A program can force two such joins in many slots: of offsets
+/// into values of one map, and of a spill with bytes. These two are done here, the others out of line.
 #[inline(never)]
 fn join_other_slots(known: &mut Slot, edge: &Slot)
     ensures { known.new ≡ slot_join known.old edge.now }
@@ -247,7 +248,8 @@ fn join_other_slots(known: &mut Slot, edge: &Slot)
     }
 }
 
-/// Joins the stack slot `edge` into `known`. It is out of line, so that `join_other_slots` saves no machine registers.
+/// Joins the stack slot `edge` into `known`. It is out of line, so that `join_other_slots` need not save machine registers on the machine's
+/// stack.
 #[inline(never)]
 fn join_any_slots(known: &mut Slot, edge: &Slot)
     ensures { known.new ≡ slot_join known.old edge.now }
@@ -255,7 +257,8 @@ fn join_any_slots(known: &mut Slot, edge: &Slot)
     *known = known.join(*edge);
 }
 
-/// Joins a group of the stack of a further edge into that of `facts`. Returns false only if no slot has changed.
+/// Joins the stack slots of `group` in `edge`, the facts on another edge to the same instruction, into those in `facts`; no other slot and
+/// no register changes. Returns false only if no slot has changed.
 pub fn join_group(facts: &mut Facts, edge: &Facts, group: StackGroup) -> bool
     ensures facts { facts.new ≡ with_slots facts.old (group_joined group.number facts.old edge.now) }
     ensures stack { result ≡ false → facts.new.slots ≡ facts.old.slots }
@@ -270,7 +273,8 @@ pub fn join_group(facts: &mut Facts, edge: &Facts, group: StackGroup) -> bool
     changes
 }
 
-/// Joins the stack of a further edge into that of `facts`. Whether a slot has changed is not used.
+/// Joins each stack slot in `edge`, the facts on another edge, into that in `facts`. Whether a slot has changed, which `join_slot` returns,
+/// is not used.
 fn join_stack(facts: &mut Facts, edge: &Facts)
     ensures { facts.new ≡ with_slots facts.old
         (λ i. slot_join (slot_at facts.old i) (slot_at edge.now i)) }

@@ -13,7 +13,7 @@ pub struct ValuePointer {
     pub lo: i32,
     /// The greatest offset, included.
     pub hi: i32,
-    /// For contracts: the range has an offset.
+    /// For contracts: the least offset is at most the greatest.
     pub ghost ordered: { lo ≤ℤ hi },
 }
 
@@ -59,7 +59,7 @@ pub enum Kind {
 pub enum Slot {
     /// The mask of the bytes that are written: bit 0 is the lowest byte.
     Bytes(u8),
-    /// A spill: they hold a pointer or a map reference, whole.
+    /// A spill: the eight bytes hold a pointer or a map of this kind, whole.
     Spill(Kind),
 }
 

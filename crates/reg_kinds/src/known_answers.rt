@@ -19,7 +19,7 @@ fn registers_at_entry() {
     prove!(is_context);
 }
 
-/// A join of slots counts the bytes that both have written, and one of facts takes the hull of two ranges.
+/// A join of stack slots counts the bytes that are written in both, and a join of facts has the hull of a register's two ranges.
 #[tactic(auto, unfolding(crate::specs::Kinds::tabulate))]
 fn joins() {
     let both = Slot::Bytes(0x0f).join(Slot::Bytes(0x3c));
@@ -35,7 +35,7 @@ fn joins() {
     prove!(is_hull);
 }
 
-/// A pointer can be stored, and a load of a part of it is then rejected.
+/// A pointer can be stored, and a load of only some of its bytes is then rejected.
 fn a_pointer_is_spilled_whole() {
     let mut facts = Facts::at_entry();
     let stored = write_stack(&mut facts, -8, AccessSize::Double, Kind::Stack(0));

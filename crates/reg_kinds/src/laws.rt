@@ -32,7 +32,7 @@ pub fn slots_absorb()
     joins_associate();
 }
 
-/// A law, for accesses by the number of a stack slot: the list of slots in facts has 64 elements. Nothing is done when it runs.
+/// A law, for accesses by the number of a stack slot: the list `slots` of facts has the length 64. Nothing is done when it runs.
 #[inline(always)]
 pub fn facts_have_all_slots(facts: &Facts)
     ensures { length facts.now.slots ≡ stack_slots }

@@ -3,7 +3,7 @@
 //! # What is proved
 //!
 //! - Joins of kinds, slots and facts are those of the definition: `Kind::join`, `Slot::join`, `join`, `join_into`. They are
-//!   commutative and associative: `joins_commute`, `joins_associate`. The joins of the registers and of a part of the stack are
+//!   commutative and associative: `joins_commute`, `joins_associate`. The joins of the registers and of a group of stack slots are
 //!   `join_registers` and `join_group`. A second join with the same slot changes nothing: `slots_absorb`.
 //! - A load from the stack gives the kind of the definition, a store the facts, or each the first reason against it:
 //!   `read_stack`, `write_stack`. A store changes only the slot that it returns. The same holds for what a helper reads and
@@ -19,7 +19,7 @@
 //!   makes a kind no larger than a range does, and `apply` of `transfer` has no precondition on it.
 //! - A helper's write takes any two counts: if the least is above the most, no write has such a length, so there is no
 //!   precondition on the two, and the facts after it describe no run.
-//! - A part of the stack is a type, `StackGroup`, whose number is below that of the parts, so `join_group` has no precondition.
+//! - A group of stack slots is a type, `StackGroup`, whose number is below that of the groups, so `join_group` has no precondition.
 //! - `join_registers` has a call for each register. A join that changes nothing is found inline; only other kinds are joined out of
 //!   line. As a loop, which the compiler does not unroll, it takes 50 machine instructions more.
 //! - Joins that extend a pointer's range of offsets, or replace a spill by bytes, are done in place, and the general join is out of line.

@@ -25,8 +25,8 @@ fn touches(start: usize, count: usize, index: usize) -> bool
     start < 8 * index + 8 && 8 * index < start + count
 }
 
-/// The mask in which `count` bits are 1, from bit `from` on, all among the eight bits of a slot's mask. A `u16` has room for a 1 at bit 8,
-/// from which 1 is subtracted.
+/// The mask in which `count` bits are 1, from bit `from` on, all among the eight bits of a slot's mask. If `count` is 8, 1 is subtracted
+/// from 2^8, for which a `u16` has room.
 fn ones(count: usize, from: usize) -> u8
     requires { count + from ≤ 8 }
     ensures { result ≡ (2 ^ count - 1) * 2 ^ from }
@@ -69,7 +69,7 @@ fn is_touched_spill(slot: Slot, touched: bool) -> bool
     }
 }
 
-/// Whether a byte of the slot, of those of the mask `bits`, may be unwritten. All bytes of a spill are written.
+/// Whether one of the bytes of the slot that are in the mask `bits` may be unwritten. All bytes of a spill are written.
 fn lacks(slot: Slot, bits: u8) -> bool
     ensures { result ≡ lacks slot bits }
 {
@@ -79,8 +79,8 @@ fn lacks(slot: Slot, bits: u8) -> bool
     }
 }
 
-/// How many stack slots, from the lowest on, there are up to the end of `count` bytes of the stack from byte index `start` on. The bytes
-/// touch none above these.
+/// `count` bytes of the stack from byte index `start` on touch no stack slot from this number on: it is that of the first slot that begins
+/// at their end or after it, or `STACK_SLOTS` if none does.
 fn past_touched(start: usize, count: usize) -> usize
     requires { start + count ≤ stack_size }
     ensures bytes { start + count ≤ 8 * result }
@@ -136,9 +136,10 @@ pub fn read_many(facts: &Facts, offset: i32, count: u32) -> Result<(), Reason>
     }
 }
 
-/// Changes the facts to those after a write of at least `least` and at most `most` bytes at `offset` from the stack's upper end: the first
-/// `least` count as written, and of a spill that may be touched no other byte does. `OutsideStack`, and nothing changes, if `most` bytes
-/// don't all lie in the stack. If `least` is above `most`, no write has such a length, and the facts describe no run.
+/// Changes the facts to those after a write of at least `least` and at most `most` bytes at `offset` from the stack's upper end. The first
+/// `least` bytes count as written. A spill that `most` bytes touch is lost, and its other bytes count as unwritten. `OutsideStack`, and
+/// nothing changes, if `most` bytes don't all lie in the stack. If `least` is above `most`, no write has such a length, and the facts
+/// describe no run.
 pub fn fill_stack(facts: &mut Facts, offset: i32, least: u32, most: u32) -> Result<(), Reason>
     ensures { MatchResult (stack_filled facts.old offset least most)
         (λ after. (result ≡ Ok tt) × (facts.new ≡ after))
@@ -149,9 +150,10 @@ pub fn fill_stack(facts: &mut Facts, offset: i32, least: u32, most: u32) -> Resu
     Ok(())
 }
 
-/// What is known of stack slot `index`, which was `slot` before, after a write of `least` to `most` bytes from byte index `start` on: the
-/// first `least` count as written, and of a spill that may be touched no other byte does. A slot that no byte can touch is unchanged.
-/// `most` bytes lie in the stack; `least` may be above `most`, and comes from a `u32`, so its sum with `start` can't overflow.
+/// What is known of stack slot `index`, which was `slot` before, after a write of `least` to `most` bytes from byte index `start` on. The
+/// first `least` bytes count as written. If `most` bytes touch a spill, it is lost, and its other bytes count as unwritten; a slot that
+/// they don't touch is unchanged. `most` bytes lie in the stack; `least` may be above `most`, and comes from a `u32`, so its sum with
+/// `start` can't overflow.
 fn filled_slot(slot: Slot, start: usize, least: usize, most: usize, index: usize) -> Slot
     requires least { least < 2 ^ 32 }
     requires within { start + most ≤ stack_size }
@@ -166,9 +168,9 @@ fn filled_slot(slot: Slot, start: usize, least: usize, most: usize, index: usize
     }
 }
 
-/// Changes each stack slot to what is known of it after a write of `least` to `most` bytes from byte index `start` on, as `filled_slot` has
-/// it: the first `least` count as written, and of a spill that may be touched no other byte does. `start_of` has checked that `most` bytes
-/// lie in the stack; `least` comes from a `u32`.
+/// Changes each stack slot to what is known of it after a write of `least` to `most` bytes from byte index `start` on, by `filled_slot`:
+/// the first `least` bytes count as written, and a spill that `most` bytes touch is lost. `start_of` has checked that `most` bytes lie in
+/// the stack; `least` comes from a `u32`.
 fn fill_slots(facts: &mut Facts, start: usize, least: usize, most: usize)
     requires least { least < 2 ^ 32 }
     requires within { start + most ≤ stack_size }
@@ -181,8 +183,8 @@ fn fill_slots(facts: &mut Facts, start: usize, least: usize, most: usize)
     }
 }
 
-/// The kind of `register`, which was `kind`, after a call whose result is of the kind `result_kind`: register 0 has the result, and
-/// registers 1 to 5, which a call clobbers, are unreadable.
+/// The kind of `register`, which was `kind`, after a call whose result is of the kind `result_kind`: register 0 has the result, registers 1
+/// to 5, which a call clobbers, are unreadable, and the others keep their kinds.
 fn called_kind(kind: Kind, result_kind: Kind, register: usize) -> Kind
     ensures { result ≡ (if register == 0 then result_kind
         else (if nat_le register 5 then Unreadable else kind)) }

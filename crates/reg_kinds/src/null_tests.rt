@@ -9,8 +9,8 @@ use crate::kind::{Kind, Slot, ValuePointer};
 use interval::Range;
 use words::{REGISTERS, STACK_SLOTS};
 
-/// Settles all copies of the result of the look-up at slot `site`, after a test that found it null (`null`) or not. If `null`, a register
-/// has the number 0, and a spill is eight written bytes; else each copy is a pointer to the start of a value. No other kind changes.
+/// Settles all copies of the result of the look-up at slot `site`, after a test that found it null (`null`) or not. If `null`, a copy in a
+/// register is the number 0, one in the stack eight written bytes; else each is a pointer to the start of a value. No other kind changes.
 pub fn settle(facts: &mut Facts, site: usize, null: bool)
     ensures { facts.new ≡ facts_settled site null facts.old }
 {
@@ -114,8 +114,8 @@ fn settle_both_stacks(facts: &mut Facts, taken: &mut Facts, site: usize, null: b
     }
 }
 
-/// Settles a register's kind, of which `taken` is a copy: in `taken` for a result of the look-up at slot `site` that is null exactly if
-/// `null`, in `kind` for the opposite. Any other kind is unchanged in both.
+/// Settles a register's kind for both edges of a null test of the look-up at slot `site`. If it is that of the look-up's result, `taken`,
+/// its copy, is settled for null exactly if `null`, and `kind` for the opposite. Any other kind is unchanged in both.
 #[inline(always)]
 fn settle_both_kinds(kind: &mut Kind, taken: &mut Kind, site: usize, null: bool)
     requires { taken.now ≡ kind.now }
@@ -131,8 +131,8 @@ fn settle_both_kinds(kind: &mut Kind, taken: &mut Kind, site: usize, null: bool)
     }
 }
 
-/// Settles a stack slot, of which `taken` is a copy: in `taken` for a result of the look-up at slot `site` that is null exactly if `null`,
-/// in `slot` for the opposite. Any other slot is unchanged in both.
+/// Settles a stack slot for both edges of a null test of the look-up at slot `site`. If it has the look-up's result, `taken`, its copy, is
+/// settled for null exactly if `null`, and `slot` for the opposite. Any other slot is unchanged in both.
 #[inline(always)]
 fn settle_both_slots(slot: &mut Slot, taken: &mut Slot, site: usize, null: bool)
     requires { taken.now ≡ slot.now }

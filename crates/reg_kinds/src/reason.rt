@@ -13,7 +13,7 @@ pub enum Reason {
     Unreachable,
     /// A call of a helper that is not known.
     UnknownHelper,
-    /// Arithmetic or a load into the frame pointer.
+    /// An instruction writes register 10, the frame pointer.
     FramePointerWritten,
     /// A map is named by a descriptor that is not open.
     DescriptorNotOpen,
@@ -29,7 +29,7 @@ pub enum Reason {
     NotPointer,
     /// Arithmetic on a pointer other than moving it by a scalar.
     PointerArithmetic,
-    /// A pointer is moved too far.
+    /// A pointer may be moved farther than `FARTHEST_OFFSET` of `tagged_model`, or by a number whose sign is not known.
     OffsetTooLarge,
     /// An access outside the stack.
     OutsideStack,
@@ -37,7 +37,8 @@ pub enum Reason {
     UnalignedStack,
     /// A read of a stack byte that may be unwritten.
     UnwrittenStack,
-    /// A load of a part of a spilled pointer, a store of a part of a pointer, or a read of a spill by an atomic operation or a helper.
+    /// A load of only some bytes of a spilled pointer, a store of only some bytes of a pointer, or a read of a spill by an atomic operation
+    /// or a helper.
     PartOfSpill,
     /// An access outside a map's value.
     OutsideValue,
@@ -51,7 +52,7 @@ pub enum Reason {
     PointerComparison,
     /// A helper's argument is of the wrong kind.
     HelperArgument,
-    /// A helper's length may be zero or too large.
+    /// A length that is passed to a helper may be 0, or `LENGTHS_END` of `transfer` or more.
     LengthUnbounded,
     /// An atomic operation in a map's value at an offset that is not known to be a multiple of its size.
     UnalignedAtomic,

@@ -16,8 +16,8 @@ use words::{AccessSize, STACK_SIZE};
 pub(crate) const LOWEST: i32 = -(STACK_SIZE as i32);
 
 /// The kind of the value that a load at `offset` from the stack's upper end gives; a number is sign-extended if `signed`. The error is the
-/// first that applies: the load is not in the stack (`OutsideStack`), it is not aligned to its size (`UnalignedStack`), it reads a part of
-/// a spill (`PartOfSpill`), a byte may be unwritten (`UnwrittenStack`).
+/// first that applies: the load is not in the stack (`OutsideStack`), it is not aligned to its size (`UnalignedStack`), it reads only some
+/// bytes of a spill (`PartOfSpill`), a byte may be unwritten (`UnwrittenStack`).
 pub fn read_stack(
     facts: &Facts,
     offset: i32,
@@ -45,8 +45,8 @@ fn read_slot(slot: Slot, bits: u8, size: AccessSize, signed: bool) -> Result<Kin
 
 /// Changes the facts to those after a store of a value of this kind at `offset` from the stack's upper end. Returns the stack slot of the
 /// store; no other slot changes. The error is the first that applies, and then nothing changes: the value is unreadable
-/// (`UnreadableRegister`), the store is not in the stack (`OutsideStack`), it is not aligned to its size (`UnalignedStack`), it stores a
-/// part of a pointer (`PartOfSpill`).
+/// (`UnreadableRegister`), the store is not in the stack (`OutsideStack`), it is not aligned to its size (`UnalignedStack`), it stores only
+/// some bytes of a pointer (`PartOfSpill`).
 pub fn write_stack(
     facts: &mut Facts,
     offset: i32,
@@ -84,8 +84,8 @@ fn touched(offset: i32, size: AccessSize) -> Result<(usize, u8), Reason>
     Ok((start / 8, byte_bits(start, size)))
 }
 
-/// The mask, within their slot, of the bytes of an access of `size` from byte index `start` on, which `touched` has found aligned: so they
-/// lie in one slot.
+/// The mask of the bytes that an access of `size` at byte index `start` has in its stack slot. `touched` has found the access aligned, so
+/// all of them lie in one slot.
 fn byte_bits(start: usize, size: AccessSize) -> u8
     requires { start % bytes_of size ≡ 0 }
     ensures { result ≡ byte_bits start (bytes_of size) }
@@ -98,8 +98,8 @@ fn byte_bits(start: usize, size: AccessSize) -> u8
     }
 }
 
-/// The kind of a load of bytes that are no spill: any number of `size` bytes, or, if it extends the sign (`signed`), any 64-bit number. As
-/// words the negative numbers are the greatest, so the least range with them and 0 has all.
+/// The kind of a load of bytes that are no spill: any number of `size` bytes, or any 64-bit number if the load extends the sign (`signed`).
+/// As words the negative numbers are the greatest, so the least range with them and 0 has all 64-bit numbers.
 pub fn loaded(size: AccessSize, signed: bool) -> Kind
     ensures { result ≡ loaded size signed }
 {
@@ -123,7 +123,7 @@ fn zero_extended(size: AccessSize) -> Range
 }
 
 /// What is known of `slot` after a store of a value of kind `value` to its bytes of the mask `bits`. A number makes them written, a pointer
-/// is spilled whole; `PartOfSpill` if only a part of a pointer is stored. `write_stack` has rejected an unreadable value before.
+/// is spilled whole; `PartOfSpill` if only some bytes of a pointer are stored. `write_stack` has rejected an unreadable value before.
 fn slot_written(slot: Slot, bits: u8, size: AccessSize, value: Kind) -> Result<Slot, Reason>
     ensures { result ≡ slot_written slot bits size value }
 {

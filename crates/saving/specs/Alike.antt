@@ -10,20 +10,20 @@ use Rattle.tenant.specs.Machine.{Answer}
 
 -- ---- a renaming of handles
 
--- a map of a program, which is a pair of its descriptor and its handle, with the handle renamed
+-- a map m of a program, with descriptor m.0 and handle m.1: its handle is renamed by `move`
 abbrev pub moved_map : (ℕ → ℕ) → ℕ × ℕ → ℕ × ℕ
 moved_map move m = (m.0, move m.1)
 
--- the maps of a program, pairs of a descriptor and a handle, with their handles renamed
+-- the maps of a program, pairs of a descriptor and a handle: each handle is renamed by `move`
 abbrev pub moved_maps : (ℕ → ℕ) → List (ℕ × ℕ) → List (ℕ × ℕ)
 moved_maps move ms = map (moved_map move) ms
 
--- an object with the handle of its map, or of each map of a program, renamed
+-- an object with its handles renamed by `move`: that of a map, or those of a program's maps
 abbrev pub moved_object : (ℕ → ℕ) → OpenObject → OpenObject
 moved_object move (object.Map handle) = object.Map (move handle)
 moved_object move (object.Program l) = object.Program (record l { maps = moved_maps move l.maps })
 
--- the objects by descriptors, None if a descriptor is free, with the handles of maps renamed
+-- the objects by descriptor, with all handles renamed by `move`; a free descriptor (None) stays so
 abbrev pub moved_objects : (ℕ → ℕ) → List (Option OpenObject) → List (Option OpenObject)
 moved_objects move objects = map (option_map (moved_object move)) objects
 
@@ -51,8 +51,8 @@ pub record IsAlikeAnswer (a b : Answer) : Type 0 where
 
 -- ---- the invariant of the machine's states
 
--- the lists have 64 descriptors and 16 handles, and exactly the maps that an open object names are
--- live
+-- the list of objects has all descriptors, `most`, and that of maps all handles, `most_maps`; and
+-- exactly the maps that an open object names are live
 pub record HoldsItsMaps (s : TenantState) : Type 0 where
   pub descriptors : length s.objects ≡ most
   pub handles : length s.maps ≡ most_maps

@@ -45,22 +45,22 @@ is_of_program fd (OfProgram n) = n == fd
 abbrev pub IsMapBorn : TenantState → List Birth → ℕ → Type 0
 IsMapBorn s older handle = IsSome (live s handle) × (list_any (is_of_map handle) older ≡ false)
 
--- what the birth of a program requires: descriptor fd names the program, which names each of its
--- maps by another descriptor, m.0, and the latest older birth there is that of the map. So if
--- objects are created in this order, a load finds the maps of its program
+-- what the birth of a program requires: descriptor fd names the program, and each of its maps, m,
+-- has another descriptor, m.0, at which the latest older birth is that of this map. So if objects
+-- are created in this order, a load finds the maps of its program
 abbrev pub IsProgramBorn : TenantState → List Birth → ℕ → Type 0
 IsProgramBorn s older fd =
     (l : LoadedProgram) × (named s.objects fd ≡ Some (object.Program l))
     × AllByRecursion (λ m. (m.0 ≢ fd) × (latest_at older m.0 ≡ Some (OfMap m.1 m.0))) l.maps
 
--- what a birth requires of the state and of the older births, by the kind of its object
+-- what a birth requires of the state and of the older births: that of a map, or of a program
 abbrev pub IsBorn : TenantState → List Birth → Birth → Type 0
 IsBorn s older (OfMap handle fd) = IsMapBorn s older handle
 IsBorn s older (OfProgram fd) = IsProgramBorn s older fd
 
--- a list of births in order: each descriptor is one of 3 to 66, no older birth at it is of a
--- program, since a program that was closed has no birth, and the births of a program's maps are
--- older than its own
+-- a list of births in order: each has a descriptor of 3 to 66, at which no older birth is of a
+-- program, since a closed program has no birth; and what it requires holds (`IsBorn`): its object
+-- is live, and the births of a program's maps are older than its own
 abbrev pub AreInOrder : TenantState → List Birth → Type 0
 AreInOrder s [] = Unit {0}
 AreInOrder s (b ∷ older) =
@@ -97,8 +97,8 @@ abbrev pub with_birth : ℕ → Option OpenObject → List Birth → List Birth
 with_birth fd None births = births
 with_birth fd (Some o) births = birth_of fd o ∷ births
 
--- the births after a command that may open an object, by its status: the descriptor of the object,
--- whose birth is added, or a negative number, an error. s is the state after the command
+-- the births after a command that may open an object. If its status is a descriptor, the birth of
+-- the object there is added; if it is negative, an error, none is. s is the state after the command
 abbrev pub with_opened : ℤ → TenantState → List Birth → List Birth
 with_opened (pos fd) s births = with_birth fd (named s.objects fd) births
 with_opened (negsuc n) s births = births

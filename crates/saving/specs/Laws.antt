@@ -59,8 +59,8 @@ pub record AlikeStatesReplyAlike : Type 0 where
       → others ≡ replies
 
 -- the births of a tenant's objects: a new tenant has none; if a list is that of the births before a
--- command, `births_after` is that after it; and there are at most 80, one for each descriptor and
--- one for each map
+-- command, `births_after` is that after it; and there are at most one for each descriptor and one
+-- for each map
 pub record BirthsAreKept : Type 0 where
   pub new : AreBirths new_tenant []
   pub kept : (refused : Bool) (s : TenantState) (command : Command) (a : Answer)
@@ -119,8 +119,8 @@ pub record RestorableIsKept : Type 0 where
 
 -- ---- histories
 
--- a list of commands, to each of which memory may be refused, with the state and the births before
--- it, s and `births`, and after it, t and `later`
+-- these commands, one after another, lead from state s with `births` to state t with the births
+-- `later`; memory may be refused to each of them
 abbrev pub IsHistory : TenantState → List Birth → List Command → TenantState → List Birth → Type 0
 IsHistory s births [] t later = (t ≡ s) × (later ≡ births)
 IsHistory s births (c ∷ cs) t later =

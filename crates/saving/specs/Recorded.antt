@@ -15,7 +15,7 @@ pub record RecordedTenant : Type 0 where
   pub kept : KeptTenant
   pub births : List Birth
 
--- the state that a tenant represents, with the bytes of its part, in which the values of maps lie
+-- the state that a tenant and the bytes of its part represent; the values of its maps lie in these
 abbrev pub tenant_state : List ℕ → RecordedTenant → TenantState
 tenant_state part t = state_in part t.kept
 
@@ -30,8 +30,8 @@ abbrev pub births_after_frame : Result Command BadFrame → Answer → List Birt
 births_after_frame (Err fault) a births = births
 births_after_frame (Ok command) a births = births_after command a births
 
--- a frame and its reply, with the state and the births of its tenant before it, `before` and
--- `births`, and after it, `after` and `later`; memory may be refused
+-- the reply to a frame is that of its tenant's machine, which leads from state `before` to `after`,
+-- and the births change from `births` to `later` as the frame's command says; memory may be refused
 pub record RecordsFrame (frame reply : List ℕ) (before after : TenantState)
     (births later : List Birth) : Type 0 where
   pub refused : Bool

@@ -41,8 +41,9 @@ pub record IsWholeMap (t : Map) : Type 0 where
   pub values : AllByRecursion (λ e. length e.1 ≡ t.shape.value_size) t.entries
   pub ended : t.deleted ≡ 0
 
--- the maps of a program, pairs of a descriptor and a handle, as the verifier reads them, with their
--- shapes in s: those of the n descriptors from fd on. A descriptor without a map has no entry
+-- `maps` are those of a program, pairs of a descriptor and a handle. For each of the n descriptors
+-- from fd on to which they give the handle of a live map: the descriptor with the map's shape in s,
+-- as the verifier reads the maps of a program
 unfoldable pub shapes_from : TenantState → List (ℕ × ℕ) → ℕ → ℕ → List Named
 shapes_from s maps fd zero = []
 shapes_from s maps fd (suc n) =
@@ -50,9 +51,9 @@ shapes_from s maps fd (suc n) =
     (option_map (λ t. target.Map t.shape) (and_then (lookup (λ m. m == fd) maps) (live s)))
     ++ shapes_from s maps (fd + 1) n
 
--- a program can be loaded again: it was accepted when descriptors named the objects `named`, of
--- which l.named are those that it loads (`picked`); its maps have these shapes in s (`shaped`); and
--- it has a handle for each map that it loads (`bound`)
+-- a program can be loaded again: it was accepted when descriptors named the objects `named`; of
+-- these, l.named are those that it loads (`picked`), and they are its maps with their shapes in s
+-- (`shaped`); and it has a handle for each map that it loads (`bound`)
 pub record IsWholeProgram (s : TenantState) (l : LoadedProgram) : Type 0 where
   pub program : IsProgram l.insns
   pub named : List Named

@@ -35,7 +35,8 @@ abbrev pub key_commands : TenantState → Birth → List Command
 key_commands s (OfMap handle fd) = puts_of fd (live s handle)
 key_commands s (OfProgram fd) = []
 
--- the parts of a birth: one creates its object, each other one puts at most `KEYS_OF_PART` keys
+-- the parts of a save for one birth, as commands: one creates its object, each other one puts at
+-- most `KEYS_OF_PART` keys
 abbrev pub birth_parts : TenantState → Birth → List (List Command)
 birth_parts s b = creation s b ∷ pieces KEYS_OF_PART (key_commands s b)
 

@@ -11,13 +11,13 @@ use std::alloc::{AllocError, Global};
 use std::marker::Model;
 use tenant::{Errno, OpenObject, Reply, Tenant};
 
-/// The most births that a tenant's objects have, 80: one for each descriptor, and one for each map.
+/// The most births that a tenant has at a time: one for each descriptor, if a program is open at it, and one for each live map.
 const MOST_BIRTHS: usize = MOST + MAPS;
 
 /// A map was created, or a program was loaded, and opened at a descriptor.
 #[derive(Clone, Copy)]
 pub enum Birth {
-    /// The map, and the descriptor at which it was created, which may be closed since.
+    /// The handle of the map, and the descriptor at which it was created, which may be closed since.
     OfMap(MapKey, u32),
     /// The descriptor of the program.
     OfProgram(u32),
@@ -52,7 +52,7 @@ fn lives(tenant: &Tenant, birth: &Birth) -> bool
 }
 
 impl Births {
-    /// No births. Allocates room for all that there may be. `AllocError`: out of memory.
+    /// No births. Allocates room for `MOST_BIRTHS`, so that later no birth takes memory. `AllocError`: out of memory.
     pub(crate) fn new(alloc: Global) -> Result<Births, AllocError>
         ensures { IfOk result (λ births. births ≡ []) }
     {
@@ -68,7 +68,7 @@ impl Births {
         &self.oldest_first
     }
 
-    /// Adds the latest birth. There is room for it, since `new` allocated room for all.
+    /// Adds the latest birth. There is room for it: `new` allocated room for `MOST_BIRTHS`, and there are fewer before.
     fn push(&mut self, birth: Birth)
         requires { length self.old < MOST_BIRTHS }
         ensures { self.new ≡ birth ∷ self.old }

@@ -28,10 +28,10 @@ use tenant::{OpenObject, Tenant, type_number};
 /// The type of socket filters (BPF_PROG_TYPE_SOCKET_FILTER): no other type can be loaded, so each saved program has it.
 const SOCKET_FILTER: u32 = 1;
 
-/// The two slots of the program that keeps a descriptor open: `r0 = 0` (opcode 0xb7) and `exit` (0x95).
+/// The two slots of the program that keeps a descriptor open while a tenant is restored: `r0 = 0` (opcode 0xb7) and `exit` (0x95).
 const FILLER: [u8; 16] = [0xb7, 0, 0, 0, 0, 0, 0, 0, 0x95, 0, 0, 0, 0, 0, 0, 0];
 
-/// Frames to one tenant, each with its length before it.
+/// Frames to one tenant, one after another in `frames`, each with its length before it.
 #[derive(Drop)]
 pub(crate) struct FrameWriter {
     pub(crate) frames: Vec<u8>,
@@ -51,16 +51,16 @@ fn append_framed(frames: &mut Vec<u8>, frame: &[u8]) -> Result<(), AllocError>
     frames.extend_from_slice(frame)
 }
 
-/// The bytes before the key in a frame that puts it into a map: length 4, tenant 2, command 2, descriptor 4, flags 8.
+/// How many bytes are before the key in a frame that puts it into a map: length 4, tenant 2, command 2, descriptor 4, flags 8.
 const PUT_HEAD: usize = 20;
 
-/// The bytes of the frames that open a program at each descriptor. Each has length 4, tenant 2, command 2, type 4, and two slots.
+/// How many bytes the frames have that open a program at each descriptor. Each has length 4, tenant 2, command 2, type 4, and two slots.
 const BYTES_OF_LOADS: usize = 28 * MOST;
 
-/// The bytes of the frames that close all descriptors. Each has length 4, tenant 2, command 2, descriptor 4.
+/// How many bytes the frames have that close all descriptors. Each has length 4, tenant 2, command 2, descriptor 4.
 const BYTES_OF_CLOSES: usize = 12 * MOST;
 
-/// The bytes of the frames that put `keys` keys into a map of this shape. Only room is reserved by this number, so it may saturate.
+/// How many bytes the frames have that put `keys` keys into a map of this shape. Only room is reserved by this number, so it may saturate.
 fn bytes_of_puts(shape: MapShape, keys: usize) -> usize {
     let each = PUT_HEAD + shape.key_size as usize + shape.value_size as usize;
     each.saturating_mul(keys)
@@ -96,7 +96,7 @@ impl FrameWriter {
         }
     }
 
-    /// Appends the frame that closes a descriptor.
+    /// Appends the frame that closes a descriptor. `AllocError`: out of memory.
     fn append_close(&mut self, fd: u32) -> Result<(), AllocError>
         ensures written { OnOk result (self.new.frames.items
             ≡ self.old.frames.items ++ framed (frame_of self.old.number (close fd))) }
@@ -106,7 +106,7 @@ impl FrameWriter {
         append_framed(&mut self.frames, &self.frame)
     }
 
-    /// Appends the frame that creates a map of this shape.
+    /// Appends the frame that creates a map of this shape. `AllocError`: out of memory.
     fn append_create(&mut self, shape: MapShape) -> Result<(), AllocError>
         ensures written { OnOk result (self.new.frames.items
             ≡ self.old.frames.items ++ framed (frame_of self.old.number (create_of shape))) }
@@ -123,8 +123,8 @@ impl FrameWriter {
         append_framed(&mut self.frames, &self.frame)
     }
 
-    /// Appends the frame that puts a key and its value into the map at a descriptor. The flags are 0 (BPF_ANY): a new array has the key
-    /// already, a new hash map has not.
+    /// Appends the frame that puts a key and its value into the map at a descriptor. The flags are 0 (BPF_ANY), which allow both: a new
+    /// array has the key already, a new hash map has not. `AllocError`: out of memory.
     fn append_update(&mut self, fd: u32, key: &[u8], value: &[u8]) -> Result<(), AllocError>
         ensures written { OnOk result (self.new.frames.items
             ≡ self.old.frames.items
@@ -142,7 +142,7 @@ impl FrameWriter {
         append_framed(&mut self.frames, &self.frame)
     }
 
-    /// Appends the frame that loads the program that these slots spell.
+    /// Appends the frame that loads the program that these slots spell. `AllocError`: out of memory.
     fn append_load(&mut self, slots: &[u8]) -> Result<(), AllocError>
         ensures written { OnOk result (self.new.frames.items
             ≡ self.old.frames.items ++ framed (frame_of self.old.number (prog_load 1 slots.now))) }
@@ -156,7 +156,7 @@ impl FrameWriter {
         append_framed(&mut self.frames, &self.frame)
     }
 
-    /// Appends the frames that open a program at each descriptor of a new tenant: 64 loads of `FILLER`.
+    /// Appends the frames that open a program at each descriptor of a new tenant: `MOST` loads of `FILLER`. `AllocError`: out of memory.
     fn append_filling(&mut self) -> Result<(), AllocError>
         ensures written { OnOk result (self.new.frames.items
             ≡ self.old.frames.items ++ frames_of self.old.number (filled most)) }
@@ -169,8 +169,8 @@ impl FrameWriter {
         Ok(())
     }
 
-    /// Appends the frame that closes a descriptor, if it is not open in the saved tenant; none if it is. A restored tenant has each
-    /// descriptor open until then.
+    /// Appends the frame that closes a descriptor, if it is not open in the saved tenant; none if it is. The tenant that is restored has
+    /// each descriptor open until then. `AllocError`: out of memory.
     fn append_close_unless_open(&mut self, tenant: &Tenant, fd: u32) -> Result<(), AllocError>
         ensures written { OnOk result (self.new.frames.items
             ≡ self.old.frames.items ++ frames_of self.old.number
@@ -183,7 +183,7 @@ impl FrameWriter {
         }
     }
 
-    /// Appends the frames that close the descriptors that are not open in the saved tenant.
+    /// Appends the frames that close the descriptors that are not open in the saved tenant. `AllocError`: out of memory.
     fn append_closing(&mut self, tenant: &Tenant) -> Result<(), AllocError>
         ensures written { OnOk result (self.new.frames.items
             ≡ self.old.frames.items ++ frames_of self.old.number
@@ -197,9 +197,9 @@ impl FrameWriter {
         Ok(())
     }
 
-    /// Appends the frames that put keys of a map, with their values, into the map at descriptor `fd`: in their order, those after the key
-    /// of element `before`, or from the first on if it is `None`; at most `KEYS_OF_PART`, fewer if no more follow. `part` has the tenant's
-    /// `PART` bytes of the arena.
+    /// Appends the frames that put keys of `map`, with their values, into the map at descriptor `fd`. These are the keys that follow the
+    /// key of element `before` in the order of `map`, or all keys if it is `None`; if they are more than `KEYS_OF_PART`, only the first of
+    /// them, so many, are put. `part` has the tenant's `PART` bytes of the arena. `AllocError`: out of memory.
     fn append_updates_after(
         &mut self,
         tenant: &Tenant,
@@ -225,9 +225,9 @@ impl FrameWriter {
         Ok(())
     }
 
-    /// Appends the frames that put the keys of a map from index `first` on, with their values, into the map at descriptor `fd`, in their
-    /// order and at most `KEYS_OF_PART`; none if the map is not live, of which there is no birth. `part` has the tenant's `PART` bytes of
-    /// the arena.
+    /// Appends the frames that put the keys of `map` from index `first` on, with their values, into the map at descriptor `fd`, in their
+    /// order and at most `KEYS_OF_PART`; none if `map` is not live, which does not happen for the map of a birth. `part` has the tenant's
+    /// `PART` bytes of the arena. `AllocError`: out of memory.
     fn append_keys(
         &mut self,
         tenant: &Tenant,
@@ -253,7 +253,8 @@ impl FrameWriter {
         self.append_updates_after(tenant, map, fd, before, part)
     }
 
-    /// Appends the frame that creates a map of the shape of this one; none if it is not live, of which there is no birth.
+    /// Appends the frame that creates a map of the shape of `map`; none if `map` is not live, which does not happen for the map of a birth.
+    /// `AllocError`: out of memory.
     fn append_map(&mut self, tenant: &Tenant, map: MapKey) -> Result<(), AllocError>
         ensures written { (part : List ℕ) → OnOk result (self.new.frames.items
             ≡ self.old.frames.items ++ frames_of self.old.number
@@ -265,8 +266,8 @@ impl FrameWriter {
         }
     }
 
-    /// Appends the frame that loads the program that a descriptor names; none if it names none, which does not happen
-    /// for the birth of a program.
+    /// Appends the frame that loads the program that a descriptor names; none if it names no program, which does not happen for the birth
+    /// of a program. `AllocError`: out of memory.
     fn append_program(&mut self, tenant: &Tenant, alloc: Global, fd: u32) -> Result<(), AllocError>
         ensures written { OnOk result (self.new.frames.items
             ≡ self.old.frames.items ++ frames_of self.old.number
@@ -279,8 +280,8 @@ impl FrameWriter {
         self.append_load(&slots)
     }
 
-    /// Appends the frames that close the descriptor of a birth and create its object, a map without keys or a program. It gets this
-    /// descriptor, since all others are open.
+    /// Appends the frames that close the descriptor of a birth and create its object, a map without keys or a program. The object gets
+    /// this descriptor, since all others are open. `AllocError`: out of memory.
     fn append_creation(
         &mut self,
         tenant: &Tenant,
@@ -303,7 +304,7 @@ impl FrameWriter {
         }
     }
 
-    /// Appends the frames of the part `wanted` of a save. `part` has the tenant's `PART` bytes of the arena.
+    /// Appends the frames of the part `wanted` of a save. `part` has the tenant's `PART` bytes of the arena. `AllocError`: out of memory.
     pub(crate) fn write(
         &mut self,
         tenant: &Tenant,

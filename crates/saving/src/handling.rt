@@ -20,7 +20,7 @@ use arena::{Arena, laws};
 use command_frames::{BadFrame, Command, Head, ReplyBuf, parse};
 use tenant::{Errno, Tenant, WorkingMemory, write_answer};
 
-/// The error for a frame that carries no command. It is never EFAULT (`BadAddress`), which only a run that faults would have.
+/// The error for a frame that carries no command. It is never EFAULT (`BadAddress`), the error of a run that faults, which none does.
 fn frame_error(fault: BadFrame) -> Errno
     ensures errno { result ≡ frame_errno fault }
     ensures no_fault { result ≢ BadAddress }
@@ -38,10 +38,10 @@ struct HeadedCommand<'a> {
     command: Command<'a>,
 }
 
-/// Executes the command of a frame and writes the reply. `number` is that of the tenant's part in the arena. MAP_CREATE and PROG_LOAD add
-/// the birth of the object that they open, CLOSE removes the births of objects that are no longer live, and the other commands change no
-/// births. A load is verified in `working`. The bytes of the command are those of a parsed frame, so they are at most `LONGEST_FRAME`
-/// (`short`).
+/// Executes the command of a frame and writes the reply. `number` is that of the tenant's part in the arena. In `births`, MAP_CREATE and
+/// PROG_LOAD add the birth of the object that they open, CLOSE removes those of objects that are no longer live, and the other commands
+/// change none. A load is verified in `working`. The bytes of the command are those of a parsed frame, so they are at most
+/// `LONGEST_FRAME` (`short`).
 fn reply_to_command(
     tenant: &mut Tenant,
     births: &mut Births,

@@ -14,8 +14,8 @@ use tagged_model::Named;
 use tenant::{Cost, Counts, Described};
 
 impl SavableTenant {
-    /// The tenant's counts at this moment: of its live maps, their keys and the bytes of their values, of its open programs and of all
-    /// open descriptors; and whether memory was ever refused to it. They do not depend on the bytes of its part.
+    /// How many live maps the tenant has at this moment, how many keys these have, and how many bytes their areas take; how many open
+    /// programs and open descriptors it has; and whether memory was ever refused to it. This does not depend on the bytes of its part.
     pub fn counts(&self) -> Counts
         ensures { (part : List ℕ) → result ≡ counts_of (tenant_state part self.now) }
     {
@@ -30,7 +30,8 @@ impl SavableTenant {
         self.tenant.describe(fd)
     }
 
-    /// The cost of the program that a descriptor names, the most instructions and the most calls on its paths; `None` if it names none.
+    /// The cost of the program that a descriptor names: the most instructions, and the most calls, on a path through it. `None` if the
+    /// descriptor names no program.
     pub fn program_cost(&self, fd: u32) -> Option<Cost>
         ensures { HasCost (named self.now.kept.objects fd) result }
     {

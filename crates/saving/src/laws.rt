@@ -28,7 +28,7 @@ pub fn alike_states_reply_alike()
 }
 
 /// A law, the other half of the invariant of `SavableTenant`: a new tenant has no births; after each command they are those of its live
-/// maps and open programs; and there are at most 80, so the room that `Births::new` allocates is enough.
+/// maps and open programs; and there are at most `MOST_BIRTHS`, so the room that `Births::new` allocates is enough.
 pub fn births_are_kept()
     ensures { BirthsAreKept }
 {
@@ -36,7 +36,7 @@ pub fn births_are_kept()
 }
 
 /// A law: the precondition of restoring a state (`IsRestorable`) holds for a new tenant, and each command preserves it. So each state that
-/// a tenant gets to can be restored.
+/// a tenant reaches can be restored.
 pub fn restorable_is_kept()
     ensures { RestorableIsKept }
 {
@@ -44,7 +44,8 @@ pub fn restorable_is_kept()
     verifier::laws::loaded_maps_have_shapes();
 }
 
-/// A law: a new tenant to which no memory is refused succeeds at each of the commands that restore a state, and is then alike to it.
+/// A law: a new tenant to which no memory is refused succeeds at each of the commands that restore a state, and its state is then alike to
+/// the restored one.
 pub fn restored_is_alike()
     ensures { RestoredIsAlike }
 {
@@ -61,7 +62,8 @@ pub fn test_runs_have_frames()
     command_frames::laws::encoding_inverts_parsing();
 }
 
-/// A law: a new tenant to which no memory is refused succeeds at each of the frames that restore a state, and is then alike to it.
+/// A law: a new tenant to which no memory is refused succeeds at each of the frames that restore a state, and its state is then alike to
+/// the restored one.
 pub fn restored_by_frames()
     ensures { RestoredByFrames }
 {

@@ -22,7 +22,7 @@ use std::alloc::{AllocError, Global};
 use std::marker::Model;
 use tenant::{Batch, Errno, Tenant};
 
-/// A tenant, and the order in which its objects were created, from which it can be saved.
+/// A tenant, and the order in which its live maps and open programs were created, by which it can be saved.
 #[derive(Drop)]
 pub struct SavableTenant {
     pub(crate) tenant: Tenant,
@@ -40,8 +40,9 @@ impl Model for SavableTenant {
 }
 
 impl SavableTenant {
-    /// A tenant without open objects, maps and births; the keys of its maps will be hashed with this seed. Allocates its tables, and room
-    /// for its births. `AllocError`: out of memory. It is a new tenant whatever bytes its part has (`part`).
+    /// A tenant without open objects, maps and births; the keys of its hash maps will be hashed with this seed. Allocates its tables, and
+    /// room for its births. Whatever bytes its part of the arena has (`part`), its state is that of a new tenant, since it has no map yet.
+    /// `AllocError`: out of memory.
     pub fn new(alloc: Global, seed: HashSeed) -> Result<SavableTenant, AllocError>
         ensures new { IfOk result (λ tenant. (part : List ℕ) →
             tenant_state part tenant ≡ new_tenant) }
@@ -69,7 +70,7 @@ impl SavableTenant {
     /// A new tenant that is given the frames of all parts in their order, and to which no memory is refused, then replies as this one does.
     /// Between two parts nothing may change in this tenant, but other tenants may be served. Part 0 opens a program at each descriptor. For
     /// each birth, the oldest first, one part creates the map or loads the program, and the parts after it put the keys of the map, at most
-    /// 1,024 each. The last part closes the descriptors that are not open.
+    /// `KEYS_OF_PART` each. The last part closes the descriptors that are not open.
     ///
     /// # Errors
     ///
@@ -96,9 +97,9 @@ impl SavableTenant {
         Ok(Some(writer.frames))
     }
 
-    /// The number of packets that a batch of `packets` may have, of the program at a descriptor, so that its runs execute at most `bound`
-    /// instructions by the cost of the program, in which a call of a helper counts for more (`Tenant::allowed_packets`): at least one, if
-    /// `packets` is not 0. All if the bound is 0, which is no bound, and if the descriptor names no program: such a batch is rejected.
+    /// How many of the `packets` of a batch a bound allows. Each run of the program at the descriptor counts for its most instructions, and
+    /// more for each call of a helper (`Tenant::allowed_packets`). As many packets are allowed as count for at most `bound` together, but
+    /// at least one, if there is one. All are allowed if `bound` is 0, or if the descriptor names no program: such a batch is rejected.
     pub fn allowed_packets(&self, fd: u32, bound: u64, packets: usize) -> usize
         ensures allowed { IsAllowed (named self.now.kept.objects fd) bound packets result }
         ensures few { result ≤ packets }

@@ -18,7 +18,7 @@ pub(crate) const KEYS_OF_PART: usize = 1_024;
 pub(crate) enum SavePart {
     /// Opens a program at each descriptor of a new tenant.
     Filling,
-    /// Closes the descriptor of a birth and creates its object there: a program, or a map, whose keys are put by other parts.
+    /// Closes the descriptor of a birth and creates its object there: a program, or a map without keys, which other parts put.
     Creation(Birth),
     /// Puts keys of this map of the saved tenant into the map at this descriptor of the new one: at most `KEYS_OF_PART`, from the key with
     /// this index on.
@@ -42,15 +42,15 @@ fn key_count(tenant: &Tenant, birth: Birth) -> usize
     }
 }
 
-/// The number of parts of a birth: one creates its object, each other one puts at most `KEYS_OF_PART` of its keys.
+/// The number of parts of a save for one birth: one creates its object, each other one puts at most `KEYS_OF_PART` of its keys.
 fn count_of_parts(tenant: &Tenant, birth: Birth) -> usize
     ensures { (part : List ℕ) → result ≡ length (birth_parts (state_in part tenant.now) birth) }
 {
     1 + key_count(tenant, birth).div_ceil(KEYS_OF_PART)
 }
 
-/// The part of a birth at an index among the parts of this birth: part 0 creates its object, the others put keys. `None` after the last; a
-/// program has only part 0.
+/// The part of a save at an index among the parts for one birth: part 0 creates its object, the others put keys. `None` after the last; for
+/// a program there is only part 0.
 fn part_of_birth(tenant: &Tenant, birth: Birth, index: usize) -> Option<SavePart>
     ensures { (part : List ℕ) → option_map (part_commands (state_in part tenant.now)) result
         ≡ slice_get (birth_parts (state_in part tenant.now) birth) index }
@@ -70,8 +70,8 @@ fn part_of_birth(tenant: &Tenant, birth: Birth, index: usize) -> Option<SavePart
     }
 }
 
-/// The part of a save at an index, of a tenant with these births, the oldest first: part 0 opens all descriptors, then each birth has its
-/// parts, and the last one closes the descriptors that are not open in the tenant; `None` after the last one.
+/// The part at an index of a save of a tenant with these births, the oldest first. Part 0 opens a program at each descriptor, then each
+/// birth has its parts, and the last part closes the descriptors that are not open in the tenant. `None` after the last part.
 pub(crate) fn part_at(tenant: &Tenant, births: &[Birth], index: usize) -> Option<SavePart>
     ensures { (part : List ℕ) → option_map (part_commands (state_in part tenant.now)) result
         ≡ slice_get (ordered_parts (state_in part tenant.now) births.now) index }

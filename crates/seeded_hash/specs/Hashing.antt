@@ -5,14 +5,15 @@ use Rattle.std.specs.Int.{w64, from_le_bytes, rotate_left}
 use Rattle.seeded_hash.specs.declared.HashSeed.{HashSeed}
 use Rattle.seeded_hash.specs.declared.SeededHasher.{SeededHasher}
 
--- the seed of sixteen bytes: the numbers of the first eight and of the last eight, little-endian
+-- the seed of sixteen bytes: its state is the number of the first eight, and its factor that of the
+-- last eight, little-endian
 abbrev pub seed_of : List ℕ → HashSeed
 seed_of bytes = record {
   state = from_le_bytes w64 (take 8 bytes);
   factor = from_le_bytes w64 (drop 8 bytes);
 }
 
--- the hasher of a seed
+-- the hasher of a seed, before anything is written
 abbrev pub started : HashSeed → SeededHasher
 started seed = record { state = seed.state; factor = seed.factor }
 
@@ -46,21 +47,21 @@ short_word bs =
     (shifted (slice_index bs (n - 1)) 16)
     else 0)
 
--- the state after the words of eight bytes at i and at j of the bytes, by one product: the first
--- word is joined to the state before, the second to the seed's factor, by exclusive or
+-- the state after one product that mixes in two words, the eight bytes at i and the eight at j: by
+-- exclusive or, the first is joined to the state before, the second to the factor of the seed
 abbrev pub mixed : ℕ → List ℕ → ℕ → ℕ → ℕ → ℕ
 mixed factor bs state i j =
     folded_product (bit_xor (word_at bs i) state) (bit_xor (word_at bs j) factor)
 
--- the state after the first n blocks of sixteen of the bytes, from the state before them
+-- the state after the first n blocks of sixteen bytes each are mixed in, from the state before them
 unfoldable pub blocks_mixed : ℕ → List ℕ → ℕ → ℕ → ℕ
 blocks_mixed factor bs state zero = state
 blocks_mixed factor bs state (suc n) =
     mixed factor bs (blocks_mixed factor bs state n) (16 * n) (16 * n + 8)
 
--- the hasher after a write, with the length added to the state: of at most eight bytes by one
--- product; of more by blocks of sixteen, then by the last sixteen bytes (of fewer, the first eight
--- and the last eight), and by one product more
+-- the hasher after a write of bytes, whose number is added to the state first. At most eight take
+-- one product. More take one for each block of sixteen that does not reach the last byte, one for
+-- the last sixteen (of fewer, for the first eight and the last eight), and one more by the factor
 unfoldable pub written : SeededHasher → List ℕ → SeededHasher
 written h bs =
     let n = length bs in

@@ -41,9 +41,9 @@ use std::hash::{BuildHasher, Hasher};
 use std::io;
 use std::random::RandomSource;
 
-/// The seed of the hash function, which makes its hashers. No contract of a map mentions it: what a map returns does not depend
-/// on its seed, only the time that it takes does. A hasher begins with `state`, and `factor` is in each of its products. The seed
-/// has no `Debug`, so that it is not printed.
+/// The seed of the hash function, from which the hashers begin. No contract of a map mentions it: what a map returns does not depend on its
+/// seed, only the time that it takes does. A hasher begins with `state`, and `factor` is in each of its products. The seed has no `Debug`,
+/// so that it is not printed.
 #[derive(Clone, Copy, Drop)]
 pub struct HashSeed {
     state: u64,
@@ -68,11 +68,11 @@ impl HashSeed {
         }
     }
 
-    /// The seed of sixteen bytes of a source of random bytes, such as the system's.
+    /// A seed of sixteen bytes that `source` gives, a source of random bytes such as the system's.
     ///
     /// # Errors
     ///
-    /// That of the source.
+    /// The error of the source if it fails to give the bytes.
     pub fn random(source: &impl RandomSource) -> io::Result<HashSeed> {
         let mut bytes = [0; 16];
         source.fill_bytes(&mut bytes)?;
@@ -85,6 +85,7 @@ impl BuildHasher for HashSeed {
 
     ghost build_hasher = { hashing.started };
 
+    // The hasher of this seed, before anything is written.
     #[inline(always)]
     fn build_hasher(&self) -> SeededHasher {
         SeededHasher {
@@ -94,8 +95,9 @@ impl BuildHasher for HashSeed {
     }
 }
 
-/// A hasher that multiplies sixteen bytes at a time to 128 bits, and joins the halves by exclusive or. Both factors have a part of
-/// the seed in them. A short key is in both factors, and a long one has a product more: one product that is linear in the key may
+/// A hasher: `state`, at first that of the seed, is the hash of what was written, and `factor` is that of the seed. Of sixteen bytes at a
+/// time, it multiplies the first eight xor `state` by the last eight xor `factor`, and joins the halves of the 128-bit product by exclusive
+/// or. A key of at most eight bytes is in both factors, and a longer one has one product more: one product that is linear in the key may
 /// leave keys that differ by equal steps in few groups of a table.
 #[derive(Clone, Copy, Drop)]
 pub struct SeededHasher {
@@ -114,7 +116,8 @@ impl Hasher for SeededHasher {
         self.state
     }
 
-    // The length is added to the state first: the reads below overlap, so bytes of two lengths may be read as the same words.
+    // Mixes the bytes into the state, after their number is added to it: the reads below overlap, so bytes of two lengths may be read as
+    // the same words.
     #[inline(always)]
     fn write(&mut self, bytes: &[u8]) {
         let len = bytes.len();
@@ -151,7 +154,7 @@ fn folded_product(a: u64, b: u64) -> u64
     (product & 0xFFFF_FFFF_FFFF_FFFF) as u64 ^ (product >> 64) as u64
 }
 
-/// The four bytes from offset `at` on, which are there, as a number, little-endian.
+/// The four bytes from offset `at` on, as a little-endian number. Callers make sure that there are four.
 #[inline(always)]
 fn half_at(bytes: &[u8], at: usize) -> u64
     requires { at + 4 ≤ length bytes.now }
@@ -160,7 +163,7 @@ fn half_at(bytes: &[u8], at: usize) -> u64
     u32::from_le_bytes([bytes[at], bytes[at + 1], bytes[at + 2], bytes[at + 3]]) as u64
 }
 
-/// The eight bytes from offset `at` on, which are there, as a number, little-endian.
+/// The eight bytes from offset `at` on, as a little-endian number. Callers make sure that there are eight.
 #[inline(always)]
 fn word_at(bytes: &[u8], at: usize) -> u64
     requires { at + 8 ≤ length bytes.now }

@@ -15,7 +15,7 @@ pub data Cell : Type 0 where
   holds : Tagged → Cell
   bytes : (ℕ → Option ℕ) → Cell
 
--- f of the value if there is one, else None
+-- what f gives for the value of the option, if it has one; else None
 abbrev pub and_then : {A B : Type 0} → Option A → (A → Option B) → Option B
 and_then None f = None
 and_then (Some x) f = f x
@@ -41,22 +41,22 @@ widened size false n = n
 abbrev pub number_from : AccessSize → Bool → Option (List ℕ) → Option Tagged
 number_from size signed o = option_map (λ bs. Scalar (widened size signed (number_of bs))) o
 
--- the value of a load at byte j of a cell; None for a part of a value kept whole, or an absent
--- byte. An aligned double word is the whole cell
+-- the value of a load at byte j of a cell; None for fewer than all bytes of a value kept whole, or
+-- an absent byte. An aligned double word is the whole cell
 abbrev pub read_cell : Cell → ℕ → AccessSize → Bool → Option Tagged
 read_cell (holds v) j Double signed = Some v
 read_cell (holds v) j _ signed = None
 read_cell (bytes b) j size signed = number_from size signed (gathered b j (bytes_of size))
 
--- the cell with these bytes written over it at offset j; a value kept whole is lost, and its other
--- bytes are absent
+-- the cell with these bytes written over it from its byte j on; a value kept whole is lost, and its
+-- other bytes are absent
 abbrev pub written_over : Cell → ℕ → List ℕ → Cell
 written_over c j bs =
     bytes
     (λ k. if nat_le j k && nat_lt k (j + length bs) then slice_get bs (k - j) else byte_at c k)
 
--- the cell after a store of v at its byte j; None for a store of a part of a pointer or map. An
--- aligned double word is the whole cell
+-- the cell after a store of v at its byte j; None if v is a pointer or a map and fewer than eight
+-- bytes are stored. An aligned double word is the whole cell
 abbrev pub write_cell : Cell → ℕ → AccessSize → Tagged → Option Cell
 write_cell c j size (Scalar n) = Some (written_over c j (low_bytes (bytes_of size) n))
 write_cell c j Double v = Some (holds v)

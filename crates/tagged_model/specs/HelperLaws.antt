@@ -1,6 +1,6 @@
--- Laws of helpers, of the definitions of `Helpers`: a helper's number, and what a call leaves of
--- the state before it, whichever helper it calls. Proved here for the proofs of the crates above.
--- This project's own. No contract cites them, so they are not part of what has to be trusted.
+-- Laws of the definitions of `Helpers`: of a helper's number, and of the context words and the maps
+-- after a call of any helper. Proved here for the proofs of the crates above. This project's own.
+-- No contract cites them, so they are not part of what has to be trusted.
 use Rattle.std.proofs.Common.{◌≡◌, ℕ, zero, suc, ◌+◌, ◌==◌, ℤ, pos, negsuc, nat_le, Bool, true, false}
 use Rattle.std.proofs.Common.{cond, List, [], ◌∷◌, length, Option, Some, None, refl, sym, ap, subst, ◌∙◌}
 use Rattle.std.specs.Prelude.{find}
@@ -62,38 +62,39 @@ pub data MapAfterCall (t : RunMap) : RunMap → Type 0 where
       → MapAfterCall t (updated t key value flags).map
   after_delete : (key : List ℕ) → MapAfterCall t (removed t key).map
 
--- what a descriptor has before a call and after it: no map both times, or a map and one that a call
--- may leave of it
+-- the map of one descriptor before a call and after it: no map both times, or a map and one that a
+-- call may leave of it (`MapAfterCall`)
 abbrev pub EntryAfterCall : Option RunMap → Option RunMap → Type 0
 EntryAfterCall None None = Unit {0}
 EntryAfterCall (Some t) (Some u) = MapAfterCall t u
 EntryAfterCall _ _ = ⊥
 
--- t is a state after a call from s: it has the context words of s, and each map is one that a call
--- may leave of the map in s. Registers, stack and packet may be any
+-- t can be the state after a call that begins in state s: it has the context words of s, and each
+-- map is one that a call may leave of the map in s (`MapAfterCall`). Registers, stack and packet
+-- may be any
 pub record IsAfterCall (s t : RunState) : Type 0 where
   pub words : t.words ≡ s.words
   pub maps : (m : ℕ) → EntryAfterCall (s.maps m) (t.maps m)
 
--- a computation leaves a state after a call from s, or no state (None): then it faults, and nothing
--- is required
+-- the result of a computation in a call that begins in state s: a state that can be the one after
+-- the call (`IsAfterCall`), or None, a fault, of which nothing is required
 abbrev pub LeavesAfterCall : RunState → Option RunState → Type 0
 LeavesAfterCall s None = Unit {0}
 LeavesAfterCall s (Some t) = IsAfterCall s t
 
--- ---- a state and its parts
+-- ---- a state and its maps
 
--- a call may leave a descriptor what it had, a map or none
+-- a call may leave what a descriptor has, a map or none, unchanged
 entry_same : (o : Option RunMap) → EntryAfterCall o o
 entry_same None = tt
 entry_same (Some t) = unchanged
 
--- s itself is a state after a call from s: a call may change nothing
+-- s itself can be the state after a call that begins in s: a call may change nothing
 state_same : (s : RunState) → IsAfterCall s s
 state_same s = record { words = refl; maps = λ m. entry_same (s.maps m) }
 
--- if the map t of descriptor m is replaced by u, which a call may leave of t, then each descriptor
--- k has what a call may leave it
+-- if the map t of descriptor m is replaced by u, which a call may leave of t, then the map of each
+-- descriptor k is one that a call may leave
 entry_set : (s : RunState) (m : ℕ) (t u : RunMap)
     → s.maps m ≡ Some t
     → MapAfterCall t u
@@ -106,20 +107,22 @@ entry_set s m t u there change k =
     (sym (ap s.maps (eqb-true k m b) ∙ there)) change)
     (λ _. entry_same (s.maps k))
 
--- s with the map t of descriptor m replaced by u, which a call may leave of t, is a state after a
--- call from s
+-- s with the map t of descriptor m replaced by u, which a call may leave of t, can be the state
+-- after a call that begins in s
 map_changed : (s : RunState) (m : ℕ) (t u : RunMap)
     → s.maps m ≡ Some t
     → MapAfterCall t u
     → IsAfterCall s (with_map s m u)
 map_changed s m t u there change = record { words = refl; maps = entry_set s m t u there change }
 
--- a state after a call remains one when v is put into register 0 and registers 1 to 5 are emptied
+-- if t can be the state after a call that begins in s, so can t with v in register 0 and registers
+-- 1 to 5 empty
 returned : (s t : RunState) (v : Tagged) → IsAfterCall s t → IsAfterCall s (returns t v)
 returned s t v h = record { words = h.words; maps = h.maps }
 
--- s with the map t of descriptor m replaced by that of the reply, which a call may leave of t, and
--- with the reply's result in register 0 is a state after a call from s
+-- s with the map t of descriptor m replaced by that of the reply, which a call may leave of t, with
+-- the reply's result in register 0 and registers 1 to 5 empty can be the state after a call that
+-- begins in s
 replied : (s : RunState) (m : ℕ) (t : RunMap) (reply : MapReply)
     → s.maps m ≡ Some t
     → MapAfterCall t reply.map
@@ -129,16 +132,17 @@ replied s m t reply there change = record {
   maps = entry_set s m t reply.map there change;
 }
 
--- a computation that continues with f of the value of o leaves a state after a call, if f of this
--- value does; without a value there is no state
+-- a computation takes the value of the option o, and continues with f: `LeavesAfterCall` permits
+-- its result if it permits that of f for this value. Without a value this is a fault, which is
+-- permitted
 then_leaves : {A : Type 0} (s : RunState) (o : Option A) (f : A → Option RunState)
     → ((x : A) → o ≡ Some x → LeavesAfterCall s (f x))
     → LeavesAfterCall s (and_then o f)
 then_leaves s None f h = tt
 then_leaves s (Some x) f h = h x refl
 
--- if a computation leaves a state after a call, it still does when v is then put into register 0
--- and registers 1 to 5 are emptied
+-- if `LeavesAfterCall` permits the result of a computation, it also permits the result after v is
+-- then put into register 0 and registers 1 to 5 are emptied
 return_leaves : (s : RunState) (o : Option RunState) (v : Tagged)
     → LeavesAfterCall s o
     → LeavesAfterCall s (and_then o (λ t. Some (returns t v)))
@@ -147,8 +151,8 @@ return_leaves s (Some t) v h = returned s t v h
 
 -- ---- arguments
 
--- a call that reads the map in register r and continues with f leaves a state after a call, if f
--- does for each map of the state
+-- a computation reads the map in register r, and continues with f: `LeavesAfterCall` permits its
+-- result if it permits that of f for each map of state s
 map_leaves : (s : RunState) (r : ℕ) (f : GivenMap → Option RunState)
     → ((m : ℕ) (t : RunMap)
     → s.maps m ≡ Some t
@@ -211,8 +215,8 @@ input_long s (Pointer object.Stack x) n =
 input_long s (Pointer (object.Value m number) x) n = object_long (s.maps m) number x n
 input_long s p n = tt
 
--- a call that reads n bytes at the pointer in register r and continues with f leaves a state after
--- a call, if f does for any n bytes
+-- a computation reads n bytes at the pointer in register r, and continues with f: `LeavesAfterCall`
+-- permits its result if it permits that of f for any n bytes
 bytes_leave : (s : RunState) (r n : ℕ) (f : List ℕ → Option RunState)
     → ((bs : List ℕ) → length bs ≡ n → LeavesAfterCall s (f bs))
     → LeavesAfterCall s (and_then (argument s r (λ p. input s p n)) f)
@@ -226,8 +230,8 @@ bytes_leave s r n f h = by (s.registers r)
     by None = tt
     by (Some p) = read (input s p n) (input_long s p n)
 
--- a helper that writes bytes at p leaves a state after a call, or faults, as it does if p is no
--- pointer into the stack or a value
+-- writing bytes at p in state s gives a state that can be the one after a call that begins in s
+-- (`IsAfterCall`), or faults, as it does if p is no pointer into the stack or a value
 output_leaves : (s : RunState) (p : Tagged) (bs : List ℕ) → LeavesAfterCall s (output s p bs)
 output_leaves s (Pointer object.Stack x) bs =
     cond_both (is_in_stack x (length bs))
@@ -245,7 +249,8 @@ output_leaves s p bs = tt
 
 -- ---- the calls
 
--- a call of any helper leaves a state after a call, or faults
+-- a call of any helper that begins in state s ends in a state that has the context words of s and
+-- maps that a call may leave of those of s (`IsAfterCall`), or faults
 pub call_leaves : (helper : Helper) (s : RunState) → LeavesAfterCall s (called helper s)
 call_leaves LookUp s =
     map_leaves s 1 _

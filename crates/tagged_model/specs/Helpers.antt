@@ -29,7 +29,7 @@ id_of LoadBytes = 26
 unfoldable pub known_helpers : List Helper
 known_helpers = LookUp ∷ Update ∷ Delete ∷ LoadBytes ∷ []
 
--- the helper with this number, if there is one
+-- the helper with this number; None if there is none
 abbrev pub helper_of : ℤ → Option Helper
 helper_of id = find (λ h. int_eq id (pos (id_of h))) known_helpers
 
@@ -74,7 +74,8 @@ abbrev pub looked_up : ℕ → Option ℕ → Tagged
 looked_up m None = Scalar 0
 looked_up m (Some number) = Pointer (object.Value m number) (pos 0)
 
--- the map with a new key, whose object has the count so far as its number and `value` as its bytes
+-- the map with a new key, whose object has as its number how many objects the map has had
+-- (`count`), and as its bytes `value`
 abbrev pub with_object : RunMap → List ℕ → List ℕ → RunMap
 with_object t key value = record {
   table = with_new t.table key t.count;
@@ -123,7 +124,7 @@ packet_bytes packet offset n =
 abbrev pub packet_result : List ℕ → ℕ → ℕ → ℕ
 packet_result packet offset n = if is_in_packet packet offset n then 0 else negative outside
 
--- ---- arguments: a register's value, if it has the kind that is required
+-- ---- arguments: what a register's value is, if it is what the helper requires
 
 -- the number that a value is; None for a map or a pointer
 abbrev pub number_given : Tagged → Option ℕ
@@ -145,8 +146,8 @@ abbrev pub context_given : Tagged → Option (Unit {0})
 context_given (Pointer object.Context x) = if int_eq x (pos 0) then Some tt else None
 context_given _ = None
 
--- the argument in register r, read by `given`; None if the register is empty, or its value is not
--- of the kind that `given` requires
+-- the argument in register r, as `given` reads it from the register's value; None if the register
+-- is empty, or `given` rejects its value
 abbrev pub argument : {A : Type 0} → RunState → ℕ → (Tagged → Option A) → Option A
 argument s r given = and_then (s.registers r) given
 
@@ -177,10 +178,11 @@ returns s v = record s { registers = after_call s.registers v }
 abbrev pub replies : RunState → ℕ → MapReply → RunState
 replies s m reply = returns (with_map s m reply.map) (Scalar reply.answer)
 
--- the state after a call of a helper; None, a fault, if an argument is not of the required kind, or
+-- the state after a call of a helper; None, a fault, if an argument is not what is listed here, or
 -- the bytes at a pointer do not all lie in its object or, to be read, are not all present. The
--- arguments, from register 1 on: a map, a key, and for an update a value and the flags; for a load
--- of bytes the context, an offset in the packet, a pointer to write to, and a length
+-- arguments, from register 1 on: a map, a pointer to a key, and for an update a pointer to a value
+-- and the flags; for a load of bytes the context, an offset in the packet, a pointer to write to,
+-- and a length
 abbrev pub called : Helper → RunState → Option RunState
 called LookUp s =
     and_then (map_argument s 1) (λ g.

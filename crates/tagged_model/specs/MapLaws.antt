@@ -6,9 +6,10 @@ use Rattle.tagged_model.specs.declared.shape.MapShape.{MapShape}
 use Rattle.tagged_model.specs.declared.fault.MapFault.TheVariants.{Memory}
 use Rattle.tagged_model.specs.Table as map
 
--- a map of objects refines the map that has the value of each object instead of it (`with_values`):
--- each call gives the same result on both, with values for objects, and changes both alike.
--- `value` gives the value that an object represents, such as its element or its bytes
+-- a map of objects refines the map that has, instead of each object, the value that it represents
+-- (`with_values`): each call gives the same result on both, but for values instead of objects, and
+-- changes both alike. `value` gives the value that an object represents, such as its element or its
+-- bytes
 pub record CallsRefineValues (A B : Type 0) : Type 0 where
   pub new : (value : A → B) (object : ℕ → A) (shape : MapShape)
       → map.with_values value (map.new_table object shape)
@@ -32,7 +33,9 @@ pub record CallsRefineValues (A B : Type 0) : Type 0 where
   pub end : (value : A → B) (t : map.Table A)
       → map.with_values value (map.after_run t) ≡ map.after_run (map.with_values value t)
 
--- a present key is found, and a new one is not; no verdict is out of memory
+-- the verdict on an update agrees with the look-up of its key: if it is that the key is present,
+-- the look-up finds the same object; if it is that the key is new, the look-up finds none; and it
+-- is never out of memory
 pub record MapVerdictsMatchLookUps (A : Type 0) : Type 0 where
   pub present : (t : map.Table A) (key : List ℕ) (flags : ℕ) (object : A)
       → map.verdict t key flags ≡ map.Present object

@@ -5,7 +5,7 @@ use Rattle.tagged_model.specs.declared.shape.Target.{Target}
 use Rattle.tagged_model.specs.declared.shape.Target.TheVariants as target
 use Rattle.tagged_model.specs.declared.shape.Named.{Named}
 
--- the object that the first entry with descriptor `fd` names; None if no entry has it
+-- the object that descriptor `fd` names, by the first in the list that has it; None if none has it
 unfoldable pub target_of : List Named → ℕ → Option Target
 target_of [] fd = None
 target_of (n ∷ ns) fd = if n.fd == fd then Some n.target else target_of ns fd
@@ -16,10 +16,10 @@ shape_in (Some (target.Map shape)) = Some shape
 shape_in (Some target.Program) = None
 shape_in None = None
 
--- the shapes of maps, by their descriptors
+-- the shapes of maps, by their descriptors; None for a descriptor that names no map
 abbrev pub Shapes : Type 0
 Shapes = ℕ → Option MapShape
 
--- the shapes of the maps that the descriptors of these entries name
+-- the shapes of the maps that the descriptors of the list `named` name
 abbrev pub shapes_named : List Named → Shapes
 shapes_named named fd = shape_in (target_of named fd)

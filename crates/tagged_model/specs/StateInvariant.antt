@@ -24,7 +24,7 @@ pub record IsInRange (s : RunState) : Type 0 where
 
 -- ---- maps
 
--- the object of each key has a number below `count`
+-- in this list of keys with the numbers of their objects, each number is below `count`
 abbrev pub KeysHaveObjects : ℕ → List (List ℕ × ℕ) → Type 0
 KeysHaveObjects count [] = Unit {0}
 KeysHaveObjects count (e ∷ es) = (e.1 < count) × KeysHaveObjects count es

@@ -1,7 +1,7 @@
--- Laws of near offsets, of the objects of a map's keys, and of the value that is loaded directly,
--- of the definitions of `Values`, `StateInvariant` and `Table`, proved here for the proofs of the
--- crates above. This project's own. No contract cites them, so they are not part of what has to be
--- trusted.
+-- Laws of the definitions of `Values`, `StateInvariant` and `Table`: of near offsets, of the
+-- objects of a map's keys, and of the value that is loaded directly. Proved here for the proofs of
+-- the crates above. This project's own. No contract cites them, so they are not part of what has to
+-- be trusted.
 use Rattle.std.proofs.Common.{◌≡◌, ℕ, ◌<◌, ◌≤◌, ◌==◌, ◌&&◌, nat_lt, ℤ, pos, neg_ℤ, ◌≤ℤ◌, int_le}
 use Rattle.std.proofs.Common.{Bool, true, false, cond, List, [], ◌∷◌, Some, None, refl, arith}
 use Rattle.std.specs.Prelude.{nat_le}
@@ -24,7 +24,7 @@ near_parts x e =
     let h = and_parts (int_le (neg_ℤ (pos farthest_offset)) x) (int_le x (pos farthest_offset)) e in
     let p = h.0 in let q = h.1 in (grind (arith, ints), grind (arith, ints))
 
--- an offset in a value, which has at most 4,096 bytes, is near
+-- an offset in a value, which has at most `longest_value` bytes, is near (`is_near`)
 pub near_from : (offset : ℕ) → offset < 4096 → is_near (pos offset) ≡ true
 near_from offset lt = le-leb offset farthest_offset (omega arith)
 
@@ -47,7 +47,7 @@ found_owned count key (x ∷ es) number owns e =
         let same : x.1 ≡ number = same_Some x.1 number e in let lt = owns.0 in omega arith
     by rest false e = rest e
 
--- if the objects of all keys are numbered below n, they are numbered below each m that is not less
+-- if the objects of all keys are numbered below n, and m is n or more, they are numbered below m
 pub owns_more : (n m : ℕ) (es : List (List ℕ × ℕ))
     → n ≤ m
     → KeysHaveObjects n es
@@ -79,7 +79,7 @@ owns_without n key (e ∷ es) h = by (is_key key e.0) (owns_without n key es h.1
 
 -- ---- the direct value
 
--- a value has at most 4,096 bytes
+-- a value of a map has at most as many bytes as `longest_value` says
 pub value_short : (shape : MapShape) → shape.value_size ≤ 4096
 value_short shape =
     let valid =
@@ -99,13 +99,14 @@ value_short shape =
     leb-true shape.value_size longest_value
     (and_parts (nat_le 1 shape.value_size) (nat_le shape.value_size longest_value) value.1).1
 
--- what is used of a shape that has a direct value at an offset: its maps have one entry, and the
--- offset is below 4,096
+-- what is used of a shape whose value can be loaded directly at an offset: its maps have one entry,
+-- and the offset is below `longest_value`
 pub record IsDirect (shape : MapShape) (offset : ℕ) : Type 0 where
   pub one : shape.max_entries ≡ 1
   pub near : offset < 4096
 
--- if a map has a direct value at an offset, it has one entry, and the offset is below 4,096
+-- if the value of a map of this shape can be loaded directly at an offset, the map has one entry,
+-- and the offset is below `longest_value`
 pub is_direct : (shape : MapShape) (offset : ℕ)
     → has_direct_value shape offset ≡ true
     → IsDirect shape offset
@@ -118,8 +119,8 @@ is_direct shape offset e =
     let short = value_short shape in
     record { one = eqb-true shape.max_entries 1 front.1; near = omega arith }
 
--- if map t has a direct value at an offset, its object is that of index 0, and the shape and the
--- offset are as in `IsDirect`
+-- if the value of map t can be loaded directly at an offset, its object is that of index 0, the map
+-- may have one entry, and the offset is below `longest_value` (`IsDirect`)
 pub direct_is : (t : Table ℕ) (offset number : ℕ)
     → direct_object t offset ≡ Some number
     → IsDirect t.shape offset × (found (index_key 0) t.entries ≡ Some number)

@@ -92,17 +92,17 @@ module _ {A : Type 0} where
   abbrev pub look_up : Table A → List ℕ → Option A
   look_up t key = found key t.entries
 
-  -- a hash map is full if its keys and the objects deleted in this run are as many as its most
-  -- entries
+  -- whether a hash map is full: its keys and the objects deleted in this run are together as many
+  -- as the entries that it may have
   abbrev pub is_full : Table A → Bool
   is_full t = (length t.entries + t.deleted) == t.shape.max_entries
 
-  -- the verdict on an update of a present key with object a
+  -- the verdict on an update, with these flags, of a present key, which has object a
   abbrev pub of_present : ℕ → A → Verdict A
   of_present flags a = if flags == no_exist then Refused Exists else Present a
 
-  -- the verdict on an update of an absent key, which in an array is an index out of range; `full`:
-  -- the hash map has no room for a new key
+  -- the verdict on an update, with these flags, of an absent key, which in an array is an index out
+  -- of range; `full`: the hash map has no room for a new key
   abbrev pub of_absent : MapKind → Bool → ℕ → Verdict A
   of_absent Array full flags = Refused TooBig
   of_absent Hash full flags =

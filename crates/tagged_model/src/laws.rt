@@ -3,15 +3,16 @@
 ghost use Rattle.std.specs.Prelude.{ℕ, List};
 ghost use Rattle.tagged_model.specs.MapLaws.{CallsRefineValues, MapVerdictsMatchLookUps};
 
-/// A law, by which a map of elements or of numbered objects can be used instead of a map of bytes: both give the same results and change
-/// alike, whatever values the objects represent. The objects are numbers; the values are numbers, such as elements, or bytes.
+/// A law: each call of a map of objects gives the same result as on the map of the values that the objects represent, and changes both
+/// alike. So a map of elements or of numbered objects can be used instead of a map of bytes. The objects are numbers; the values are
+/// numbers, such as elements, or bytes.
 pub fn calls_refine_values()
     ensures numbers { CallsRefineValues ℕ ℕ }
     ensures bytes { CallsRefineValues ℕ (List ℕ) }
 {}
 
-/// A law: a verdict on an update agrees with the look-up of its key. A key that it finds present is found, a new one is not. No verdict is
-/// out of memory.
+/// A law: the verdict on an update agrees with the look-up of its key. If the verdict is that the key is present, the look-up finds the
+/// same object; if it is that the key is new, the look-up finds none. No verdict is out of memory.
 pub fn map_verdicts_match_look_ups()
     ensures numbers { MapVerdictsMatchLookUps ℕ }
     ensures bytes { MapVerdictsMatchLookUps (List ℕ) }

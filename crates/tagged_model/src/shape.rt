@@ -41,7 +41,7 @@ pub struct MapShape {
     pub key_size: u32,
     /// In bytes, 1 to `LONGEST_VALUE`.
     pub value_size: u32,
-    /// 1 to `MOST_ENTRIES`.
+    /// The most entries of a hash map, or the number of entries of an array: 1 to `MOST_ENTRIES`.
     pub max_entries: u32,
     /// For contracts: the fields are within their limits, and so is the area of the values.
     pub ghost listed: { IsTrue (is_shape kind key_size value_size max_entries) },
@@ -66,7 +66,7 @@ pub struct Named {
 impl MapShape {
     ghost use Rattle.tagged_model.specs.Table.{has_direct_value};
 
-    /// Makes the shape with these fields, which are those of bpf(2), BPF_MAP_CREATE. The sizes are in bytes; `flags` has to be 0.
+    /// Makes the shape with these fields, as in bpf(2), BPF_MAP_CREATE. The sizes are in bytes; `flags` has to be 0.
     ///
     /// # Errors
     ///

@@ -19,8 +19,9 @@ frame_errno bad.TooLong = TooBig
 frame_errno bad.Unknown = Invalid
 frame_errno bad.Body = Invalid
 
--- the result of a frame in the state s: that of the command that it carries, by whether memory is
--- refused to it; if it carries none, the error for the fault, and nothing changes
+-- `a` is the result of a frame in the state s: if the frame carries a command, the result of this
+-- command (`refused`: memory is refused to it); if it carries none, the error for its fault, and
+-- nothing changes
 abbrev pub AnswersFrame : Bool → TenantState → Result Command BadFrame → Answer → Type 0
 AnswersFrame refused s (Err fault) a = a ≡ refuses (frame_errno fault) s
 AnswersFrame refused s (Ok command) a = Answers refused s command a
@@ -29,9 +30,9 @@ AnswersFrame refused s (Ok command) a = Answers refused s command a
 abbrev pub unserved_errno : List ℕ → Errno
 unserved_errno frame = if nat_lt (length frame) head_length then Invalid else NotPermitted
 
--- a frame, its reply, and the state of its tenant before and after it, if memory is refused or not;
--- a tenant that is not served has no state, and the reply reports that, or that the frame has no
--- head
+-- `reply` is the reply to this frame, which leads its tenant from the state `before` to `after`;
+-- `refused` is whether memory is refused. A tenant that is not served has no state (None), and the
+-- reply reports that, or that the frame has no head
 abbrev pub RepliesUnder : Bool → List ℕ → List ℕ → Option TenantState → Option TenantState → Type 0
 RepliesUnder refused frame reply None after =
     (after ≡ None) × (reply ≡ reply_to frame (status_of (unserved_errno frame)) [])
@@ -39,7 +40,8 @@ RepliesUnder refused frame reply (Some s) after =
     (a : Answer) × AnswersFrame refused s (parsed frame) a
     × (reply ≡ reply_to frame a.status a.payload) × (after ≡ Some a.after)
 
--- a frame, its reply, and the state of its tenant before and after it, if memory may be refused
+-- `reply` may be the reply to this frame, with these states of its tenant before and after it, if
+-- memory is refused or if it is not
 abbrev pub MayReply : List ℕ → List ℕ → Option TenantState → Option TenantState → Type 0
 MayReply frame reply before after = (refused : Bool) × RepliesUnder refused frame reply before after
 
@@ -69,8 +71,8 @@ replies_of t (frame ∷ frames) [] = []
 replies_of t (frame ∷ frames) (reply ∷ replies) =
     if owner frame == t then reply ∷ replies_of t frames replies else replies_of t frames replies
 
--- a tenant's frames in order, with as many replies, and the states before and after them: `tells`
--- relates each frame, its reply, and the states before and after it
+-- a tenant's frames, in order, have these replies, one each, and lead from the state `before` to
+-- `after`: `tells` holds of each frame, its reply, and the states before and after it
 abbrev pub RepliesInOrder : (List ℕ → List ℕ → Option TenantState → Option TenantState → Type 0)
     → Option TenantState → List (List ℕ) → List (List ℕ) → Option TenantState → Type 0
 RepliesInOrder tells before [] [] after = after ≡ before

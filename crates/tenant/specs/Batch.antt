@@ -34,8 +34,9 @@ RunsInOrder fd before (input ∷ inputs) (result ∷ results) after =
 RunsInOrder fd before [] (result ∷ results) after = ⊥
 RunsInOrder fd before (input ∷ inputs) [] after = ⊥
 
--- the runs lead from `before` to `after`, and `written` is the room with their results at its front
--- and the rest unchanged
+-- the test runs of the program at descriptor fd on these inputs lead from `before` to `after`.
+-- Their results are written to the front of the list `room`, whose rest is unchanged: `written` is
+-- this list afterwards
 abbrev pub RunsBatch : ℕ → TenantState → List BatchInput → List ℕ → List ℕ → TenantState → Type 0
 RunsBatch fd before inputs room written after =
     (results : List ℕ)
@@ -90,8 +91,8 @@ batch_refusal o contexts many ends room =
 
 -- ---- the bound
 
--- what a run counts for in the bound of a batch: the most instructions, and CALL_WEIGHT more for
--- each of the most calls of helpers
+-- what a run counts for in the bound of a batch: the most instructions that a run of the program
+-- executes, and CALL_WEIGHT for each of the most calls of helpers that it makes
 abbrev pub run_weight : Cost → ℕ
 run_weight cost = cost.instructions + CALL_WEIGHT * cost.calls
 

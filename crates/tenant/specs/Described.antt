@@ -12,7 +12,7 @@ use Rattle.tenant.specs.declared.object.OpenObject.{OpenObject}
 use Rattle.tenant.specs.declared.object.OpenObject.TheVariants as object
 use Rattle.tenant.specs.State.{Map, TenantState, live}
 
--- the number of a kind of maps in bpf(2)
+-- the number that bpf(2) has for a kind of maps, hash or array: the type of a map
 abbrev pub type_number : MapKind → ℕ
 type_number Hash = 1
 type_number Array = 2

@@ -14,6 +14,6 @@ abbrev pub numbered_entries : List ℕ → LiveMaps → ℕ → List NumberedEnt
 numbered_entries part t k =
     map (λ (e : List ℕ × ℕ). ((e.0, value_in part t k e.1), e.1)) (keys_at t k).entries
 
--- an entry that is lent, by the bytes of its key and of its value, with the number of the element
+-- the bytes of the key and of the value of an entry that is lent, with the number of its element
 abbrev pub lent_entry : MapEntry → NumberedEntry
 lent_entry e = ((key_bytes e.key, e.value.now), e.element)

@@ -26,7 +26,7 @@ pub record KeptTenant : Type 0 where
 abbrev pub map_at : List ℕ → LiveMaps → ℕ → Option Map
 map_at part t handle = option_map (λ l. map_in part t handle) (live_at t handle)
 
--- the list of the maps that f has for each handle, from 0 on
+-- the list of what f gives for each handle, from 0 on: a map or None
 unfoldable pub at_handles : (ℕ → Option Map) → List (Option Map)
 at_handles f = map f (range_with_len 0 most_maps)
 

@@ -11,17 +11,17 @@ use Rattle.bpf_maps.specs.Limits.{most_maps}
 use Rattle.tenant.specs.State.{Map}
 use Rattle.tenant.specs.Kept.{at_handles, map_at}
 
--- `at_handles` has as many entries as there are handles
+-- the list of `at_handles` has one item for each handle
 pub length-at : (f : ℕ → Option Map) → length (at_handles f) ≡ most_maps
 unfolding at_handles
 length-at f = length-map-range_with_len f 0 most_maps
 
--- the entry of `at_handles` at a handle is what f has for it
+-- at a handle, the list of `at_handles` has what f gives for the handle
 pub at-within : (f : ℕ → Option Map) (i : ℕ) → i < most_maps → get_or (at_handles f) i None ≡ f i
 unfolding at_handles
 at-within f i lt = get_or-map-range_with_len f 0 most_maps i i None lt (omega arith)
 
--- after the last handle `at_handles` has no map
+-- after the last handle, the list of `at_handles` has no map
 pub at-past : (f : ℕ → Option Map) (i : ℕ) → most_maps ≤ i → get_or (at_handles f) i None ≡ None
 at-past f i past = let long = length-at f in get_or_past (at_handles f) i None (omega arith)
 

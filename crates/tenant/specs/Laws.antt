@@ -9,13 +9,14 @@ use Rattle.tenant.specs.declared.errno.Errno.TheVariants.{NoMemory, BadAddress}
 use Rattle.tenant.specs.Errno.{status_of}
 use Rattle.tenant.specs.Alone.{RepliesUnder, MayReply, IsFault, IsRefusedMemory, NoneIsRefusedMemory, IsServedAlone, AloneWithRefusals}
 
--- a command has one result, if it is known whether memory is refused to it
+-- in a state, a command has one result if memory is refused to it, and one if it is not
 abbrev pub OneAnswer : Type 0
 OneAnswer =
     (refused : Bool) (s : TenantState) (command : Command) (a b : Answer)
     → Answers refused s command a → Answers refused s command b → a ≡ b
 
--- a frame has one reply and one state after it, if it is known whether memory is refused
+-- in a state, a frame has one reply and one next state if memory is refused to it, and one of each
+-- if it is not
 abbrev pub OneReply : Type 0
 OneReply =
     (refused : Bool) (frame x y : List ℕ) (before a b : Option TenantState)
@@ -52,8 +53,8 @@ takes_memory (map_create kind key value max flags) = true
 takes_memory (prog_load kind slots) = true
 takes_memory other = false
 
--- a result of a command in the state s: its status is not that memory was refused, and the flag
--- after it is that of s
+-- a result of a command in the state s that reports no refusal of memory: its status is not ENOMEM,
+-- and the flag after it is that of s
 abbrev pub IsNoRefusal : TenantState → Answer → Type 0
 IsNoRefusal s a = (a.status ≢ status_of NoMemory) × (a.after.refused ≡ s.refused)
 

@@ -100,7 +100,7 @@ asked_shape (Some kind) key value max flags =
     })
     else Err Invalid
 
--- a new array contains zeros, and a new hash map no key
+-- a new map of this shape: in an array each value is zeros, and a hash map has no key
 abbrev pub new_map : MapShape → Map
 new_map shape = new_table (λ i. replicate shape.value_size 0) shape
 
@@ -138,25 +138,25 @@ created refused s (Ok shape) = created_under refused s shape (table.lowest s.obj
 
 -- ---- the calls of a map
 
--- the result of a command on the map of a handle, which f gives. Without a map it would be an
--- error, but no tenant has a descriptor of such a handle
+-- the result of a command on the map of a handle: what f gives for the handle and the map. Without
+-- a map it would be an error, but no tenant has a descriptor of such a handle
 abbrev pub of_handle : TenantState → ℕ → (ℕ → Map → Answer) → Option Map → Answer
 of_handle s handle f None = refuses BadDescriptor s
 of_handle s handle f (Some t) = f handle t
 
--- the result of a command on what a descriptor names, given that: f gives it for the handle and the
--- map; an error for a program, or if the descriptor is not open
+-- the result of a command on a map, by what its descriptor names: for a map what f gives for its
+-- handle and the map; an error for a program, or if the descriptor is not open (None)
 abbrev pub of_object : TenantState → (ℕ → Map → Answer) → Option OpenObject → Answer
 of_object s f None = refuses BadDescriptor s
 of_object s f (Some (object.Program l)) = refuses Invalid s
 of_object s f (Some (object.Map handle)) = of_handle s handle f (live s handle)
 
--- the result of a command on the map that a descriptor names, which f gives for its handle and the
+-- the result of a command on the map that a descriptor names: what f gives for its handle and the
 -- map; an error if the descriptor is not open or names a program
 abbrev pub on_map : TenantState → ℕ → (ℕ → Map → Answer) → Answer
 on_map s fd f = of_object s f (table.named s.objects fd)
 
--- the bytes that are found, a value or a key, or the error NoEntry
+-- the result of a search: the bytes that are found, a value or a key, or the error NoEntry
 abbrev pub gives_or_no_entry : TenantState → Option (List ℕ) → Answer
 gives_or_no_entry s None = refuses NoEntry s
 gives_or_no_entry s (Some value) = gives value s
@@ -170,8 +170,8 @@ element_looked_up s fd key =
     then gives_or_no_entry s (look_up t key)
     else refuses Invalid s)
 
--- the result of an update, by the verdict on it: a refusal; the value of a present key, which keeps
--- its position; or a new key, which goes to the end
+-- the result of an update, by the verdict on it: an error if it is refused; else a present key gets
+-- the value and keeps its position, or a new key with the value goes to the end
 abbrev pub element_put : TenantState → ℕ → Map → List ℕ → List ℕ → call.Verdict (List ℕ) → Answer
 element_put s handle t key value (call.Refused fault) = refuses (map_errno fault) s
 element_put s handle t key value (call.Present old) =
@@ -186,8 +186,8 @@ element_updated s fd flags bytes =
     (verdict t (take t.shape.key_size bytes) flags)
     else refuses Invalid s)
 
--- the result of a deletion, which is refused or deletes a value. No run is in progress, so the
--- value no longer counts in the map
+-- the result of a deletion: an error if it is refused; else the key and its value are deleted and,
+-- since no run is in progress, not kept apart
 abbrev pub element_taken_out : TenantState → ℕ → Map → List ℕ → Result (List ℕ) MapFault → Answer
 element_taken_out s handle t key (Err fault) = refuses (map_errno fault) s
 element_taken_out s handle t key (Ok value) =
@@ -278,7 +278,7 @@ abbrev pub object_target : TenantState → OpenObject → Option Target
 object_target s (object.Map handle) = option_map (λ t. target.Map t.shape) (live s handle)
 object_target s (object.Program l) = Some target.Program
 
--- a descriptor with its object, as a list of one or, if it is not open, of none
+-- the list of this descriptor with its object; the empty list if it is not open (None)
 abbrev pub entry_of : ℕ → Option Target → List Named
 entry_of fd None = []
 entry_of fd (Some t) = record { fd = fd; target = t } ∷ []
@@ -300,8 +300,8 @@ named_handle (Some (object.Map handle)) = Some handle
 named_handle (Some (object.Program l)) = None
 named_handle None = None
 
--- the maps that these descriptors name, each with its descriptor; those that name no map are left
--- out
+-- pairs of these descriptors and the handles of the maps that they name; a descriptor that names no
+-- map is left out
 unfoldable pub handles_from : List (Option OpenObject) → List ℕ → List (ℕ × ℕ)
 handles_from objects [] = []
 handles_from objects (fd ∷ fds) =

@@ -31,8 +31,8 @@ pub struct Batch<'a> {
 /// bytes or add a key of 512, and take as long as some 128 instructions.
 pub const CALL_WEIGHT: u32 = 128;
 
-/// What a run counts for in the bound of a batch, in instructions, by the cost of its program: the most that it executes, and `CALL_WEIGHT`
-/// more for each of the most calls of helpers.
+/// What a run counts for in the bound of a batch, in instructions, by the cost of its program: the most instructions that a run executes,
+/// and `CALL_WEIGHT` for each of the most calls of helpers that it makes.
 fn run_weight(cost: Cost) -> u64
     ensures { result ≡ run_weight cost }
 {
@@ -51,9 +51,9 @@ fn allowed(bound: u64, cost: u64, packets: usize) -> usize
 }
 
 impl Tenant {
-    /// How many of the `packets` of a batch a bound allows. By its cost, each run of the program at the descriptor counts for its most
-    /// instructions, and `CALL_WEIGHT` more for each call of a helper. As many packets are allowed as count for at most `bound` together,
-    /// but at least one. All are if `bound` is 0, or if the descriptor names no program: such a batch is rejected.
+    /// How many of the `packets` of a batch a bound allows. Each run of the program at the descriptor counts for the most instructions that
+    /// a run executes, and `CALL_WEIGHT` for each of the most calls of helpers that it makes. As many packets are allowed as count for at
+    /// most `bound` together, but at least one. All are if `bound` is 0, or if the descriptor names no program: such a batch is rejected.
     #[tactic(auto, using(crate::proofs::Bounds::weights_are_positive, crate::proofs::Bounds::all_allowed, crate::proofs::Bounds::allowed_of_program, crate::proofs::Bounds::allowed_otherwise))]
     pub fn allowed_packets(&self, fd: u32, bound: u64, packets: usize) -> usize
         ensures allowed { IsAllowed (named self.now.objects fd) bound packets result }

@@ -16,7 +16,7 @@ use fd_table::{FIRST, MOST};
 pub struct Counts {
     /// How many live maps it has, which an open descriptor or a loaded program names: 0 to 16.
     pub maps: u32,
-    /// How many keys all its live maps have. An array has all its indices.
+    /// How many keys all its live maps have together. An array has all its indices.
     pub entries: u32,
     /// The bytes that the values of its live maps take, each rounded up to a multiple of eight; at most 262,144 are allowed.
     pub value_bytes: u32,
@@ -50,7 +50,7 @@ impl Tenant {
         ensures count { result ≡ total (λ o. 1) self.now.objects }
         ensures few { result ≤ most }
     {
-        // For the proof: the table has as many entries as there are descriptors. Nothing is done when it runs.
+        // For the proof: the table has one item for each descriptor. Nothing is done when it runs.
         let _ = &self.objects;
         let mut count = 0;
         for fd in FIRST..FIRST + MOST as u32 {
@@ -66,7 +66,7 @@ impl Tenant {
         ensures count { result ≡ total one_program self.now.objects }
         ensures few { result ≤ most }
     {
-        // For the proof: the table has as many entries as there are descriptors. Nothing is done when it runs.
+        // For the proof: the table has one item for each descriptor. Nothing is done when it runs.
         let _ = &self.objects;
         let mut count = 0;
         for fd in FIRST..FIRST + MOST as u32 {

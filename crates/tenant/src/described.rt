@@ -19,7 +19,8 @@ pub const MAP_THERE: u32 = 1;
 /// The `kind` of a `Described` whose descriptor names a program.
 pub const PROGRAM_THERE: u32 = 2;
 
-/// What a descriptor names. Fields that do not belong to its kind are 0. A C struct with the same fields has this layout.
+/// What a descriptor names. Fields that do not belong to a map or a program, whichever it names, are 0. A C struct with the same fields has
+/// this layout.
 #[derive(Clone, Copy, Debug, PartialEq, Eq)]
 #[repr(C)]
 pub struct Described {
@@ -67,7 +68,7 @@ impl Described {
     }
 }
 
-/// The number of a kind of maps in bpf(2).
+/// The number that bpf(2) has for a kind of maps, the type of a map: 1 for hash maps, 2 for arrays.
 pub fn type_number(kind: MapKind) -> u32
     ensures { result ≡ type_number kind }
 {

@@ -36,9 +36,8 @@ pub fn clear_flag_means_alone()
     ensures { ClearFlagMeansAlone }
 {}
 
-/// A refusal of memory changes only what a creation or a load does: its status is `NoMemory`, and only the flag changes. No
-/// other command, and none to which memory is not refused, has the status `NoMemory` or sets the flag; so no verdict on a program is
-/// `NoMemory`.
+/// A law: a refusal of memory changes only what a creation or a load does: its status is `NoMemory`, and only the flag changes. No other
+/// command, and none to which memory is not refused, has the status `NoMemory` or sets the flag; so no verdict on a program is `NoMemory`.
 pub fn refusals_are_reported()
     ensures { RefusalsAreReported }
 {
@@ -46,12 +45,12 @@ pub fn refusals_are_reported()
     verifier::laws::refused_by_a_rule();
 }
 
-/// Only the reply to a creation or a load has the status `NoMemory`.
+/// A law: only the reply to the creation of a map or to a load has the status `NoMemory`.
 pub fn only_creations_and_loads_are_refused()
     ensures { OnlyCreationsAndLoadsAreRefused }
 {}
 
-/// If none of a tenant's replies has the status `NoMemory`, they are those of its machine without refusals, whatever its flag was.
+/// A law: if none of a tenant's replies has the status `NoMemory`, they are those of its machine without refusals, whatever its flag was.
 pub fn unrefused_replies_mean_alone()
     ensures { UnrefusedRepliesMeanAlone }
 {}
@@ -73,7 +72,7 @@ pub fn refused_as_its_frame()
     ensures { RefusedAsItsFrame }
 {}
 
-/// A batch has as many results as packets.
+/// A law: a batch has as many results as packets.
 pub fn one_result_each()
     ensures { OneResultEach }
 {}

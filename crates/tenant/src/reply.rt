@@ -26,9 +26,9 @@ pub enum Reply<'a> {
     Refused(Refusal),
 }
 
-/// Writes the reply to a command, or to one that fails with an error, to `reply`. It repeats the tenant and the command number of `head`,
-/// the head of the command's frame. Each command promises that its result can be written (`IsWritable`), so no cast loses anything. The
-/// contract holds for each state after the command, since no reply has a state in it.
+/// Writes to `reply` what a command returned, a `Reply` or an error. It repeats the tenant and the command number of `head`, the head of
+/// the command's frame. Each command promises that its result can be written (`IsWritable`), so no cast loses anything. The contract holds
+/// for each state after the command, since no reply has a state in it.
 #[inline(always)]
 pub fn write_answer(head: Head, answer: Result<Reply<'_>, Errno>, reply: &mut ReplyBuf)
     requires { IsWritable answer }

@@ -7,7 +7,7 @@ ghost use Rattle.tenant.specs.declared.errno.Errno.TheVariants.{BadAddress};
 use crate::errno::Errno;
 use tagged_model::{MapKind, MapShape, ShapeFault};
 
-/// The kind of maps of a type, by its number in bpf(2); `None` if there is no such kind.
+/// The kind of maps, hash or array, that has this number in bpf(2); `None` for any other number.
 fn map_kind(number: u32) -> Option<MapKind>
     ensures { result ≡ kind_of number }
 {
@@ -22,8 +22,8 @@ fn map_kind(number: u32) -> Option<MapKind>
 ///
 /// # Errors
 ///
-/// `Invalid` if a field is outside its limits or a flag is set, else `TooBig` if the values take too many bytes. `no_fault`: never
-/// `BadAddress`, the error of a run that faults.
+/// `Invalid` if `kind` is no such type, a size or `max_entries` is outside its limits, or a flag is set; else `TooBig` if the values take
+/// too many bytes. `no_fault`: never `BadAddress`, the error of a run that faults.
 pub fn asked_shape(
     kind: u32,
     key_size: u32,

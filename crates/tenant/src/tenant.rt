@@ -71,8 +71,9 @@ pub(crate) fn open(objects: &mut FdTable<OpenObject>, object: OpenObject) -> u32
     }
 }
 
-/// Drops one reference to the map of each handle in `held`, the maps of a program that was closed: its references are still counted, so
-/// there are as many. A map without references is freed, and the areas after its own move down in `part`, the tenant's part.
+/// Drops one reference to the map of each handle in `held`, the maps of a program that was closed. These references are still counted
+/// (`held`), so no count falls below 0. A map without references is freed, and the areas after its own move down in `part`, the tenant's
+/// part.
 fn release_all(maps: &mut Maps, held: &[MapKey], part: &mut [u8])
     requires live { AreHeld maps.old }
     requires held { (handle : ℕ) → times_listed handle held.now ≤ holds_at maps.old handle }
@@ -134,7 +135,7 @@ impl Tenant {
         ensures { IfOk result (λ found. (part : List ℕ) →
             found.items ≡ targets (state_in part self.now)) }
     {
-        // For the proof: the table has as many entries as there are descriptors. Nothing is done when it runs.
+        // For the proof: the table has one item for each descriptor. Nothing is done when it runs.
         let _ = &self.objects;
         let mut found = Vec::with_capacity(alloc, MOST)?;
         for fd in FIRST..FIRST + MOST as u32 {
@@ -145,7 +146,7 @@ impl Tenant {
         Ok(found)
     }
 
-    /// MAP_LOOKUP_ELEM: the bytes of a key's value, borrowed from the tenant's part, which has `PART` bytes.
+    /// MAP_LOOKUP_ELEM: the reply with the bytes of a key's value, borrowed from the tenant's part, which has `PART` bytes.
     ///
     /// # Errors
     ///
@@ -276,7 +277,7 @@ impl Tenant {
         Ok(Reply::Done)
     }
 
-    /// MAP_GET_NEXT_KEY: the key after `key` in the order of the map. After an empty or absent key it is the first.
+    /// MAP_GET_NEXT_KEY: the reply with the key after `key` in the order of the map. After an empty or absent key it is the first.
     ///
     /// # Errors
     ///

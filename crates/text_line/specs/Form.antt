@@ -34,11 +34,11 @@ TokenLayout = List (Option Token)
 abbrev pub space : Option Token
 space = None
 
--- the token of a name
+-- the token of a name, in a layout
 abbrev pub word : List ℕ → Option Token
 word n = Some (name n)
 
--- the token of a symbol
+-- the token of a symbol, in a layout
 abbrev pub sign : List ℕ → Option Token
 sign s = Some (symbol s)
 

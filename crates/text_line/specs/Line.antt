@@ -17,7 +17,8 @@ spelled blank = []
 spelled (label n) = name n ∷ symbol (codes ":") ∷ []
 spelled (code form n) = tokens_of (layout form n)
 
--- the name of a label is empty if the form names none (`false`), and any name if it names one
+-- if the form names no label (`false`), the label's name `n` is empty; if it names one (`true`),
+-- `n` may be any
 abbrev pub NoLabel : Bool → List ℕ → Type 0
 NoLabel true n = Unit {0}
 NoLabel false n = n ≡ []
@@ -32,7 +33,7 @@ IsWellFormed _ = Unit {0}
 abbrev pub IsLine : List ℕ → Line → Type 0
 IsLine bytes line = IsWellFormed line × IsTokens bytes (spelled line)
 
--- the reading of the bytes: `None` if they have none of the forms
+-- the bytes are read as this line; or they are read as no line, and the reading is `None`
 abbrev pub ReadAs : List ℕ → Option Line → Type 0
 ReadAs bytes (Some line) = IsLine bytes line
 ReadAs bytes None = (line : Line) → ¬ IsLine bytes line

@@ -69,17 +69,17 @@ is_zero (Some n) = n == 0
 abbrev pub normal : Number → Number
 normal n = record { negative = n.negative && not (is_zero n.magnitude); magnitude = n.magnitude }
 
--- an operand with a minus only before a negative number
+-- the operand, with 0 for the constant -0
 abbrev pub normal_source : SourceOperand → SourceOperand
 normal_source (source.Number n) = source.Number (normal n)
 normal_source (source.Reg r) = source.Reg r
 
--- an address with a minus only before a negative offset
+-- the address, with 0 for the offset -0
 abbrev pub normal_address : Address → Address
 normal_address at = record { base = at.base; offset = normal at.offset }
 
--- a form with a minus only before negative numbers; jumps are not changed, as `resolved` has
--- equations of its own for them; no other form has a number with a sign
+-- the form with 0 for each number -0; a jump is not changed, as `resolved` has equations of its own
+-- for jumps; no other form has a number with a sign
 abbrev pub normal_form : Form → Form
 normal_form (form.Operation wide dst (operation.Binary op src)) =
     form.Operation wide dst (operation.Binary op (normal_source src))
@@ -98,7 +98,8 @@ abbrev pub placed : ℤ → JumpTarget → JumpTarget
 placed distance (target.Number n) = target.Number (normal n)
 placed distance target.Label = target.Number (number_of distance)
 
--- the form with its label replaced by this distance, and with a minus only before negative numbers
+-- the form with 0 for each number -0, and with this distance, in slots from the next slot, for its
+-- label
 abbrev pub resolved : ℤ → Form → Form
 resolved distance (form.Jump long to) = form.Jump long (placed distance to)
 resolved distance (form.Branch wide cond dst src to) =

@@ -61,12 +61,12 @@ lexeme (number (Some n)) = decimal n
 lexeme (number None) = []
 lexeme (symbol s) = s
 
--- the bytes of an entry of a layout: of its token, or a space
+-- the bytes of one item of a layout: those of its token, or a space
 abbrev pub piece : Option Token → List ℕ
 piece (Some t) = lexeme t
 piece None = 32 ∷ []
 
--- the text of a layout: the bytes of its entries, in order
+-- the text of a layout: the bytes of its items, in order
 abbrev pub laid_out : TokenLayout → List ℕ
 laid_out pieces = flat_map piece pieces
 

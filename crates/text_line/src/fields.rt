@@ -67,7 +67,7 @@ fn next_imm(magnitude: Option<u64>) -> Option<u32>
 }
 
 impl SourceOperand {
-    /// The register of the operand, if it is one, is 0 to 10. A law: `number` shows it, and nothing is done when it runs.
+    /// A law: if the operand is a register, it is 0 to 10. The call of `number` gives the proof this; nothing is done when it runs.
     fn in_range(self)
         ensures { IsSource self }
     {
@@ -76,7 +76,7 @@ impl SourceOperand {
         }
     }
 
-    /// The second operand of an instruction; `None` if its constant doesn't fit 32 bits. In it -0 is 0 (`normal_source`).
+    /// The second operand of an instruction, with -0 as 0 (`normal_source`); `None` if its constant doesn't fit 32 bits.
     fn operand(self) -> Option<Operand>
         ensures found { IfSome result (λ src. source_of src ≡ normal_source self) }
         ensures fits { IfSome result (λ _. source_fits self ≡ true) }
@@ -93,8 +93,8 @@ impl SourceOperand {
 }
 
 impl JumpTarget {
-    /// The offset of a jump in slots, if it is no long one (`false` in the contract): its number, or `distance` for a label. `None` if the
-    /// number doesn't fit 16 bits.
+    /// The offset in slots of a jump that is no long one (`false` in the contract): its number, or `distance` if its target is a label.
+    /// `None` if the number doesn't fit 16 bits.
     fn offset(self, distance: i16) -> Option<i16>
         ensures found { IfSome result (λ n. target.Number (number_of n) ≡ placed distance self) }
         ensures fits { IfSome result (λ _. target_fits false self ≡ true) }
@@ -106,8 +106,8 @@ impl JumpTarget {
         }
     }
 
-    /// The offset of a long jump (`true` in the contract) in slots: its number, or `distance` for a label. `None` if the number doesn't
-    /// fit 32 bits.
+    /// The offset in slots of a long jump (`true` in the contract): its number, or `distance` if its target is a label. `None` if the
+    /// number doesn't fit 32 bits.
     fn long_offset(self, distance: i16) -> Option<i32>
         ensures found { IfSome result (λ n. target.Number (number_of n) ≡ placed distance self) }
         ensures fits { IfSome result (λ _. target_fits true self ≡ true) }

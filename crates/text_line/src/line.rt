@@ -53,8 +53,8 @@ fn sign_extension(wide: bool, tokens: &[Token<'_>]) -> Option<Operation>
     at_end(Operation::SignExtend { from, src }, rest)
 }
 
-/// `found`, an operation that names its destination `dst` on both sides of `=`, if the tokens are this register again, as `r` if `wide`,
-/// else as `w`. `None` if they are anything else.
+/// `found`, an operation whose line names its destination `dst` again at the end, as `r1 = -r1`, if the tokens are only this register, as
+/// `r` if `wide`, else as `w`. `None` if they are anything else.
 #[tactic(auto, unfolding(crate::specs::inside::Reading::parsed_in_place))]
 fn in_place(wide: bool, dst: Reg, found: Operation, tokens: &[Token<'_>]) -> Option<Operation>
     ensures { result ≡ parsed_in_place wide dst found (shown_tokens tokens.now) }
@@ -88,7 +88,7 @@ fn unary(wide: bool, dst: Reg, tokens: &[Token<'_>]) -> Option<Operation>
     in_place(true, dst, Operation::End { how, bits }, rest)
 }
 
-/// The operation with the symbol of `op` on `dst`, an `r` register if `wide`, else `w`, from the tokens after this symbol; `None` if they
+/// An operation on `dst`, an `r` register if `wide`, else `w`, from the tokens after its symbol, which is that of `op`; `None` if they
 /// spell none. The operations of one operand (`unary`) are written with `=`, the symbol of a move (`Mov`).
 #[tactic(auto, unfolding(crate::specs::inside::Reading::parsed_operation))]
 fn operation(wide: bool, op: AluOp, dst: Reg, tokens: &[Token<'_>]) -> Option<Operation>
@@ -264,7 +264,8 @@ fn label<'a>(tokens: &[Token<'a>]) -> Option<&'a str>
     at_end(name, rest)
 }
 
-/// The line of these tokens; `None` if they have none of the forms.
+/// The line of these tokens: blank if there are none, the definition of a label, or an instruction with the label that it names. `None` if
+/// they are none of these.
 #[tactic(auto, unfolding(crate::specs::inside::Reading::line_of))]
 pub(crate) fn line_of<'a>(tokens: &[Token<'a>]) -> Option<Line<'a>>
     ensures { option_map seen_line result ≡ line_of (shown_tokens tokens.now) }

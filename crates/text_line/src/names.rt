@@ -18,7 +18,7 @@ pub(crate) fn atomic_size(signed: bool, size: AccessSize) -> Option<AtomicSize>
     }
 }
 
-/// Whether the name is that of all 64 bits of a register (`r`) or of the low 32 (`w`), and the register; `None` if it names none.
+/// Whether the name is that of all 64 bits of a register (`true`, `r1`) or of the low 32 (`w1`), and the register; `None` if it names none.
 pub(crate) fn register_named(name: &str) -> Option<(bool, Reg)>
     ensures { result ≡ named registers name.now }
 {

@@ -15,7 +15,7 @@ use insn_set::{AccessSize, Reg, size_by_name};
 
 // ---- one token, and the tokens after it
 
-/// The first token, if it is a symbol, and the tokens after it.
+/// The first token, if it is a symbol, and the tokens after it; `None` if it is none, or if there is no token.
 pub(crate) fn symbol<'t, 'a>(tokens: &'t [Token<'a>]) -> Option<(&'a str, &'t [Token<'a>])>
     ensures { seen_label result ≡ leading_symbol (shown_tokens tokens.now) }
 {
@@ -25,7 +25,7 @@ pub(crate) fn symbol<'t, 'a>(tokens: &'t [Token<'a>]) -> Option<(&'a str, &'t [T
     }
 }
 
-/// The first token, if it is a name, and the tokens after it.
+/// The first token, if it is a name, and the tokens after it; `None` if it is none, or if there is no token.
 pub(crate) fn name<'t, 'a>(tokens: &'t [Token<'a>]) -> Option<(&'a str, &'t [Token<'a>])>
     ensures { seen_label result ≡ leading_name (shown_tokens tokens.now) }
 {
@@ -35,7 +35,8 @@ pub(crate) fn name<'t, 'a>(tokens: &'t [Token<'a>]) -> Option<(&'a str, &'t [Tok
     }
 }
 
-/// The value of the first token, if it is a number (`None` from 2 ^ 64 on), and the tokens after it.
+/// The value of the first token, if it is a number, and the tokens after it; the value is `None` from 2 ^ 64 on. The result is `None` if
+/// the token is no number, or if there is no token.
 pub(crate) fn number<'t, 'a>(tokens: &'t [Token<'a>]) -> Option<(Option<u64>, &'t [Token<'a>])>
     ensures { seen_pair result ≡ leading_number (shown_tokens tokens.now) }
 {
@@ -172,8 +173,8 @@ pub(crate) fn destination<'a>(tokens: &[Token<'a>]) -> Option<(JumpTarget, &'a s
     }
 }
 
-/// A memory operand, as `*(u32 *)(r6 + 0)`, and the tokens after it: whether its size is written as signed (as `s32`), the size, and
-/// the address. `None` if the tokens begin with none.
+/// A memory operand, as `*(u32 *)(r6 + 0)`: whether its size is written as signed (as `s32`), the size, and the address; and the tokens
+/// after it. `None` if the tokens begin with none.
 #[tactic(auto, unfolding(crate::specs::inside::Reading::leading_address))]
 pub(crate) fn address<'t, 'a>(
     tokens: &'t [Token<'a>],

@@ -16,12 +16,12 @@ ghost use Rattle.text_line.specs.inside.Class.{in_class, IsDigits};
 use crate::blanks::is_blank;
 use std::alloc::{AllocError, Global};
 
-/// A token.
+/// A token of a line. Names and symbols are borrowed from the line.
 #[derive(Clone, Copy, Debug)]
 pub(crate) enum Token<'a> {
     /// A letter or `_`, and the letters, digits and `_` after it.
     Name(&'a str),
-    /// A number's value; `None` from 2 ^ 64 on.
+    /// The value of a number, whose sign is a symbol before it; `None` from 2 ^ 64 on.
     Number(Option<u64>),
     /// One of `SYMBOLS`.
     Symbol(&'a str),
@@ -56,7 +56,7 @@ fn first_len(text: &[u8], symbols: &[&str]) -> usize
     0
 }
 
-/// The classes of bytes in blanks, names and numbers.
+/// Classes of bytes: blanks, the bytes of a name after its first, decimal digits, and hexadecimal ones.
 #[derive(Clone, Copy, Debug)]
 enum ByteClass {
     Blank,

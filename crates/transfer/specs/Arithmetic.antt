@@ -44,31 +44,32 @@ distance r =
 
 -- ---- moved pointers: forwards by a sum, backwards by a difference
 
--- the offset; None if it is too far from 0
+-- the offset; None if it is farther than `farthest_offset` from 0
 abbrev pub near_offset : ℤ → Option ℤ
 near_offset x = if is_near x then Some x else None
 
--- offset x moved by d bytes; None if it is too far from 0 then
+-- offset x moved by d bytes; None if it is then farther than `farthest_offset` from 0
 abbrev pub moved_offset : Direction → ℤ → ℤ → Option ℤ
 moved_offset Forwards x d = near_offset (x +ℤ d)
 moved_offset Backwards x d = near_offset (x -ℤ d)
 
--- the result if there is one; else the pointer is moved too far
+-- the result if there is one; else OffsetTooLarge: the pointer would be too far from 0
 abbrev pub near : {A : Type 0} → Option A → Result A Reason
 near None = Err OffsetTooLarge
 near (Some x) = Ok x
 
--- the kind of the stack pointer at offset x, moved by the one number of a range; an error if it is
--- too far then
+-- the kind of the stack pointer at offset x, moved by the one number of a range; OffsetTooLarge if
+-- it is then too far from 0
 abbrev pub stack_moved : Direction → ℤ → Range → Result Kind Reason
 stack_moved way x r =
     and_then_ok (near (and_then (distance r) (λ d. moved_offset way x d.0))) (λ y. Ok (Stack y))
 
--- a pointer into a value, from the least offset to the greatest; None if one of them is too far
+-- a pointer into a value of this map, at an offset from `low` to `high`; None if one of these is
+-- None, too far from 0
 abbrev pub spanned : ℕ → Option ℤ → Option ℤ → Option ValuePointer
 spanned map low high = and_then low (λ lo. and_then high (λ hi. Some (value_span map lo hi)))
 
--- a pointer into a value, moved by a number of a distance; None if it may be too far then.
+-- pointer p into a value, moved by a number from d.0 to d.1; None if it may be too far from 0 then.
 -- Backwards the greatest number leads to the least offset
 abbrev pub value_by : Direction → ValuePointer → Distance → Option ValuePointer
 value_by Forwards p d =
@@ -76,14 +77,15 @@ value_by Forwards p d =
 value_by Backwards p d =
     spanned p.map (moved_offset Backwards p.lo d.1) (moved_offset Backwards p.hi d.0)
 
--- the kind of a pointer into a value, moved by a number of a range; an error if it may be too far
--- then, or if the range has numbers of both signs
+-- the kind of pointer p into a value, moved by a number of a range; OffsetTooLarge if it may be too
+-- far from 0 then, or if the range has numbers of both signs
 abbrev pub value_moved : Direction → ValuePointer → Range → Result Kind Reason
 value_moved way p r =
     and_then_ok (near (and_then (distance r) (value_by way p))) (λ q. Ok (Value q))
 
--- the kind of a pointer that is moved by a number of a range: a stack pointer by a constant, a
--- pointer into a value by any number. An error for any other kind, or if it may be too far then
+-- the kind of a pointer, moved by a number of a range: a stack pointer by a constant, a pointer
+-- into a value by any number. PointerArithmetic for all else; OffsetTooLarge if it may be too far
+-- from 0 then, or if the range has numbers of both signs
 abbrev pub pointer_moved : Direction → Kind → Range → Result Kind Reason
 pointer_moved way (Stack x) r = if is_constant r then stack_moved way x r else Err PointerArithmetic
 pointer_moved way (Value p) r = value_moved way p r
@@ -96,29 +98,30 @@ abbrev pub is_maybe : Kind → Bool
 is_maybe (MaybeValue m site) = true
 is_maybe k = false
 
--- the kind of an operator's result on two numbers, of 64 bits (true) or 32; an error if one of them
--- is no number
+-- the kind of an operator's result on two numbers, of 64 bits (true) or 32; PointerArithmetic if
+-- one of them is no number
 abbrev pub of_scalars : Bool → Operator → Kind → Kind → Result Kind Reason
 of_scalars wide op (Scalar a) (Scalar b) = Ok (Scalar (range_of (width wide) op a b))
 of_scalars wide op a b = Err PointerArithmetic
 
--- the kind of a 64-bit sum: of two numbers, or of a pointer and a number in either order; an error
--- for other operands, or if the pointer may not be moved so
+-- the kind of a 64-bit sum: of two numbers, or of a pointer and a number in either order;
+-- PointerArithmetic for other operands, or the reason of `pointer_moved`
 abbrev pub sum_kind : Kind → Kind → Result Kind Reason
 sum_kind (Scalar a) (Scalar b) = of_scalars true (Binary alu.Add) (Scalar a) (Scalar b)
 sum_kind (Scalar a) b = pointer_moved Forwards b a
 sum_kind a (Scalar b) = pointer_moved Forwards a b
 sum_kind a b = Err PointerArithmetic
 
--- the kind of a 64-bit difference: of two numbers, or a pointer minus a number; an error for other
--- operands, or if the pointer may not be moved so
+-- the kind of a 64-bit difference: of two numbers, or a pointer minus a number; PointerArithmetic
+-- for other operands, or the reason of `pointer_moved`
 abbrev pub difference_kind : Kind → Kind → Result Kind Reason
 difference_kind (Scalar a) (Scalar b) = of_scalars true (Binary alu.Sub) (Scalar a) (Scalar b)
 difference_kind (Scalar a) b = Err PointerArithmetic
 difference_kind a (Scalar b) = pointer_moved Backwards a b
 difference_kind a b = Err PointerArithmetic
 
--- the result r, unless an operand is a look-up that may be null: it may not be moved
+-- the result r; MaybeNull if operand a or b is a look-up that may be null, since it may not be
+-- moved
 abbrev pub unless_maybe : Kind → Kind → Result Kind Reason → Result Kind Reason
 unless_maybe a b r = if is_maybe a || is_maybe b then Err MaybeNull else r
 

@@ -58,8 +58,8 @@ number_edges wide cond f dst src a b =
 
 -- ---- tests of pointers for null
 
--- the edges of a test that jumps on null (true), or on not null, from the facts if it is null and
--- those if it is not; None for a case that can't be
+-- the edges of a null test that jumps on null (true) or on not null. `null` are the facts if the
+-- result is null, `value` those if it is not; None for a case that can't be
 abbrev pub null_edges : Bool → Option Facts → Option Facts → Edges
 null_edges true null value = record { falling = value; jumping = null }
 null_edges false null value = record { falling = null; jumping = value }
@@ -78,8 +78,8 @@ pointer_edges cond f k = null_edges (not (holds_of_pointers cond)) None (Some f)
 
 -- ---- numbers and pointers
 
--- the edges of a conditional jump on operands of these kinds, which may be read (`effect_of`), a
--- comparison of 64 bits (true) or 32: of two numbers, or a null test; an error for any other
+-- the edges of a conditional jump on operands of these kinds, which `effect_of` has found readable,
+-- a comparison of 64 bits (true) or 32: of two numbers, or a null test; else PointerComparison
 abbrev pub branch_edges : Bool → Condition → Facts → ℕ → Operand → Kind → Kind → Result Edges Reason
 branch_edges wide cond f dst src (Scalar a) (Scalar b) = Ok (number_edges wide cond f dst src a b)
 branch_edges wide cond f dst src (Scalar a) k = Err PointerComparison

@@ -20,18 +20,18 @@ use Rattle.tagged_model.specs.Named.{Shapes}
 use Rattle.transfer.specs.declared.calls.ShapedMap.{ShapedMap}
 use Rattle.transfer.specs.Arithmetic.{check_readable}
 
--- the map of descriptor m with its shape; an argument by a descriptor without a shape is no map
+-- the map of descriptor m with its shape; HelperArgument if the descriptor has no shape (None)
 abbrev pub shaped : ℕ → Option MapShape → Result ShapedMap Reason
 shaped m None = Err HelperArgument
 shaped m (Some shape) = Ok (record { descriptor = m; shape = shape })
 
--- the map that an argument of this kind is
+-- the map that an argument of this kind is; HelperArgument if it is none
 abbrev pub map_kind : Shapes → Kind → Result ShapedMap Reason
 map_kind shapes (kind.MapRef m) = shaped m (shapes m)
 map_kind shapes k = Err HelperArgument
 
--- n bytes, `off` bytes from each offset of a pointer, lie in the value of its map; they do not if
--- its descriptor names no map (None)
+-- Ok if the n bytes that start `off` bytes from a pointer lie in its value, for each offset that it
+-- may have; else OutsideValue, also if its descriptor has no shape (None)
 abbrev pub room_of : ValuePointer → ℤ → ℕ → Option MapShape → Result (Unit {0}) Reason
 room_of p off n None = Err OutsideValue
 room_of p off n (Some shape) =
@@ -39,7 +39,7 @@ room_of p off n (Some shape) =
     then Ok tt
     else Err OutsideValue
 
--- n bytes at an argument of this kind may be read; or the first reason against it
+-- Ok if a helper may read n bytes at an argument of this kind; or the first reason against it
 abbrev pub input_kind : Shapes → Facts → ℕ → Kind → Result (Unit {0}) Reason
 input_kind shapes f n (kind.Stack x) = stack_input f x n
 input_kind shapes f n (kind.Value p) = room_of p (pos 0) n (shapes p.map)
@@ -55,7 +55,7 @@ output_facts shapes f r (kind.Value p) =
 output_facts shapes f r (kind.MaybeValue m site) = Err MaybeNull
 output_facts shapes f r k = Err HelperArgument
 
--- the range of an argument that has to be a number
+-- the range of an argument that has to be a number; HelperArgument if it is none
 abbrev pub number_kind : Kind → Result Range Reason
 number_kind (kind.Scalar r) = Ok r
 number_kind k = Err HelperArgument
@@ -65,24 +65,25 @@ number_kind k = Err HelperArgument
 abbrev pub lengths_end : ℕ
 lengths_end = 2 ^ 29
 
--- the range of an argument that has to be a length: all of it is above 0, and below `lengths_end`
+-- the range of an argument that has to be a length: HelperArgument if it is no number,
+-- LengthUnbounded unless all of it is above 0 and below `lengths_end`
 abbrev pub length_kind : Kind → Result Range Reason
 length_kind (kind.Scalar r) =
     if r.lo == 0 || nat_le lengths_end r.hi then Err LengthUnbounded else Ok r
 length_kind k = Err HelperArgument
 
--- the argument has to be the context
+-- Ok if the argument is the context, else HelperArgument
 abbrev pub context_kind : Kind → Result (Unit {0}) Reason
 context_kind kind.Ctx = Ok tt
 context_kind k = Err HelperArgument
 
--- what `go` gives for the kinds of registers 1 and 2; an error if one of them may not be read
+-- what `go` gives for the kinds of registers 1 and 2; UnreadableRegister if one may not be read
 abbrev pub readable_two : Facts → (Kind → Kind → Result Facts Reason) → Result Facts Reason
 readable_two f go =
     and_then_ok (check_readable (kind_at f 1))
     (λ a. and_then_ok (check_readable (kind_at f 2)) (λ b. go a b))
 
--- what `go` gives for the kinds of registers 1 to 4; an error if one of them may not be read
+-- what `go` gives for the kinds of registers 1 to 4; UnreadableRegister if one may not be read
 abbrev pub readable_four : Facts → (Kind → Kind → Kind → Kind → Result Facts Reason)
     → Result Facts Reason
 readable_four f go =
@@ -95,10 +96,10 @@ readable_four f go =
 abbrev pub any_number : Kind
 any_number = kind.Scalar (full 64)
 
--- the facts after a call at slot `at`, which is the site of a look-up, or the first condition that
--- fails. The arguments a to d, in registers 1 to 4, are a map, a key, and for Update a value and
--- flags; for LoadBytes the context, an offset in the packet, which may be any number, the target
--- and the length
+-- the facts after a call at slot `at`, which is the site of a look-up, or the reason of the first
+-- condition that fails. The arguments a to d, in registers 1 to 4, are a map, a key, and for Update
+-- a value and flags; for LoadBytes the context, an offset in the packet, which may be any number,
+-- the target and the length
 abbrev pub call_facts : Shapes → ℕ → Helper → Facts → Result Facts Reason
 call_facts shapes at LookUp f =
     readable_two f (λ a b.

@@ -53,25 +53,27 @@ abbrev pub first_kind : AluOp → Kind → Result Kind Reason
 first_kind alu.Mov k = Ok (kind.Scalar (constant 0))
 first_kind op k = check_readable k
 
--- the edge to the next instruction, after the register is assigned a value of the kind r, if r is
--- no reason against it
+-- the edge to the next instruction, after register dst is assigned a value of the kind in r; or the
+-- reason in r
 abbrev pub assigns : Facts → ℕ → Result Kind Reason → Result Edges Reason
 assigns f dst r = and_then_ok r (λ k. falls (with_kind f dst k))
 
 -- ---- memory
 
--- this is the offset of a word of the context: words have four bytes, and each is loaded whole
+-- whether the offset is that of a word of the context: words have four bytes, and each is loaded
+-- whole
 abbrev pub is_word : ℤ → Bool
 is_word (pos y) = (y % 4 == 0) && nat_lt y (4 * context_words)
 is_word (negsuc y) = false
 
--- the kind of a load at offset y of the context: a whole word, zero-extended (false)
+-- the kind of a load at offset y of the context: of a whole word, zero-extended (false); or
+-- ContextAccess
 abbrev pub context_read : ℤ → AccessSize → Bool → Result Kind Reason
 context_read y Word false = if is_word y then Ok (kind.Scalar (full 32)) else Err ContextAccess
 context_read y size signed = Err ContextAccess
 
 -- the kind of a load, sign-extended (true) or not, `off` bytes from an address of this kind, which
--- may be read (`effect_of`); or the first reason against it
+-- `effect_of` has found readable; or the first reason against it
 abbrev pub load_kind : Shapes → Facts → AccessSize → Bool → ℤ → Kind → Result Kind Reason
 load_kind shapes f size signed off (kind.Stack x) = stack_read f (x +ℤ off) size signed
 load_kind shapes f size signed off kind.Ctx = context_read off size signed
@@ -80,13 +82,13 @@ load_kind shapes f size signed off (kind.Value p) =
 load_kind shapes f size signed off (kind.MaybeValue m site) = Err MaybeNull
 load_kind shapes f size signed off k = Err NotPointer
 
--- the facts after a store of a value of kind v into the value of a map: a pointer or a map may not
--- be stored there, and no fact changes. That v may be read is checked before (`access_edges`)
+-- the facts after a store of a value of kind v into the value of a map: they are unchanged, or
+-- PointerStored if v is a pointer or a map. That v may be read is checked before (`access_edges`)
 abbrev pub stored_outside : Facts → Kind → Result Facts Reason
 stored_outside f v = if is_pointer v then Err PointerStored else Ok f
 
 -- the facts after a store of a value of kind v, `off` bytes from an address of this kind, both of
--- which may be read (`access_edges`, `effect_of`); or the first reason against it
+-- which `access_edges` and `effect_of` have found readable; or the first reason against it
 abbrev pub store_facts : Shapes → Facts → AccessSize → ℤ → Kind → Kind → Result Facts Reason
 store_facts shapes f size off (kind.Stack x) v = stack_write f (x +ℤ off) size v
 store_facts shapes f size off kind.Ctx v = Err ContextAccess
@@ -97,13 +99,14 @@ store_facts shapes f size off k v = Err NotPointer
 
 -- ---- atomic operations: they load a number and store one at its address, so no other fact changes
 
--- the kind is that of a number, or else this is the reason
+-- Ok if the kind is that of a number, else the reason
 abbrev pub number_or : Reason → Kind → Result (Unit {0}) Reason
 number_or reason (kind.Scalar r) = Ok tt
 number_or reason k = Err reason
 
 -- the facts after an atomic operation at offset y of the stack: it loads a number, and stores a
--- number that may be any; an error also if a whole spill is there
+-- number that may be any. The errors are those of the load, and PartOfSpill also if a whole spill
+-- is there
 abbrev pub stack_changed : Facts → ℤ → AccessSize → Result Facts Reason
 stack_changed f y size =
     and_then_ok (stack_read f y size false)
@@ -114,8 +117,8 @@ abbrev pub is_known_multiple : ValuePointer → ℤ → AccessSize → Bool
 is_known_multiple p off size = int_eq p.lo p.hi && is_multiple (p.lo +ℤ off) (bytes_of size)
 
 -- the facts after an atomic operation `off` bytes from a pointer into a value of a map with this
--- shape: they are unchanged. An error if the map has no shape (None), the bytes are not all in the
--- value, or the offset is not known to be a multiple of the size
+-- shape: they are unchanged. OutsideValue if the map has no shape (None) or the bytes are not all
+-- in the value; UnalignedAtomic if the offset is not known to be a multiple of the size
 abbrev pub value_changed : Facts → ValuePointer → ℤ → AccessSize → Option MapShape
     → Result Facts Reason
 value_changed f p off size o =
@@ -123,8 +126,8 @@ value_changed f p off size o =
     (λ _. if is_known_multiple p off size then Ok f else Err UnalignedAtomic)
 
 -- the facts after an atomic operation with an operand of kind v, `off` bytes from an address of
--- this kind, both of which may be read (`access_edges`, `effect_of`); or the first reason against
--- it
+-- this kind, both of which `access_edges` and `effect_of` have found readable; or the first reason
+-- against it
 abbrev pub atomic_facts : Shapes → Facts → AccessSize → ℤ → Kind → Kind → Result Facts Reason
 atomic_facts shapes f size off (kind.Stack x) v =
     and_then_ok (number_or PointerArithmetic v) (λ _. stack_changed f (x +ℤ off) size)
@@ -137,13 +140,14 @@ atomic_facts shapes f size off k v = Err NotPointer
 -- ---- maps and calls: it is a fault of the program's shape if a descriptor names no map, or one
 -- without this direct value, or if a helper is unknown
 
--- the kind of the map with descriptor m, whose shape is given; an error if it names none (None)
+-- the `Kind` of a register that has the map of descriptor m, given its shape; DescriptorNotMap if
+-- it has none (None)
 abbrev pub map_of : ℕ → Option MapShape → Result Kind Reason
 map_of m None = Err DescriptorNotMap
 map_of m (Some shape) = Ok (kind.MapRef m)
 
--- a pointer to the direct value of the map with descriptor m, whose shape is given, at an offset in
--- it; an error if there is no map (None), or it has no direct value there
+-- the kind of a pointer to this offset of map m's direct value, given m's shape; DescriptorNotMap
+-- if m has none (None), NoDirectValue if the map has no direct value there
 unfoldable pub value_of : ℕ → ℕ → Option MapShape → Result Kind Reason
 value_of m offset None = Err DescriptorNotMap
 value_of m offset (Some shape) =
@@ -151,19 +155,20 @@ value_of m offset (Some shape) =
     then Ok (kind.Value (value_span m (pos offset) (pos offset)))
     else Err NoDirectValue
 
--- the helper; an error if it is unknown (None)
+-- the helper; UnknownHelper if it is unknown (None)
 abbrev pub known : Option Helper → Result Helper Reason
 known None = Err UnknownHelper
 known (Some h) = Ok h
 
 -- ---- the end of a run
 
--- the end of a run with a result of this kind, which has to be a number; there is no edge
+-- the end of a run with a result of this kind: there is no edge; ResultNotScalar if it is no number
 abbrev pub exits_with : Kind → Result Edges Reason
 exits_with (kind.Scalar r) = ends
 exits_with k = Err ResultNotScalar
 
--- the end of a run, whose result is in register 0
+-- the end of a run: there is no edge; or the reason, if register 0, the result, may not be read or
+-- is no number
 abbrev pub exit_edges : Facts → Result Edges Reason
 exit_edges f = and_then_ok (check_readable (kind_at f 0)) exits_with
 
@@ -186,8 +191,8 @@ unary_edges wide op dst src f =
 
 -- ---- accesses and wide loads
 
--- the edge after an access, `off` bytes from an address of kind k, which may be read (`effect_of`);
--- or the first reason against it
+-- the edge after an access, `off` bytes from an address of kind k, which `effect_of` has found
+-- readable; or the first reason against it
 abbrev pub access_edges : Shapes → Facts → Access → ℤ → Kind → Result Edges Reason
 access_edges shapes f (loads size signed dst) off k =
     assigns f dst (load_kind shapes f size signed off k)

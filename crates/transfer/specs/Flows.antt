@@ -1,6 +1,6 @@
 -- The edges out of an instruction, with their facts, from what `apply` returns (a `Flow`: the edges
--- that control may take, with what holds on only one) and the facts that it leaves, which hold on
--- all. This project's own.
+-- that control may take, with what holds on only one) and from the facts that it has changed, which
+-- hold on all. This project's own.
 use Rattle.std.specs.Prelude.{Some, None, option_map}
 use Rattle.reg_kinds.specs.declared.facts.Facts.{Facts}
 use Rattle.transfer.specs.declared.branches.Flow.{Flow}
@@ -8,7 +8,7 @@ use Rattle.transfer.specs.declared.branches.Flow.TheVariants.{Ends, Falls, Write
 use Rattle.reg_kinds.specs.Stack.{ChangesAtMost}
 use Rattle.transfer.specs.Branches.{Edges, with_pair, settled_edges}
 
--- the edges that a flow means, if f are the facts that `apply` leaves
+-- the edges that a flow means, with their facts: f are the facts as `apply` has changed them
 abbrev pub edges_of : Flow → Facts → Edges
 edges_of Ends f = record { falling = None; jumping = None }
 edges_of Falls f = record { falling = Some f; jumping = None }
@@ -23,8 +23,8 @@ edges_of (Compares dst src falls jumps) f =
     }
 edges_of (Settles site jumps_on_null) f = settled_edges jumps_on_null site f
 
--- the stack of facts g is that of facts f, but for the slot that the flow names as perhaps written;
--- after a flow that names all (`Writes`), any slot may differ
+-- the stack of facts g, after an instruction, is that of facts f, before it, except in the stack
+-- slot that the flow names; after a flow that names all (`Writes`), any slot may differ
 abbrev pub KeepsStack : Flow → Facts → Facts → Type 0
 KeepsStack (WritesSlot i) f g = ChangesAtMost (Some i) f g
 KeepsStack Writes f g = Unit {0}

@@ -51,16 +51,17 @@ IsNoValue shapes (names.Map fd) = ⊥
 IsNoValue shapes (names.Value fd off) =
     (shape : MapShape) × (shapes fd ≡ Some shape) × (has_direct_value shape off ≡ false)
 
--- an instruction of this group (`View` of `insn_set`) may be rejected for this reason: it is one of
--- the shape, and applies to the instruction, or it is from the kinds of the operands
+-- an instruction of this group (`View` of `insn_set`) may be rejected for this reason: the reason
+-- is one of a program's shape, and applies to the instruction, or it is from the kinds of the
+-- operands
 abbrev pub IsReasonFor : Shapes → View → Reason → Type 0
 IsReasonFor shapes v UnknownHelper = IsUnknownHelper (profile_of v).reference
 IsReasonFor shapes v DescriptorNotMap = IsUnshapedMap shapes (profile_of v).reference
 IsReasonFor shapes v NoDirectValue = IsNoValue shapes (profile_of v).reference
 IsReasonFor shapes v reason = IsSafetyReason reason
 
--- the instruction may be rejected for this reason: it is one of the shape, and applies to the
--- instruction, or it is from the kinds of the operands
+-- the instruction may be rejected for this reason: the reason is one of a program's shape, and
+-- applies to the instruction, or it is from the kinds of the operands
 abbrev pub IsReasonOf : Shapes → Insn → Reason → Type 0
 IsReasonOf shapes i reason = IsReasonFor shapes (view i) reason
 

@@ -77,17 +77,17 @@ abbrev pub TakenEdgeAdmits : Bool → Shapes → ℕ → Option ℕ → Edges �
 TakenEdgeAdmits true shapes next target edges t = EdgeAdmits shapes edges.jumping target t
 TakenEdgeAdmits false shapes next target edges t = EdgeAdmits shapes edges.falling (Some next) t
 
--- the step is no fault; if it goes on, the edge that it takes admits the state after it, and if the
--- run ends, its result has 32 bits
+-- the step of instruction i in state s is no fault; if it goes on, the edge that it takes admits
+-- the state after it, and if the run ends, its result has 32 bits
 abbrev pub CoversStep : Shapes → Insn → RunState → Edges → Step → Type 0
 CoversStep shapes i s edges (goes t) =
     TakenEdgeAdmits (takes_jump i s) shapes (falls_to i s.at) (jumps_to i s.at) edges t
 CoversStep shapes i s edges (ends n) = n < 2 ^ 32
 CoversStep shapes i s edges faults = ⊥
 
--- soundness: if facts describe a state and let an instruction be run that does not jump below slot
--- 0, its step is no fault, and the edge that it takes admits the state after it; the state has a
--- map of each shape, and so has the next one
+-- soundness: if well-formed facts describe a state and let an instruction be run that does not jump
+-- below slot 0, its step is no fault, and the edge that it takes admits the state after it.
+-- `Describes` includes that the state has a map of each shape
 abbrev pub TransferIsSound : Type 0
 TransferIsSound =
     (witness : Witness) (shapes : Shapes) (i : Insn) (f : Facts) (s : RunState) (edges : Edges)
@@ -118,15 +118,15 @@ TransferKeepsWellFormed =
 
 -- ---- calls
 
--- after a call the state is at the same slot, and these facts describe it, by a witness that may be
--- different: it has the result of a new look-up
+-- state u, after a call in state s, is at the same slot, and facts g describe it, by a witness that
+-- may be different: it has the result of a new look-up
 pub record CallIsAdmitted (g : Facts) (shapes : Shapes) (s u : RunState) : Type 0 where
   pub witness : Witness
   pub still : Describes witness g shapes u
   pub at : u.at ≡ s.at
 
--- if facts describe a state and allow a call, the machine has a step for it, and the facts after it
--- describe the state after it
+-- if facts, with all sites below its slot, describe a state and allow a call, the machine has a
+-- step for it, and the facts after it describe the state after it
 abbrev pub CallsAreSound : Type 0
 CallsAreSound =
     (witness : Witness) (shapes : Shapes) (h : Helper) (f g : Facts) (s : RunState)

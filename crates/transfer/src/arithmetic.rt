@@ -30,8 +30,8 @@ pub(crate) fn check_readable(kind: Kind) -> Result<Kind, Reason>
     }
 }
 
-/// The least and the greatest number of a range, read as signed, by which it moves a pointer; `None` unless all its numbers have one sign:
-/// numbers from 2^63 on are negative.
+/// The least and the greatest distance, in bytes, by which a number of this range moves a pointer: the range's ends, read as signed.
+/// Numbers from 2^63 on are negative. `None` unless all numbers of the range have one sign.
 fn distance(range: Range) -> Option<(i64, i64)>
     ensures value { result ≡ distance range }
     ensures ordered { IfSome result (λ d. d.0 ≤ℤ d.1) }
@@ -69,8 +69,9 @@ fn moved_backwards(offset: i32, by: i64) -> Option<i32>
     }
 }
 
-/// The kind of a stack pointer that is moved by the constant in `range`. `OffsetTooLarge` if it is then too far. The range of a constant
-/// always has a distance, whose two ends are the same.
+/// The kind of a stack pointer at `offset` after it is moved by the number of `range`, a constant, as the caller has tested.
+/// `OffsetTooLarge` if it is then farther than `FARTHEST_OFFSET` from 0. `distance` of a constant is never `None`, and its two ends are the
+/// same.
 fn stack_moved(way: Direction, offset: i32, range: Range) -> Result<Kind, Reason>
     ensures { result ≡ stack_moved way offset range }
 {
@@ -87,8 +88,8 @@ fn stack_moved(way: Direction, offset: i32, range: Range) -> Result<Kind, Reason
     }
 }
 
-/// A pointer into a value, moved by a number from `least` to `greatest`; `None` if it may be too far then. Backwards, the greatest number
-/// leads to the least offset.
+/// `pointer`, moved by a number from `least` to `greatest`; `None` if its offset may then be farther than `FARTHEST_OFFSET` from 0.
+/// Backwards, the greatest number leads to the least offset.
 fn value_by(
     way: Direction,
     pointer: ValuePointer,
@@ -112,8 +113,8 @@ fn value_by(
     }
 }
 
-/// The kind of a pointer into a value that is moved by a number in `range`. `OffsetTooLarge` if it may be too far then, or if the range has
-/// numbers of both signs.
+/// The kind of `pointer` after it is moved by a number in `range`. `OffsetTooLarge` if its offset may then be farther than
+/// `FARTHEST_OFFSET` from 0, or if the range has numbers of both signs.
 fn value_moved(way: Direction, pointer: ValuePointer, range: Range) -> Result<Kind, Reason>
     ensures { result ≡ value_moved way pointer range }
 {
@@ -126,8 +127,9 @@ fn value_moved(way: Direction, pointer: ValuePointer, range: Range) -> Result<Ki
     }
 }
 
-/// The kind of a pointer that is moved by a number in `range`. `PointerArithmetic` unless it is a stack pointer, moved by a constant, or a
-/// pointer into a value; `OffsetTooLarge` if it may be too far then.
+/// The kind that a pointer of the kind `pointer` has after it is moved by a number in `range`. `PointerArithmetic` unless it is a stack
+/// pointer and the number a constant, or a pointer into a value; `OffsetTooLarge` if its offset may then be farther than `FARTHEST_OFFSET`
+/// from 0, or if the range has numbers of both signs.
 fn pointer_moved(way: Direction, pointer: Kind, range: Range) -> Result<Kind, Reason>
     ensures { result ≡ pointer_moved way pointer range }
 {
@@ -161,15 +163,15 @@ fn of_scalars(wide: bool, op: Operator, a: Kind, b: Kind) -> Result<Kind, Reason
 }
 
 /// The kind of an operator's result on one number, of 64 bits (`wide`) or 32. `PointerArithmetic` if it is no number. The operator has one
-/// operand, which is passed as the first and as the second.
+/// operand, which `of_scalars` gets as the first and as the second.
 pub(crate) fn of_scalar(wide: bool, op: Operator, kind: Kind) -> Result<Kind, Reason>
     ensures { result ≡ of_scalar wide op kind }
 {
     of_scalars(wide, op, kind, kind)
 }
 
-/// The kind of a 64-bit sum, of two numbers or of a pointer and a number in either order. `PointerArithmetic` for any other operands, or if
-/// this number may not move the pointer; `OffsetTooLarge` if it may be too far then.
+/// The kind of a 64-bit sum, of two numbers or of a pointer and a number in either order. `PointerArithmetic` for any other operands, and
+/// `PointerArithmetic` or `OffsetTooLarge` if `pointer_moved` does not allow the pointer to be moved by the number.
 fn sum(a: Kind, b: Kind) -> Result<Kind, Reason>
     ensures { result ≡ sum_kind a b }
 {
@@ -181,8 +183,8 @@ fn sum(a: Kind, b: Kind) -> Result<Kind, Reason>
     }
 }
 
-/// The kind of a 64-bit difference, of two numbers or a pointer minus a number. `PointerArithmetic` for any other operands, or if this
-/// number may not move the pointer; `OffsetTooLarge` if it may be too far then.
+/// The kind of a 64-bit difference, of two numbers or a pointer minus a number. `PointerArithmetic` for any other operands, and
+/// `PointerArithmetic` or `OffsetTooLarge` if `pointer_moved` does not allow the pointer to be moved by the number.
 fn difference(a: Kind, b: Kind) -> Result<Kind, Reason>
     ensures { result ≡ difference_kind a b }
 {
@@ -194,7 +196,7 @@ fn difference(a: Kind, b: Kind) -> Result<Kind, Reason>
     }
 }
 
-/// Whether a value is the result of a look-up that may be null.
+/// Whether the kind is that of a look-up's result before its null test, which may be null.
 fn is_maybe(kind: Kind) -> bool
     ensures { result ≡ is_maybe kind }
 {
@@ -202,8 +204,9 @@ fn is_maybe(kind: Kind) -> bool
 }
 
 /// The kind of an operator's result on two operands, of 64 bits (`wide`) or 32, which the caller has found readable. A 64-bit move copies
-/// any value, 64-bit sums and differences move pointers, and everything else is for numbers. `MaybeNull` if a look-up that may be null is
-/// moved, `OffsetTooLarge` if a pointer may be too far then, `PointerArithmetic` for all else that is not allowed.
+/// any value, 64-bit sums and differences move pointers, and everything else is for numbers. `MaybeNull` if an operand of a 64-bit sum or
+/// difference is a look-up's result that may be null; `OffsetTooLarge` if a pointer may be moved too far (`pointer_moved`);
+/// `PointerArithmetic` for all else that is not allowed.
 pub(crate) fn arithmetic(wide: bool, op: AluOp, a: Kind, b: Kind) -> Result<Kind, Reason>
     ensures { result ≡ arithmetic_kind wide op a b }
 {

@@ -13,16 +13,16 @@ use reg_kinds::{Facts, Kind, Reason};
 use words::Condition;
 
 /// The edges that control may take after an instruction: the falling edge leads to the next instruction, the jumping edge to the target of
-/// its jump. The facts that `apply` leaves hold on all of them; what holds on only one is in the variant.
+/// its jump. The facts, as `apply` has changed them, hold on each of these edges; what holds on only one is in the variant.
 #[derive(Clone, Copy, Debug, PartialEq, Eq)]
 pub enum Flow {
     /// No edge: the run ends.
     Ends,
     /// The falling edge, with the facts after the instruction.
     Falls,
-    /// The falling edge, after an instruction that may change this slot of the stack, 0 to 63, and no other.
+    /// The falling edge, after an instruction that may change this stack slot, 0 to 63, and no other.
     WritesSlot(usize),
-    /// The falling edge, after an instruction that may change each slot of the stack.
+    /// The falling edge, after an instruction that may change any stack slot.
     Writes,
     /// The jumping edge, with the facts after the instruction.
     Jumps,
@@ -36,8 +36,8 @@ pub enum Flow {
         falls: Option<(Range, Range)>,
         jumps: Option<(Range, Range)>,
     },
-    /// Both edges after a null test of the result of the look-up at slot `site`. The jump is taken if it is null (`jumps_on_null`), or else
-    /// if it is not null.
+    /// Both edges after a null test of the result of the look-up at slot `site`. The jump is taken if the result is null (`jumps_on_null`
+    /// is true), or if it is not null (false).
     Settles {
         site: usize,
         jumps_on_null: bool,
@@ -104,9 +104,9 @@ fn compare_numbers(
     compared(dst, &src, where_not, where_taken)
 }
 
-/// The edges of a test whether a pointer or a map is null; `condition` is equality or difference, as the caller has tested. A look-up may
-/// be null, and is settled on both edges. Anything else is not null: then a test for equality never jumps, and one for difference always
-/// does.
+/// The edges of a test whether a pointer or a map is null; `condition` is `Equal` or `NotEqual`, as the caller has tested. A look-up's
+/// result may be null, and is settled on both edges. Anything else is not null: then a test for `Equal` never jumps, and one for `NotEqual`
+/// always does.
 fn test_pointer(condition: Condition, pointer: Kind) -> Flow
     ensures edges { (f : AnyFacts) → edges_of result f ≡ pointer_edges condition f pointer }
     ensures stack { (f : AnyFacts) → KeepsStack result f f }
@@ -124,7 +124,7 @@ fn test_pointer(condition: Condition, pointer: Kind) -> Flow
     }
 }
 
-/// Whether a comparison is one of 64 bits with the constant 0, for equality or difference, the only one that a pointer or a map may be in.
+/// Whether a comparison is a null test: of 64 bits, with the constant 0, for `Equal` or `NotEqual`. A pointer or a map may be in no other.
 fn is_null_test(wide: bool, condition: Condition, src: Operand) -> bool
     ensures { result ≡ is_null_test wide condition src }
 {
@@ -132,8 +132,9 @@ fn is_null_test(wide: bool, condition: Condition, src: Operand) -> bool
     wide && tests_equality && src == Operand::Imm(0)
 }
 
-/// The edges of a conditional jump on the operands `dst` and `src`, of the kinds `a` and `b`, which compares 64 bits (`wide`) or 32.
-/// `PointerComparison` unless both are numbers, or it is a null test of the first. The caller has rejected operands that may not be read.
+/// The edges of a conditional jump that compares `dst`, of the kind `a`, with `src`, of the kind `b`: 64 bits (`wide`) or 32.
+/// `PointerComparison` unless both are numbers, or `dst` is no number and this is a null test of it. The caller has rejected operands that
+/// may not be read.
 #[inline(always)]
 pub(crate) fn branch(
     wide: bool,

@@ -22,7 +22,7 @@ pub(crate) struct ShapedMap {
     shape: MapShape,
 }
 
-/// The map of an argument. `HelperArgument` if it is no map, or its descriptor names none.
+/// The map that an argument of this kind is. `HelperArgument` if it is no map, or its descriptor names none.
 fn map_kind(named: &[Named], kind: Kind) -> Result<ShapedMap, Reason>
     ensures { result ≡ map_kind (shapes_named named.now) kind }
 {
@@ -56,8 +56,8 @@ fn room_in(low: i64, last: i64, count: u32, size: u32) -> Result<(), Reason>
     Ok(())
 }
 
-/// Checks that `count` bytes, `offset` bytes from each offset that a pointer may have, lie in the value. `OutsideValue` if not, or if the
-/// descriptor of the pointer names no map.
+/// Checks that the `count` bytes that start `offset` bytes from a pointer lie in its value, for each offset that the pointer may have.
+/// `OutsideValue` if not, or if the descriptor of the pointer names no map.
 pub(crate) fn room_of(
     named: &[Named],
     pointer: ValuePointer,
@@ -88,9 +88,9 @@ fn input(named: &[Named], facts: &Facts, count: u32, kind: Kind) -> Result<(), R
     }
 }
 
-/// Updates the facts for a write, at an address of this kind, of `length.lo` to `length.hi` bytes, as `check_length` has bounded it; in the
-/// value of a map no fact changes. The errors are `OutsideStack`, `OutsideValue`, `MaybeNull` for a look-up that may be null, else
-/// `HelperArgument`.
+/// Updates the facts for a write of `length.lo` to `length.hi` bytes at an address of this kind; in the value of a map no fact changes.
+/// `check_length` has bounded the length, so it fits in 32 bits. The errors, after which no fact has changed, are `OutsideStack` in the
+/// stack, `OutsideValue` in a value, `MaybeNull` for a look-up that may be null, and `HelperArgument` for anything else.
 fn output(facts: &mut Facts, named: &[Named], length: Range, kind: Kind) -> Result<(), Reason>
     requires { length.hi < lengths_end }
     ensures ok { OnOk result (output_facts (shapes_named named.now) facts.old length kind
@@ -150,10 +150,10 @@ fn any_number() -> Kind
     Kind::Scalar(Range::full(true))
 }
 
-/// Updates the facts for a call of `helper` at `slot`, which becomes the site of a look-up; the result of any other helper is any number.
-/// Or returns the first of the conditions that fails, and the facts are unchanged. The arguments, in registers 1 to 4, are a map, a key,
-/// and for `Update` a value and flags; for `LoadBytes` the context, an offset in the packet, which may be any number, the target and the
-/// length.
+/// Updates the facts for a call of `helper` at `slot`. The result of a look-up has `slot` as its site; that of any other helper is any
+/// number. Or returns the reason of the first condition that fails, and the facts are unchanged. The arguments, in registers 1 to 4, are a
+/// map, a key, and for `Update` a value and flags; for `LoadBytes` the context, an offset in the packet, which may be any number, the
+/// target and the length.
 pub(crate) fn call(
     facts: &mut Facts,
     named: &[Named],

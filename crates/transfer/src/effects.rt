@@ -30,7 +30,7 @@ use reg_kinds::{Facts, Kind, Reason, ValuePointer, loaded, read_stack, write_sta
 use tagged_model::{CONTEXT_WORDS, Named, known_helper, shape_of};
 use words::{AccessSize, AluOp, Operator};
 
-/// The size of the context in bytes: its words have four each.
+/// The size of the context in bytes: each of its words has four.
 const CONTEXT_SIZE: i16 = 4 * CONTEXT_WORDS as i16;
 
 /// A constant as a machine word: sign-extended if `wide`, else modulo 2^32.
@@ -96,7 +96,8 @@ fn stack_offset(from: i32, offset: i16) -> Result<i32, Reason>
 }
 
 /// The kind of a value that is loaded `offset` bytes from an address of the kind `base`, which the caller has found readable. A number is
-/// sign-extended (`signed`) or zero-extended. The error is the first reason against the load. `named` lists the objects of descriptors.
+/// sign-extended (`signed`) or zero-extended. The error is that of `read_stack` for the stack, `ContextAccess`, `OutsideValue`, `MaybeNull`
+/// for a look-up's result that may be null, or `NotPointer`. `named` lists the objects of descriptors.
 #[inline(always)]
 fn load(
     facts: &Facts,
@@ -136,9 +137,10 @@ fn store_outside(value: Kind) -> Result<(), Reason>
     }
 }
 
-/// Updates the facts for a store of a value of the kind `value`, `offset` bytes from an address of the kind `base`, or returns the first
-/// reason against it. Returns the one stack slot that it may change; `None` for a store into the value of a map, which changes no fact. The
-/// caller has rejected a value and an address that may not be read. `named` lists the objects of descriptors.
+/// Updates the facts for a store of a value of the kind `value`, `offset` bytes from an address of the kind `base`; both may be read, as
+/// the caller has tested. Returns the one stack slot that it may change; `None` for a store into the value of a map, which changes no fact.
+/// The error, after which no fact has changed, is that of `write_stack` for the stack, `ContextAccess`, `OutsideValue`, `PointerStored`,
+/// `MaybeNull` for a look-up's result that may be null, or `NotPointer`. `named` lists the objects of descriptors.
 #[inline(always)]
 fn store(
     facts: &mut Facts,
@@ -187,7 +189,8 @@ fn number_or(reason: Reason, value: Kind) -> Result<(), Reason>
 }
 
 /// Updates the facts for an atomic operation at `offset` from the stack's upper end. It loads a number, and stores a number that may be
-/// any. Returns the stack slot. The errors are those of a load from the stack, and `PartOfSpill` also if a whole spill is there.
+/// any. Returns the stack slot. The errors, after which no fact has changed, are those of `read_stack`, and `PartOfSpill` also if a whole
+/// spill is there.
 fn change_stack(facts: &mut Facts, offset: i32, size: AccessSize) -> Result<usize, Reason>
     ensures ok { OnOk result (stack_changed facts.old offset size ≡ Ok facts.new) }
     ensures stack { IfOk result (λ slot. ChangesAtMost (Some slot) facts.old facts.new) }
@@ -213,9 +216,11 @@ fn is_known_multiple(pointer: ValuePointer, offset: i16, size: AccessSize) -> bo
     pointer.lo == pointer.hi && is_multiple(moved_by(pointer.lo, offset), size)
 }
 
-/// Updates the facts for an atomic operation with an operand of the kind `value`, `offset` bytes from an address of the kind `base`, or
-/// returns the first reason against it. Returns the stack slot that it may change; `None` in the value of a map, since no fact changes. The
-/// caller has rejected an operand and an address that may not be read. `named` lists the objects of descriptors.
+/// Updates the facts for an atomic operation with an operand of the kind `value`, `offset` bytes from an address of the kind `base`; both
+/// may be read, as the caller has tested. Returns the stack slot that it may change; `None` in the value of a map, since no fact changes.
+/// The error, after which no fact has changed, is that of `change_stack`, `PointerArithmetic` if the operand is no number, `OutsideValue`,
+/// `UnalignedAtomic`, `ContextAccess`, `MaybeNull` for a look-up's result that may be null, or `NotPointer`. `named` lists the objects of
+/// descriptors.
 fn change(
     facts: &mut Facts,
     named: &[Named],
@@ -253,7 +258,7 @@ fn change(
     }
 }
 
-/// The kind of the map that a descriptor names. `DescriptorNotMap` if it names none.
+/// The `Kind` of a register that has the map of this descriptor. `DescriptorNotMap` if the descriptor names no map.
 fn map_of(named: &[Named], descriptor: u32) -> Result<Kind, Reason>
     ensures { result ≡ map_of descriptor (shapes_named named.now descriptor) }
 {
@@ -263,7 +268,7 @@ fn map_of(named: &[Named], descriptor: u32) -> Result<Kind, Reason>
     }
 }
 
-/// An offset in a value, which is below 4,096, as a signed number.
+/// An offset in a value as a signed number. It is below `longest_value`, so the cast does not change it.
 fn signed_offset(offset: u32) -> i32
     requires { offset < longest_value }
     ensures { result ≡ pos offset }
@@ -271,8 +276,8 @@ fn signed_offset(offset: u32) -> i32
     offset as i32
 }
 
-/// The kind of a pointer to a direct value, whose least and greatest offset are both `offset`. `DescriptorNotMap` if the descriptor names
-/// no map, `NoDirectValue` if the map has no direct value at this offset.
+/// The kind of a pointer to byte `offset` of a map's direct value, which only an array with one index has. `DescriptorNotMap` if the
+/// descriptor names no map, `NoDirectValue` if the map has no direct value, or `offset` lies outside it.
 #[tactic(auto, unfolding(crate::specs::Effects::value_of))]
 fn value_of(named: &[Named], descriptor: u32, offset: u32) -> Result<Kind, Reason>
     ensures { result ≡ value_of descriptor offset (shapes_named named.now descriptor) }
@@ -297,7 +302,7 @@ fn assign(facts: &mut Facts, dst: Reg, kind: Kind) -> Flow
     Flow::Falls
 }
 
-/// The falling edge, after an instruction that may change this slot of the stack, or none (`None`).
+/// The falling edge, after an instruction that may change this stack slot and no other, or none (`None`).
 #[inline(always)]
 fn written(slot: Option<usize>) -> Flow
     ensures edges { (f : AnyFacts) → edges_of result f ≡ edges_of Falls f }
@@ -328,9 +333,9 @@ fn numbers(facts: &Facts, wide: bool, dst: Reg, src: &Operand) -> Option<(Range,
     }
 }
 
-/// Updates the facts for an operator of two operands, of 64 bits (`wide`) or 32, one of which may be a pointer, or for a move. The error is
-/// the first reason against it, and then no fact changes. Out of line: `operate`, which is inlined, does moves of 64 bits,
-/// and other operators on two numbers, itself.
+/// Updates the facts for an operator of two operands, of 64 bits (`wide`) or 32, one of which may be a pointer, or for a move. The error,
+/// after which no fact has changed, is `UnreadableRegister` if it reads an operand that may not be read, else that of `arithmetic`. Out of
+/// line: `operate`, which is inlined, does moves of 64 bits, and other operators on two numbers, itself.
 #[inline(never)]
 fn operate_on_any(
     facts: &mut Facts,
@@ -352,8 +357,9 @@ fn operate_on_any(
     Ok(())
 }
 
-/// Updates the facts for an operator of two operands, of 64 bits (`wide`) or 32. The error is the first reason against it, and then no fact
-/// changes. 64-bit moves, and operators other than moves on two numbers, are done here, the rest by `operate_on_any`.
+/// Updates the facts for an operator of two operands, of 64 bits (`wide`) or 32. The error, after which no fact has changed, is
+/// `UnreadableRegister` if it reads an operand that may not be read, else that of `arithmetic`. 64-bit moves, and operators other than
+/// moves on two numbers, are done here, the rest by `operate_on_any`.
 #[inline(always)]
 fn operate(facts: &mut Facts, wide: bool, op: AluOp, dst: Reg, src: Operand) -> Result<(), Reason>
     ensures ok { OnOk result (operator_edges wide op dst src facts.old ≡ falls facts.new) }

@@ -38,9 +38,9 @@ pub fn transfer_keeps_well_formed()
     interval::laws::results_are_words();
 }
 
-/// A law: an instruction is rejected because of an unknown helper only if it calls one, because a descriptor names no map only if it loads
-/// one whose descriptor has no shape, because of a direct value only if it loads one that the map does not have, and for no other reason of
-/// a program's shape.
+/// A law: an instruction is rejected by `UnknownHelper` only if it calls an unknown helper, by `DescriptorNotMap` only if it names a map by
+/// a descriptor that has no shape, by `NoDirectValue` only if its map does not have the direct value, and never by another reason of a
+/// program's shape, or by `Memory`.
 pub fn transfer_reasons()
     ensures { TransferReasons }
 {}
@@ -53,8 +53,7 @@ pub fn effects_need_no_memory()
     transfer_reasons();
 }
 
-/// A law, the part of soundness for calls: if facts admit a state and allow a call, it is no fault, and the facts after it admit the state
-/// after it.
+/// A law, soundness of calls: if facts admit a state and allow a call, it is no fault, and the facts after it admit the state after it.
 pub fn calls_are_sound()
     ensures { CallsAreSound }
 {

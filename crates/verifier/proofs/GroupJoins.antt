@@ -1,4 +1,4 @@
--- Facts are joined one group of the stack after another.
+-- Facts are joined one group of stack slots after another.
 use Rattle.std.proofs.Common.{◌≡◌, ◌≢◌, ℕ, ◌+◌, ◌<◌, ◌==◌, List, length, get_or, set, length-set}
 use Rattle.std.proofs.Common.{get_or-set_same, get_or-set_other, refl, sym, ap, subst, ◌∙◌, inl, inr, arith}
 use Rattle.std.proofs.lemmas.Bool.{cases_eq, cond-true, cond-false, eq-eqb, ne_eqb}
@@ -164,7 +164,7 @@ one_joined fresh group x y z w h step =
           (after.0 ∙ before.0, after.1 ∙ before.1, after.2 ∙ before.2);
     }
 
--- if the registers and all groups of the stack of two facts are joined in a third, this is their join
+-- if the registers and all groups of stack slots of two facts are joined in a third, this is their join
 pub all_joined : (fresh : ℕ) (x y z : NumberedFacts)
     → IsJoinedBelow fresh stack_groups x y z → length z.facts.slots ≡ stack_slots
     → IsJoin fresh x y z

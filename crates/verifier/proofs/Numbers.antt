@@ -1,4 +1,4 @@
--- Joins of facts whose groups of the stack have numbers are the joins of the definition, if each number means one group.
+-- Joins of facts whose groups of stack slots have numbers are the joins of the definition, if each number means one group.
 use Rattle.std.proofs.Common.{◌≡◌, ◌⊎◌, ℕ, ◌<◌, ◌≤◌, ◌==◌, if◌then◌else◌, Bool, true, false, List, length}
 use Rattle.std.proofs.Common.{get_or, Option, Some, None, refl, sym, ap, subst, ◌∙◌, ⊎_elim, inl, inr, arith}
 use Rattle.std.proofs.lemmas.Bool.{cond-true, cond-false, eq-eqb, ne_eqb}

@@ -32,8 +32,8 @@ edges_into insn n i (Ok edges) =
     joined (only_if (falls_into insn n i) edges.falling)
     (only_if (jumps_into insn n i) edges.jumping)
 
--- the facts that slot n passes on to slot i, from those before it (`known`); None if there are
--- none, or no instruction begins at n
+-- the facts that slot n passes on to slot i, from those before slot n (`known`); None if there are
+-- none before slot n, or no edge that can be taken leads from it to slot i
 abbrev pub facts_sent : Shapes → List Insn → ℕ → ℕ → Option Facts → Option Facts
 facts_sent shapes code n i known =
     and_then known

@@ -46,7 +46,8 @@ calls_in is = count_by is_call is
 
 -- ---- the cost
 
--- n is the most of what is measured on a path from slot 0: no path has more, and some path has n
+-- n is the most that `measure` gives for a path from slot 0 to an exit: for no path it gives more,
+-- and for some path it gives n
 abbrev pub IsMostOf : (List Insn → ℕ) → List Insn → ℕ → Type 0
 IsMostOf measure code n =
     ((path : List Insn) → IsPath code 0 path → measure path ≤ n)

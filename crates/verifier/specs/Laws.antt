@@ -14,7 +14,7 @@ use Rattle.verifier.specs.Judgement.{Judges}
 use Rattle.verifier.specs.Maps.{maps_of, shapes_of}
 use Rattle.verifier.specs.Verdict.{HasNoFault, IsAccepted, safety_fault}
 
--- slots have one judgement
+-- slots have at most one judgement
 abbrev pub OneJudgement : Type 0
 OneJudgement =
     (named : List Named) (slots : List ℕ) (j k : Result (List Insn) Refusal)
@@ -36,8 +36,9 @@ pub record SafetyFollowsShape : Type 0 where
       → HasNoFault (structure_fault code named)
       → safety_fault (shapes_of code named) code slot ≢ Some NoDirectValue
 
--- each map that an accepted program loads has a shape, both among all open descriptors (`named`)
--- and among those that are kept with the program (`kept`)
+-- each descriptor by which an accepted program loads a map, or a value of one, names a map, and so
+-- has a shape: among all open descriptors (`named`) and among those that are kept with the program
+-- (`kept`)
 pub record LoadedMapsHaveShapes : Type 0 where
   pub named : (code : List Insn) (named : List Named)
       → IsAccepted code named
@@ -46,8 +47,8 @@ pub record LoadedMapsHaveShapes : Type 0 where
       → IsAccepted code named
       → All (λ fd. IsSome (shapes_of code named fd)) (maps_of code)
 
--- the maps of a program are those that its instructions load, each listed once; no other descriptor
--- has a shape
+-- the list of a program's maps has each descriptor by which an instruction loads a map, or a value
+-- of one (`each`), once (`once`); only descriptors in the list have a shape (`shaped`)
 pub record MapsAreListed : Type 0 where
   pub each : (code : List Insn) (n : ℕ) (i : Insn) (fd : ℕ)
       → begins_at code n ≡ Some i

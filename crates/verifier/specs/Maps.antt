@@ -7,11 +7,11 @@ use Rattle.tagged_model.specs.declared.shape.Named.{Named}
 use Rattle.tagged_model.specs.Named.{Shapes, shapes_named}
 use Rattle.insn_set.specs.Flow.{descriptor}
 
--- the descriptors other than fd
+-- the descriptors of a list other than fd
 abbrev pub without : ℕ → List ℕ → List ℕ
 without fd fds = filter (λ other. not (other == fd)) fds
 
--- each descriptor once, in the order of their first occurrences
+-- each descriptor of a list once, in the order of their first occurrences
 unfoldable pub distinct : List ℕ → List ℕ
 distinct [] = []
 distinct (fd ∷ fds) = fd ∷ without fd (distinct fds)
@@ -25,7 +25,7 @@ maps_of code = distinct (filter_map descriptor code)
 abbrev pub is_among : List ℕ → ℕ → Bool
 is_among fds fd = list_any (λ other. other == fd) fds
 
--- the entries of `named` with these descriptors
+-- those of the open descriptors, with their objects, that are in the list `fds`
 abbrev pub entries_of : List ℕ → List Named → List Named
 entries_of fds named = filter (λ n. is_among fds n.fd) named
 

@@ -14,8 +14,8 @@ use Rattle.verifier.specs.Verdict.{IsAccepted}
 
 -- ---- what a run executes
 
--- what is executed from instruction i on, if its step is this: i, and then what follows from the
--- next state (`rest`); only i if the run ends; nothing if the step is a fault
+-- what is executed from instruction i on, by its step: i, and then what is executed from the next
+-- state on (`rest`); only i if the run ends; nothing if the step is a fault
 abbrev pub executed_by : Insn → Step → (RunState → List Insn) → List Insn
 executed_by i (goes t) rest = i ∷ rest t
 executed_by i (ends n) rest = i ∷ []
@@ -41,8 +41,8 @@ executed_of code maps words packet =
 
 -- ---- what it costs
 
--- each run, on maps of these shapes, executes a path from slot 0 to an exit, with one instruction
--- in each step
+-- each run, on maps of these shapes and any context and packet, executes a path from slot 0 to an
+-- exit, one instruction in each step
 abbrev pub RunsArePaths : Shapes → List Insn → Type 0
 RunsArePaths shapes code =
     (maps : MapsByDescriptor) (words packet : List ℕ)
@@ -59,7 +59,8 @@ RunsCostAtMost cost shapes code =
     → (steps_of code maps words packet ≤ cost.instructions)
     × (calls_in (executed_of code maps words packet) ≤ cost.calls)
 
--- the runs of an accepted program are paths
+-- each run of an accepted program, on maps of the shapes with which it is accepted, executes a path
+-- from slot 0 to an exit
 abbrev pub AcceptedRunsArePaths : Type 0
 AcceptedRunsArePaths =
     (code : List Insn) (named : List Named)

@@ -13,7 +13,7 @@ use Rattle.verifier.specs.Before.{facts_before}
 use Rattle.verifier.specs.Maps.{shapes_of}
 use Rattle.verifier.specs.Verdict.{HasNoFault, IsFirstFault, safety_fault, memory_fault}
 
--- the slot with the facts before its instruction; empty if there are none
+-- the slot with the facts before its instruction, as a list; empty if there are no facts (None)
 abbrev pub known_at : ℕ → Option Facts → List (ℕ × Facts)
 known_at slot known = option_to_list (option_map (λ f. (slot, f)) known)
 
@@ -25,7 +25,8 @@ reached shapes code (suc n) =
     reached shapes code n
     ++ known_at n (and_then (begins_at code n) (λ insn. facts_before shapes code n))
 
--- what the watcher had received, and more; None if it does not say what it receives
+-- what the watcher had received (`seen`), and `more` after it; None if it does not say what it
+-- receives
 abbrev pub with_more : Option (List (ℕ × Facts)) → List (ℕ × Facts) → Option (List (ℕ × Facts))
 with_more seen more = option_map (λ notes. notes ++ more) seen
 

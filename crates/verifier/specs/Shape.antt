@@ -57,7 +57,7 @@ is_reachable code i = reached_from code i i
 
 -- ---- the faults of an instruction
 
--- what an instruction names is a helper, and none has this number
+-- an instruction names a helper by a number that no helper has
 abbrev pub is_unknown_helper : Reference → Bool
 is_unknown_helper names.Nothing = false
 is_unknown_helper (names.Helper id) = not (is_some (helper_of id))
@@ -84,8 +84,8 @@ abbrev pub is_not_map : List Named → Option ℕ → Bool
 is_not_map named None = false
 is_not_map named (Some fd) = not (option_map_or is_map (target_of named fd) true)
 
--- an instruction names a direct value, and its map has none at this offset; a descriptor that names
--- no map is another fault
+-- an instruction loads a value of a map directly, without a call, and the map has none at this
+-- offset; a descriptor that names no map is another fault
 abbrev pub is_no_value : List Named → Reference → Bool
 is_no_value named names.Nothing = false
 is_no_value named (names.Helper id) = false
@@ -93,26 +93,28 @@ is_no_value named (names.Map fd) = false
 is_no_value named (names.Value fd off) =
     not (option_map_or (λ shape. has_direct_value shape off) (shapes_named named fd) true)
 
--- the instruction loads a direct value that the map does not have
+-- the instruction loads a value directly, without a call, that the map does not have
 abbrev pub lacks_value : List Named → Insn → Bool
 lacks_value named i = is_no_value named (profile i).reference
 
--- a jump to this slot, None if it is below 0, leads to no instruction
+-- no instruction begins at the target of a jump; a target below slot 0 is None
 abbrev pub leads_outside : List Insn → Option ℕ → Bool
 leads_outside code None = true
 leads_outside code (Some n) = not (is_first_slot code n)
 
--- a jump from slot `at` to this slot, None if it is below 0, leads to no later slot
+-- the target of a jump at slot `at` is no later slot; a target below slot 0 is None
 abbrev pub leads_backward : Option ℕ → ℕ → Bool
 leads_backward None at = true
 leads_backward (Some n) at = nat_le n at
 
--- the reason of the first line whose condition holds; None if none does
+-- the reason of the first condition that holds, in a list of conditions with their reasons; None if
+-- none holds
 abbrev pub first_reason : List (Bool × Reason) → Option Reason
 first_reason [] = None
 first_reason (line ∷ lines) = if line.0 then Some line.1 else first_reason lines
 
--- the first fault of instruction i at a slot; None if it has none. Register 10 is the frame pointer
+-- the first fault of instruction i at slot `at`; None if it has none. Register 10 is the frame
+-- pointer
 abbrev pub shape_reason : List Insn → List Named → Insn → ℕ → Option Reason
 shape_reason code named i at = first_reason (
     (jumps i && leads_outside code (jumps_to i at), JumpOutside)

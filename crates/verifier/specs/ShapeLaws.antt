@@ -1,5 +1,5 @@
--- Laws of the instructions of a program without a fault of its shape, of the definitions of
--- `Shape`, proved here for the proofs of this crate and of those above. This project's own. No
+-- Laws of the definitions of `Shape`: what holds of each instruction of a program without a fault
+-- of its shape. Proved here for the proofs of this crate and of those above. This project's own. No
 -- contract cites them, so they are not part of what has to be trusted.
 use Rattle.std.proofs.Common.{◌≡◌, ℕ, Bool, true, false, not, ◌&&◌, List, [], ◌∷◌, Some, None, sym, ap, ◌∙◌, inl, inr}
 use Rattle.std.specs.Prelude.{nat_le}
@@ -15,12 +15,12 @@ use Rattle.verifier.specs.Shape.{leads_outside, leads_backward, is_reachable, is
 use Rattle.verifier.specs.Shape.{is_not_map, lacks_value, first_reason, shape_reason, shape_reason_at, structure_fault}
 use Rattle.verifier.specs.Verdict.{HasNoFault}
 
--- a reason is not none
+-- an option that has a reason is not None
 no_reason : (reason : Reason) → Some reason ≡ None → ⊥
 no_reason reason e = cc
 
--- a line is a condition and the reason that it gives: if no line gives one, the condition of the
--- first line does not hold, and the others give none
+-- if a list of conditions with their reasons gives no reason, the first condition does not hold,
+-- and the rest of the list gives no reason
 passed : (line : Bool × Reason) (lines : List (Bool × Reason))
     → first_reason (line ∷ lines) ≡ None
     → (line.0 ≡ false) × (first_reason lines ≡ None)
@@ -31,8 +31,8 @@ passed line lines none =
       | inr fails ↦ (fails, sym (cond-false line.0 (Some line.1) (first_reason lines) fails) ∙ none)
     ]
 
--- the instruction has no fault: its edges lead to other instructions, it can be reached, and what
--- it names exists
+-- what is used of an instruction without a fault: its edges lead to later instructions, it can be
+-- reached, and what it names exists
 pub record IsFine (code : List Insn) (named : List Named) (i : Insn) (at : ℕ) : Type 0 where
   pub inside : (jumps i && leads_outside code (jumps_to i at)) ≡ false
   pub forward : (jumps i && leads_backward (jumps_to i at) at) ≡ false
@@ -43,7 +43,7 @@ pub record IsFine (code : List Insn) (named : List Named) (i : Insn) (at : ℕ) 
   pub map : is_not_map named (descriptor i) ≡ false
   pub value : lacks_value named i ≡ false
 
--- an instruction without a reason has no fault
+-- an instruction that no rule rejects is as `IsFine` says
 pub unrefused_is_fine : (code : List Insn) (named : List Named) (i : Insn) (at : ℕ)
     → shape_reason code named i at ≡ None
     → IsFine code named i at
@@ -80,7 +80,7 @@ unrefused_is_fine code named i at none =
       value = nine.0;
     }
 
--- if no slot has a fault of its shape, no instruction has one
+-- if no slot of a program has a fault of the shape, each instruction is as `IsFine` says
 pub each_is_fine : (code : List Insn) (named : List Named)
     → HasNoFault (structure_fault code named)
     → (n : ℕ) (i : Insn)

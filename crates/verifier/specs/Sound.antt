@@ -67,7 +67,7 @@ StepsGoOn =
 -- ---- runs
 
 -- a map of this shape: an array has all its indices, a hash map may have any keys, and each value
--- has the size of the shape
+-- has the size that the shape gives
 pub record IsTableOf (shape : MapShape) (t : Table (List ℕ)) : Type 0 where
   pub shaped : t.shape ≡ shape
   pub indices : shape.kind ≡ Array

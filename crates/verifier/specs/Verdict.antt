@@ -22,8 +22,8 @@ abbrev pub reason_of : Result Edges Reason → Option Reason
 reason_of (Ok edges) = None
 reason_of (Err reason) = Some reason
 
--- the first condition that fails at a slot; None if none fails, no facts arrive there, or no
--- instruction begins there
+-- why the instruction at a slot may not be run with the facts before it: the reason of its first
+-- condition that fails; None if none fails, no facts arrive there, or no instruction begins there
 unfoldable pub safety_fault : Shapes → List Insn → ℕ → Option Reason
 safety_fault shapes code at =
     and_then (facts_before shapes code at)

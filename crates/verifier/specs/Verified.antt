@@ -25,8 +25,7 @@ abbrev pub IsAcceptedAs : List Insn → List Named → Accepted → Type 0
 IsAcceptedAs code named a =
     (a.code ≡ code) × (a.entries ≡ entries_of (maps_of code) named) × IsAccepted code named
 
--- the program was accepted with the objects of its entries, whatever its descriptors name at
--- present
+-- the program was accepted with the objects of `entries`, whatever its descriptors name at present
 pub record IsVerified (a : Accepted) : Type 0 where
   pub named : List Named
   pub accepted : IsAccepted a.code named

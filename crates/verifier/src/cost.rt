@@ -9,25 +9,25 @@ ghost use Rattle.verifier.specs.inside.Longest.{no_counts, AreFew, IsAdded};
 
 use insn_codec::{Insn, MAX_SLOTS, Profile, Reference, Successors};
 
-/// The cost of a program: no run of it executes more. One path through the program has as many instructions, and one, which may be
-/// another, as many calls.
+/// The cost of an accepted program: the most instructions, and the most calls of helpers, on a path from slot 0 to an exit. The two may be
+/// of different paths. No run executes more.
 #[derive(Clone, Copy, Debug, PartialEq, Eq)]
 pub struct Cost {
-    /// The most instructions on a path: 1 to 4,096.
+    /// The most instructions on a path: 1 to `MAX_SLOTS`.
     pub instructions: u32,
-    /// The most calls of helpers on a path: 0 to 4,095.
+    /// The most calls of helpers on a path: 0 to `MAX_SLOTS - 1`.
     pub calls: u32,
 }
 
-/// The most instructions, and the most calls, on the paths from slot 0 to a slot, without the instruction there. Both are 0 at slot 0,
-/// and at a slot to which no edge leads.
+/// The most instructions, and the most calls of helpers, on some paths from slot 0: on those to a slot, without the instruction there, or
+/// on those to an exit, with it. Both are 0 at slot 0, and if there is no such path.
 #[derive(Clone, Copy, Debug, PartialEq, Eq)]
 pub(crate) struct Counts {
     pub(crate) instructions: u16,
     pub(crate) calls: u16,
 }
 
-/// No instruction and no call.
+/// No instruction and no call: the counts at slot 0, or if there is no path.
 pub(crate) const NO_COUNTS: Counts = Counts {
     instructions: 0,
     calls: 0,
@@ -47,7 +47,7 @@ fn calls_of(reference: Reference) -> u16
 }
 
 impl Counts {
-    /// The greater number of instructions and the greater number of calls of two counts.
+    /// The greater number of instructions, and the greater number of calls, of `self` and `other`.
     #[inline(always)]
     pub(crate) fn greater(self, other: Counts) -> Counts
         ensures instructions { result.instructions ≡ max self.instructions other.instructions }
@@ -59,8 +59,8 @@ impl Counts {
         }
     }
 
-    /// The counts with one more instruction, which names `reference`: one more call, too, if that is a helper. Both counts are of a path,
-    /// which has at most `MAX_SLOTS` instructions, so 16 bits suffice.
+    /// The counts with one more instruction, which names `reference`: one more call, too, if that is a helper. Neither count of `self` is
+    /// above `MAX_SLOTS`, the most instructions of a path, so 16 bits suffice.
     #[inline(always)]
     pub(crate) fn with(self, reference: Reference) -> Counts
         requires instructions { self.instructions ≤ MAX_SLOTS }
@@ -75,8 +75,9 @@ impl Counts {
     }
 }
 
-/// Joins the counts on a jump into those on the other jumps to its target: the greater ones count. `jumping` has the counts by slot. The
-/// target is a slot of the program: a jump to one below slot 0, for which it would be `None`, was rejected before. Nothing is done then.
+/// Joins the counts of the paths that end with a jump to `target` into those of `jumping`, which has them by slot: of each count the
+/// greater one is kept. `target` is a slot of the program: a jump to below slot 0 has none (`None`), and was rejected before. With `None`
+/// nothing is done.
 #[inline(always)]
 fn join_at_target(jumping: &mut [Counts], target: Option<usize>, counts: Counts)
     requires { IfSome target (λ to. to < length jumping.old) }
@@ -92,17 +93,17 @@ fn join_at_target(jumping: &mut [Counts], target: Option<usize>, counts: Counts)
     }
 }
 
-/// The counts of the paths that a pass over the slots has found, but for those on jumps to later slots.
+/// The most instructions and calls on the paths that a pass over the slots has found, but for those that end with a jump to a later slot.
 #[derive(Drop)]
 pub(crate) struct Paths {
-    /// The most on the paths to the slot of the pass, without its instruction.
+    /// The most on the paths to the slot at which the pass is, without its instruction; before `join` only on those along the falling edge.
     here: Counts,
-    /// The most on the paths to an exit, with the exit itself.
+    /// The most on the paths to the exits so far, with the exit itself.
     ended: Counts,
 }
 
 impl Paths {
-    /// The paths before slot 0.
+    /// The paths before slot 0: no instruction and no call.
     pub(crate) fn new() -> Paths
         ensures here { result.here ≡ no_counts }
         ensures ended { result.ended ≡ no_counts }
@@ -113,8 +114,8 @@ impl Paths {
         }
     }
 
-    /// Joins the counts on the jumps to the slot of the pass into those on the falling edge: the greater ones count. Nothing changes if no
-    /// jump leads there.
+    /// Joins `jumping`, the counts of the paths that end with a jump to the slot at which the pass is, into those along the falling edge:
+    /// of each count the greater one is kept. Nothing changes if no jump leads there.
     #[inline(always)]
     pub(crate) fn join(&mut self, jumping: Counts)
         ensures instructions { self.new.here.instructions
@@ -127,7 +128,7 @@ impl Paths {
         }
     }
 
-    /// Whether a path leads to `slot`, which has to be that of the pass. The path to slot 0 has no instruction before it, any other has.
+    /// Whether a path leads to `slot`, which has to be the one at which the pass is. The path to slot 0 has no instruction, any other has.
     #[inline(always)]
     pub(crate) fn lead_to(&self, slot: usize) -> bool
         ensures { result ≡ (nat_lt 0 self.now.here.instructions || slot == 0) }
@@ -135,7 +136,7 @@ impl Paths {
         self.have_instructions() || slot == 0
     }
 
-    /// Whether there is a path to the slot of the pass with an instruction before it.
+    /// Whether a path with an instruction leads to the slot at which the pass is. The path to slot 0 has none.
     #[inline(always)]
     pub(crate) fn have_instructions(&self) -> bool
         ensures { result ≡ nat_lt 0 self.now.here.instructions }
@@ -155,9 +156,10 @@ impl Paths {
         self.here.instructions += 1;
     }
 
-    /// Adds the instruction at `slot` to the paths that lead there. On its jump the new counts are joined into those of the target in
-    /// `jumping`, on its falling edge they are those of the next slot, and at an exit the paths end. `row` has the instruction's
-    /// properties; `insn` is for the contract. The target is a slot of the program, as the instruction has no fault.
+    /// Adds the instruction at `slot` to the paths that lead there. If it may jump, the new counts are joined into those of the target in
+    /// `jumping`; if it is an exit, into those of the exits so far. With a falling edge they are then those of the paths to the next slot;
+    /// without one no path leads there yet. `row` has the instruction's properties; only the contract needs `insn`. The target is a slot of
+    /// the program, as the instruction has no fault.
     #[inline(always)]
     pub(crate) fn add(&mut self, jumping: &mut [Counts], insn: &Insn, row: &Profile, slot: usize)
         requires room { slot ≤ MAX_SLOTS }
@@ -184,7 +186,7 @@ impl Paths {
         }
     }
 
-    /// The cost of the program, after the pass.
+    /// The cost of the program, after the pass: the counts of the paths to an exit.
     pub(crate) fn cost(&self) -> Cost
         ensures instructions { result.instructions ≡ self.now.ended.instructions }
         ensures calls { result.calls ≡ self.now.ended.calls }

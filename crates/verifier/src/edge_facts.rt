@@ -13,7 +13,7 @@ use std::marker::Model;
 pub(crate) struct EdgeFacts {
     /// Whether `known` is valid.
     pub(crate) is_known: bool,
-    /// The facts; if `is_known` is false, any others, which mean nothing.
+    /// The facts on the edge; if `is_known` is false, they mean nothing.
     pub(crate) known: NumberedFacts,
 }
 
@@ -27,7 +27,8 @@ impl Model for EdgeFacts {
 }
 
 impl EdgeFacts {
-    /// Joins the facts on another edge into these; if there are none, copies them. Parts of the stack that change get the number `fresh`.
+    /// Joins the facts on another edge into these, or copies them if there are none here. Each group of eight stack slots that a join
+    /// changes gets `fresh`, a new number for its contents.
     pub(crate) fn join(&mut self, edge: &NumberedFacts, fresh: usize)
         ensures { IsJoinedBy fresh self.old edge.now self.new }
     {

@@ -5,7 +5,7 @@ ghost use Rattle.std.specs.Prelude.{◌≡◌};
 use reg_kinds::Reason;
 use std::alloc::AllocError;
 
-/// The reason for which a program is rejected, and the slot.
+/// The reason for which a program is rejected, and the slot; or out of memory.
 #[derive(Clone, Copy, Debug, PartialEq, Eq)]
 pub struct VerifyFault {
     /// The slot of the instruction; 0 if `reason` is `Memory`: out of memory.

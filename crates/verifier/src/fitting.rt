@@ -17,7 +17,7 @@ use tagged_model::{MapShape, Named, shape_of};
 /// Why objects do not replace those with which a program was accepted.
 #[derive(Clone, Copy, Debug, PartialEq, Eq)]
 pub enum ReplaceFault {
-    /// A descriptor of the program's maps names no map of the same shape.
+    /// A descriptor of the program's maps names no map of the shape with which the program was accepted.
     OtherShapes,
     /// Out of memory.
     Memory,
@@ -26,12 +26,13 @@ pub enum ReplaceFault {
 impl From<AllocError> for ReplaceFault {
     ghost from_gives = { λ _ fault. fault ≡ Memory };
 
+    /// `Memory`: out of memory.
     fn from(_error: AllocError) -> ReplaceFault {
         ReplaceFault::Memory
     }
 }
 
-/// Whether two shapes are the same, or both are none.
+/// Whether `one` and `other` are the same shape, or both `None`.
 fn is_same(one: Option<MapShape>, other: Option<MapShape>) -> bool
     ensures { IsTrue result ↔ one ≡ other }
 {
@@ -39,8 +40,8 @@ fn is_same(one: Option<MapShape>, other: Option<MapShape>) -> bool
 }
 
 impl Verified {
-    /// Whether `shape` is that of the map that the descriptor `fd` named when the program was accepted. With `None`: whether the program
-    /// loads no map, and no value of a map, by this descriptor.
+    /// Whether the program loads a map, or a value of one, by the descriptor `fd`, and this map had the shape `shape` when the program was
+    /// accepted. With `None`: whether the program loads neither by this descriptor.
     pub fn has_shape(&self, fd: u32, shape: Option<MapShape>) -> bool
         ensures { IsTrue result ↔ shape ≡ shapes_in self.now fd }
     {
@@ -60,8 +61,8 @@ impl Verified {
         true
     }
 
-    /// Replaces the objects with which the program was accepted by those of `named`, the open descriptors, in which its maps have the same
-    /// shapes. The program is accepted with these too, and is then what `verify_slots` gives for its slots and `named`.
+    /// Replaces the maps with which the program was accepted by those that its descriptors name in `named`, the open descriptors, if these
+    /// have the same shapes. The program is accepted with them too, and is then what `verify_slots` gives for its slots and `named`.
     ///
     /// # Errors
     ///

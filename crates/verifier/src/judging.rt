@@ -17,12 +17,12 @@ use insn_codec::Program;
 use std::alloc::Global;
 use tagged_model::Named;
 
-/// What the verdict has found of an accepted program.
+/// What the verification of an accepted program has found.
 #[derive(Debug, Drop)]
 pub(crate) struct Findings {
     /// The descriptors of the maps that it loads, each once, in the order of their first loads.
     pub(crate) maps: Vec<u32>,
-    /// The descriptors in `maps`, each with the object that it names, from the list of open descriptors.
+    /// Those of the open descriptors that are in `maps`, each with the object that it names.
     pub(crate) entries: Vec<Named>,
     pub(crate) cost: Cost,
 }

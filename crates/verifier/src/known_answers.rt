@@ -15,8 +15,9 @@ use reg_kinds::Facts;
 use std::alloc::{AllocError, Global};
 use tagged_model::Named;
 
-/// If no slot but `slot` has an entry, a jump to `slot` adds none for another: a target has one entry, however many jumps lead to it.
-/// `facts` are those on the jump. Parts of the stack that change get the number `fresh`.
+/// Joins `facts`, those on a jump to `slot`, into the facts that `entries` has for this slot. If it has facts for no other slot before, it
+/// has none after: they are kept once for each target, however many jumps lead to it. Each group of eight stack slots that a join changes
+/// gets `fresh`, a new number for its contents. The error is out of memory.
 fn one_entry(
     entries: &mut TargetFacts,
     slot: usize,
@@ -47,7 +48,8 @@ impl Watcher for Notes {
     }
 }
 
-/// For an accepted program, the notes have each slot that a run may reach, once and in order, with the facts of the definition.
+/// The slots of an accepted program that a run may reach, each once and in order, with the facts before it (`reached`). The error is why
+/// the program is rejected, or out of memory.
 fn all_notes(
     alloc: Global,
     program: &Program,

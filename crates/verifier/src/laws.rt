@@ -12,13 +12,13 @@ ghost use Rattle.verifier.specs.Runs.{AcceptedRunsArePaths};
 ghost use Rattle.verifier.specs.Sound.{StepIsSound, StepsGoOn, NeverFaults};
 ghost use Rattle.verifier.specs.Verdict.{IsAccepted, IsRefused};
 
-/// A law: a rejected program has one slot and one reason for which it is rejected. So the judgement of slots is unique.
+/// A law: a rejected program has one slot and one reason for which it is rejected. So slots have at most one judgement (`one_judgement`).
 pub fn one_refusal()
     ensures { (code : List Insn) (named : List Named) (m n : ℕ) (a b : Reason)
         → IsRefused code named m a → IsRefused code named n b → (m ≡ n) × (a ≡ b) }
 {}
 
-/// A law: an accepted program is not rejected. So the judgement of slots is unique.
+/// A law: an accepted program is not rejected. So slots have at most one judgement (`one_judgement`).
 pub fn accepted_is_not_refused()
     ensures { (code : List Insn) (named : List Named) (slot : ℕ) (reason : Reason)
         → IsAccepted code named → ¬ IsRefused code named slot reason }
@@ -32,7 +32,7 @@ pub fn refused_by_a_rule()
     transfer::laws::effects_need_no_memory();
 }
 
-/// A law: the judgement of slots is unique, one accepted program or one refusal.
+/// A law: slots have at most one judgement, which is the accepted program that they spell or else their refusal.
 pub fn one_judgement()
     ensures { OneJudgement }
 {
@@ -50,12 +50,14 @@ pub fn safety_follows_shape()
     transfer::laws::transfer_reasons();
 }
 
-/// A law: each map that an accepted program loads, itself or a value of it, has a shape.
+/// A law: each descriptor by which an accepted program loads a map, or a value of one, names a map, and so has a shape: in the list of all
+/// open descriptors, and in that which is kept with the program.
 pub fn loaded_maps_have_shapes()
     ensures { LoadedMapsHaveShapes }
 {}
 
-/// A law: the maps of a program are those that its instructions load, each listed once; no other descriptor has a shape.
+/// A law: the list of a program's maps (`maps_of`) has each descriptor by which an instruction loads a map, or a value of one. It has each
+/// once, and in `shapes_of` only these descriptors have a shape.
 pub fn maps_are_listed()
     ensures { MapsAreListed }
 {}
@@ -74,8 +76,8 @@ pub fn step_is_sound()
     transfer::laws::transfer_keeps_well_formed();
 }
 
-/// A law: if the facts before a slot admit a state at it, the step of an accepted program is no fault, and the facts before the next slot
-/// admit the state after it. So it can be applied to step after step.
+/// A law: if the facts before a slot of an accepted program admit a state at it, the step is no fault, and the facts before the next slot
+/// admit the state after it, unless the run ends. So the law can be applied to step after step.
 pub fn steps_go_on()
     ensures { StepsGoOn }
 {
@@ -91,7 +93,7 @@ pub fn accepted_programs_never_fault()
     steps_go_on();
 }
 
-/// A law: what a run of an accepted program, on maps of the shapes with which it is accepted, executes is a path from slot 0 to an exit, an
+/// A law: a run of an accepted program, on maps of the shapes with which it is accepted, executes a path from slot 0 to an exit, an
 /// instruction in each step. So no run executes more than the cost of the program.
 pub fn accepted_runs_are_paths()
     ensures { AcceptedRunsArePaths }

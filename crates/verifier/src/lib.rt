@@ -34,7 +34,7 @@
 //! - Safety follows shape: in a program without a fault of shape, no instruction is rejected for safety because its helper is
 //!   unknown, its descriptor is no map, or the map does not have the value that it loads directly: `safety_follows_shape`.
 //! - Each map that an accepted program loads, itself or a value of it, has a shape: `loaded_maps_have_shapes`.
-//! - The maps of a program are those that its instructions load, each once; no other descriptor has a shape: `maps_are_listed`.
+//! - The list of a program's maps has each map that its instructions load, once; no other descriptor has a shape: `maps_are_listed`.
 //! - Soundness of one step: take a program without a fault of shape, and a state at a slot that has a map of each shape, such
 //!   that the facts before the slot admit the state and allow the instruction. Then the machine has a step, the next state has
 //!   a map of each shape, and the facts on the edge that is taken admit it: `step_is_sound`.
@@ -65,10 +65,10 @@
 //!   a finished entry is reused. If the list of these boxes cannot grow, the verdict is out of memory. A join writes
 //!   only registers and slots that change; kinds that differ are joined out of line. With facts moved by value, a load of straight
 //!   arithmetic took 26 times as many machine instructions, and one of diamonds 15 times.
-//! - The stack in facts has eight parts of eight slots, each with a number (`NumberedFacts`). Parts with one index and one
-//!   number are the same. A store gives the part of its slot a new number; a call or a null test all parts; a join the
-//!   parts that it changes. Each part also has the number of the last part that was joined into it, and a second join with that
-//!   part is skipped, since it would change nothing. New numbers are computed from the slot of the instruction, so no counter is
+//! - The stack in facts has eight groups of eight slots, each with a number (`NumberedFacts`). Groups with one index and one
+//!   number are the same. A store gives the group of its slot a new number; a call or a null test all groups; a join the
+//!   groups that it changes. Each group also has the number of the last group that was joined into it, and a second join with that
+//!   group is skipped, since it would change nothing. New numbers are computed from the slot of the instruction, so no counter is
 //!   needed. bench/FIGURES.md has the costs. With one number for the whole stack, a byte stored before each jump cost a join of
 //!   all slots (1,075 machine instructions a slot, now 700). Not used: copying and joining the stack only from its lowest written
 //!   slot on (half the cost with few slots written, 3 to 15% more with all 64).

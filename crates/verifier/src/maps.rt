@@ -13,7 +13,8 @@ use insn_codec::{Insn, Program};
 use std::alloc::{AllocError, Global};
 use tagged_model::Named;
 
-/// Appends the descriptor of the map that an instruction loads, or of which it loads a value, unless it is listed already.
+/// Appends the descriptor by which an instruction loads a map, or a value of one, to `maps`, unless it is listed already. Nothing is
+/// appended if the instruction loads neither. The error is out of memory.
 fn add_descriptor(maps: &mut Vec<u32>, insn: &Insn) -> Result<(), AllocError>
     ensures { OnOk result (maps.new.items ≡ with_descriptor maps.old.items (descriptor insn.now)) }
 {
@@ -25,8 +26,8 @@ fn add_descriptor(maps: &mut Vec<u32>, insn: &Insn) -> Result<(), AllocError>
     Ok(())
 }
 
-/// Appends the descriptor of the map that the instruction at `slot` loads, or of which it loads a value, unless it is listed already.
-/// Nothing is appended if no instruction begins there, or it names no map.
+/// Appends the descriptor by which the instruction at `slot` loads a map, or a value of one, to `maps`, unless it is listed already.
+/// Nothing is appended if the instruction loads neither, or none begins there. The error is out of memory.
 fn add_at(maps: &mut Vec<u32>, program: &Program, slot: usize) -> Result<(), AllocError>
     ensures { OnOk result (maps.new.items
         ≡ with_descriptor maps.old.items (and_then (begins_at program.now slot) descriptor)) }
@@ -45,8 +46,8 @@ fn names_map(insn: &Insn) -> bool
     insn.profile().reference.descriptor().is_some()
 }
 
-/// The descriptors of the maps that a program loads, each once, in the order of their first loads. Without a descriptor that names
-/// something, a program without a fault of its shape loads no map, and is not searched.
+/// The descriptors by which a program loads maps, or values of maps, each once, in the order of their first loads. If `named`, the list of
+/// open descriptors, is empty, the program loads none, as its shape has no fault, and is not searched. The error is out of memory.
 pub(crate) fn loaded_maps(
     alloc: Global,
     program: &Program,
@@ -78,7 +79,8 @@ fn is_among(maps: &[u32], fd: u32) -> bool
     maps.contains(&fd)
 }
 
-/// The entries of `named`, the open descriptors with their objects, whose descriptors are in the list `maps`. They keep their order.
+/// Those of the open descriptors and their objects (`named`) whose descriptor is in the list `maps`, in the order of `named`. The error is
+/// out of memory.
 pub(crate) fn entries_of(
     alloc: Global,
     named: &[Named],

@@ -1,4 +1,4 @@
-//! Facts whose groups of the stack have numbers.
+//! Facts, with a number for each group of eight stack slots.
 
 ghost use Rattle.std.specs.Prelude.{◌≡◌, ◌<◌};
 ghost use Rattle.words.specs.Stack.{stack_slots};
@@ -9,20 +9,20 @@ use reg_kinds::laws::facts_have_all_slots;
 use reg_kinds::{Facts, GROUP_SLOTS, STACK_GROUPS, StackGroup, join_group, join_registers};
 use transfer::Flow;
 
-/// Facts, with a number for what is known of each group of the stack, which is eight of its slots. Parts with one index and one number are
-/// the same in all facts of a pass, so that a join that is known to change nothing is left out.
+/// Facts, with a number for what is known of each group of eight stack slots (a `StackGroup`). Groups with one index and one number are the
+/// same in all facts of a pass, so that a join that would change nothing can be recognized, and is left out.
 #[derive(Clone, Copy, Debug, Drop)]
 pub(crate) struct NumberedFacts {
     pub(crate) facts: Facts,
-    /// The number of each group of the stack, never 0.
+    /// The number of each group of eight stack slots, never 0.
     pub(crate) numbers: [usize; STACK_GROUPS],
-    /// For each group, the number of the group that was joined into it last: a second join with that group would change nothing. 0 if none has
+    /// For each group, the number of the one that was joined into it last: a second join with that one would change nothing. 0 if none has
     /// been joined into it since it was last written.
     pub(crate) includes: [usize; STACK_GROUPS],
 }
 
 impl NumberedFacts {
-    /// The facts at program entry. All groups of the stack have number 1, which no later group gets, and no join into them is known.
+    /// The facts at program entry. All groups of stack slots have number 1, which is given only here, and no join into them is known.
     pub(crate) fn at_entry() -> NumberedFacts
         ensures { result ≡ at_entry }
     {
@@ -33,7 +33,7 @@ impl NumberedFacts {
         }
     }
 
-    /// Gives all groups of the stack the new number `fresh`, since any of them may have changed; no join into them is known then.
+    /// Gives all groups of eight stack slots the new number `fresh`, since any may have changed. Then no join into them is known.
     pub(crate) fn renumber(&mut self, fresh: usize)
         ensures { self.new ≡ renumbered self.old fresh }
     {
@@ -41,7 +41,8 @@ impl NumberedFacts {
         self.includes = [0; STACK_GROUPS];
     }
 
-    /// Gives the group of a stack slot, 0 to 63, the new number `fresh`, since it may have changed; no join into it is known then.
+    /// Gives the group of eight that has stack slot `slot`, 0 to 63, the new number `fresh`, since the slot may have changed. Then no join
+    /// into the group is known.
     #[inline(always)]
     fn renumber_group(&mut self, slot: usize, fresh: usize)
         requires { slot < stack_slots }
@@ -52,9 +53,9 @@ impl NumberedFacts {
         self.includes[group] = 0;
     }
 
-    /// Gives each group of the stack that an instruction with this flow may have written the new number `fresh`. The slot that a flow names
-    /// is one of the 64, as `apply` promises. The other flows write nothing; a null test gives its numbers on each edge
-    /// (`leave_null_test`).
+    /// Gives each group of eight stack slots that an instruction with this flow may have written the new number `fresh`. The slot that a
+    /// flow names is one of the stack's, as `apply` promises. Any other flow writes nothing in these facts; a null test changes the stack
+    /// only on its edges (`leave_null_test`).
     #[inline(always)]
     pub(crate) fn note(&mut self, flow: &Flow, fresh: usize)
         requires { IsInStack flow.now }
@@ -72,9 +73,9 @@ impl NumberedFacts {
         }
     }
 
-    /// Joins a group of the stack, of index `group`, on another edge into that of these facts, which then includes it. If this changes the
-    /// group, it gets the number `fresh`. It is out of line: `join_stack_group` is inlined, and leaves out joins that are known to change
-    /// nothing.
+    /// Joins the group of eight stack slots of index `group` on another edge into that of these facts, and notes its number in `includes`.
+    /// If this changes the group, it gets the new number `fresh`. Not inlined, unlike `join_stack_group`, which leaves out joins that would
+    /// change nothing.
     #[inline(never)]
     fn join_other_group(&mut self, edge: &NumberedFacts, fresh: usize, group: usize)
         requires { group < stack_groups }
@@ -86,8 +87,8 @@ impl NumberedFacts {
         self.includes[group] = edge.numbers[group];
     }
 
-    /// Joins a group of the stack, of index `group`, on another edge into that of these facts, unless that is known to change nothing. If
-    /// this changes the group, it gets the number `fresh`.
+    /// Joins the group of eight stack slots of index `group` on another edge into that of these facts, unless by `includes` this would
+    /// change nothing. If it changes the group, this gets the new number `fresh`.
     #[inline(always)]
     fn join_stack_group(&mut self, edge: &NumberedFacts, fresh: usize, group: usize)
         requires { group < stack_groups }
@@ -98,7 +99,7 @@ impl NumberedFacts {
         }
     }
 
-    /// Joins the facts on another edge into these. Parts of the stack that change get the number `fresh`.
+    /// Joins the facts on another edge into these. Each group of eight stack slots that this changes gets the new number `fresh`.
     pub(crate) fn join(&mut self, edge: &NumberedFacts, fresh: usize)
         ensures { IsJoin fresh self.old edge.now self.new }
     {

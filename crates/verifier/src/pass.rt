@@ -1,7 +1,8 @@
 //! Whether each instruction may be run with the facts before it. The facts *in hand* are first these, and then those on its falling edge.
 //!
-//! A part of the stack that changes gets a new number. At each slot these are `8 * slot + 2` for the join before the instruction, `+ 3` for
-//! its writes, `+ 4` and `+ 5` for the two edges of a null test, and `+ 6` for the join at the jump's target.
+//! A group of eight stack slots that changes gets a new number (`NumberedFacts`). The new numbers at a slot are `8 * slot + 2` for the join
+//! before the instruction, `+ 3` for its writes, `+ 4` and `+ 5` for the two edges of a null test, and `+ 6` for the join at the jump's
+//! target.
 
 ghost use Rattle.std.specs.Prelude.{◌≡◌, ◌⊎◌, ◌+◌, ◌*◌, ◌<◌, ℕ, [], option_map, if◌then◌else◌, Some, None, IfSome, IfOk, IfErr, OnOk};
 ghost use Rattle.tagged_model.specs.Named.{shapes_named};
@@ -33,7 +34,7 @@ use transfer::{Flow, apply, set_ranges};
 /// The facts during the pass over a program. Their memory is reused by the pass over the next one.
 #[derive(Drop)]
 pub(crate) struct Pass {
-    /// The facts on the falling edge into the next instruction.
+    /// The facts on the falling edge into the next instruction of the pass.
     falling: EdgeFacts,
     /// The facts on the jumps to later slots, joined for each target.
     entries: TargetFacts,
@@ -41,10 +42,10 @@ pub(crate) struct Pass {
     taken: NumberedFacts,
 }
 
-/// Joins the facts on the jumping edge of a comparison of `dst` with `src` into the entry of the jump's target, with `jumps`, the operands'
-/// ranges on this edge; `None` if it can't be taken. In `hand`, the facts before the jump, only these ranges change, and the caller sets
-/// those of the falling edge. Parts of the stack that change at the target get the number `fresh`. The target is a slot of the program, as
-/// its shape has no fault.
+/// Joins the facts on the jumping edge of a comparison of `dst` with `src` into those that `entries` has for `target`, a slot of the
+/// program, as its shape has no fault. `hand` has the facts before the jump; in these only the operands' ranges change, to `jumps`, those
+/// on this edge, and the caller then sets those of the falling edge. With `None` the edge can't be taken, and nothing is done. Each group
+/// of eight stack slots at the target that the join changes gets the new number `fresh`. The error is out of memory.
 #[inline(always)]
 fn send_compared(
     hand: &mut NumberedFacts,
@@ -77,10 +78,10 @@ struct Compared {
     src: Operand,
 }
 
-/// Joins the facts on the jumping edge of a comparison into the entry of `target`, and leaves those on the falling edge in `hand`, which
-/// has the facts before the jump. `jumps` and `falls` have the operands' ranges on these edges; `None` for one that can't be taken. Parts
-/// of the stack that change at the target get the number `fresh`. Returns whether the falling edge can be taken. The target is a slot of
-/// the program, as its shape has no fault.
+/// Joins the facts on the jumping edge of a comparison into those that `entries` has for `target`, a slot of the program, as its shape has
+/// no fault. Changes `hand` from the facts before the jump to those on the falling edge, and returns whether this edge can be taken; if
+/// not, `hand` means nothing then. `jumps` and `falls` have the operands' ranges on these edges; `None` for one that can't be taken. Each
+/// group of eight stack slots at the target that the join changes gets the new number `fresh`. The error is out of memory.
 #[inline(always)]
 fn leave_comparison(
     hand: &mut NumberedFacts,
@@ -110,8 +111,9 @@ fn leave_comparison(
 }
 
 /// Settles the look-up at slot `site` on both edges of the null test at `slot`, which jumps if the result is null (`jumps_on_null`) or else
-/// if it is not. `hand` has the facts before the test, and then those on the falling edge; those on the jumping edge, for which `taken` is
-/// space, are joined into the entry of `target`, a slot of the program, as its shape has no fault.
+/// if it is not. Changes `hand` from the facts before the test to those on the falling edge. Those on the jumping edge, for which `taken`
+/// is space, are joined into those that `entries` has for `target`, a slot of the program, as its shape has no fault. The error is out of
+/// memory.
 fn leave_null_test(
     hand: &mut NumberedFacts,
     entries: &mut TargetFacts,
@@ -134,9 +136,9 @@ fn leave_null_test(
 }
 
 /// Passes the facts after the instruction at `slot`, which are in `hand`, along the edges of `flow`: those on the jumping edge are joined
-/// into the entry of `target`, a slot of the program, as its shape has no fault; those on the falling edge are left in `hand`. `taken` is
-/// space for a null test. Returns whether the falling edge can be taken: `false` after an exit, a jump that is always taken, and a
-/// comparison that always holds.
+/// into those that `entries` has for `target`, a slot of the program, as its shape has no fault; those on the falling edge are then in
+/// `hand`. `taken` is space for a null test. Returns whether the falling edge can be taken: `false` after an exit, a jump that is always
+/// taken, and a comparison that always holds. The error is out of memory.
 #[inline(always)]
 fn leave_by(
     hand: &mut NumberedFacts,
@@ -185,9 +187,10 @@ fn leave_by(
     }
 }
 
-/// Passes the facts after the instruction at `slot`, which are in `hand`, along its edges: those on the jumping edge are joined into the
-/// entry of the jump's target, those on the falling edge are left in `hand`. `taken` is space for a null test. Returns whether the falling
-/// edge can be taken. The target is computed only for a flow that may jump; it is a slot of the program, as its shape has no fault.
+/// Passes the facts after the instruction at `slot`, which are in `hand`, along the edges of its `flow`: those on the jumping edge are
+/// joined into those that `entries` has for the jump's target, those on the falling edge are then in `hand`. `taken` is space for a null
+/// test. Returns whether the falling edge can be taken. The target is computed only for a flow that may jump; it is a slot of the program,
+/// as its shape has no fault. The error is out of memory.
 #[inline(always)]
 fn leave(
     hand: &mut NumberedFacts,
@@ -219,9 +222,10 @@ fn leave(
     }
 }
 
-/// Passes `hand`, the facts before the instruction at `slot`, to the watcher, and changes them to those on its falling edge. Returns
-/// whether this edge can be taken. The error is why the instruction may not be run with these facts, or out of memory. `named` has the
-/// program's maps, and `taken` is space for a null test. A jump's target is a slot of the program, as its shape has no fault.
+/// Passes `hand`, the facts before the instruction at `slot`, to the watcher, and changes them to those on its falling edge. Those on its
+/// jumping edge are joined into those that `entries` has for its target, a slot of the program, as its shape has no fault. Returns whether
+/// the falling edge can be taken. The error is why the instruction may not be run with these facts, or out of memory. `named` has the
+/// program's maps, and `taken` is space for a null test.
 #[inline(always)]
 fn run_past<W: Watcher>(
     hand: &mut NumberedFacts,
@@ -267,8 +271,8 @@ impl Pass {
         }
     }
 
-    /// Begins a pass with the facts at program entry, and without facts on jumps. After a pass that was ended the entries are empty
-    /// already, but no contract says that it was ended.
+    /// Begins a pass: the facts are those at program entry, and there are none on jumps. The facts on jumps that the last pass left are
+    /// removed here too, as no contract says that `end` has removed them.
     fn begin(&mut self)
         ensures falling { self.new.falling ≡ Some at_entry }
         ensures entries { self.new.entries ≡ [] }
@@ -285,9 +289,10 @@ impl Pass {
         self.entries.clear();
     }
 
-    /// Changes the facts before the instruction at `slot`, in `falling`, to those on its falling edge. If there are none, no run reaches
-    /// it, and nothing is done. The error is why the instruction may not be run with these facts, or out of memory. `named` has the
-    /// program's maps. A jump's target is a slot of the program, as its shape has no fault.
+    /// Passes the facts before the instruction at `slot`, in `falling`, to the watcher, and changes them to those on its falling edge.
+    /// Those on its jumping edge are joined into those on the jumps to its target so far, a slot of the program, as its shape has no fault.
+    /// If there are no facts, no run reaches the instruction, and nothing is done. The error is why the instruction may not be run with
+    /// these facts, or out of memory. `named` has the program's maps.
     #[inline(always)]
     fn go_past<W: Watcher>(
         &mut self,
@@ -323,9 +328,10 @@ impl Pass {
         Ok(())
     }
 
-    /// Joins the facts on all edges to `slot`, and changes them to those on the falling edge of the instruction there. The error is why it
-    /// may not be run with them, or out of memory. `named` has the program's maps. A jump's target is a slot of the program, as its shape
-    /// has no fault. `absorb` and `numbered` are for the contract: by them a part of the stack that is not joined again would not change.
+    /// Joins the facts on all edges to `slot`, passes them to the watcher, and changes them to those on the falling edge of the instruction
+    /// there. Those on its jumping edge are joined into those on the jumps to its target so far, a slot of the program, as its shape has no
+    /// fault. The error is why the instruction may not be run with the joined facts, or out of memory. `named` has the program's maps. The
+    /// proof needs `absorb` and `numbered`: by them, stack slots whose join is left out would not have changed.
     fn step<W: Watcher>(
         &mut self,
         named: &[Named],
@@ -359,8 +365,8 @@ impl Pass {
 }
 
 /// Finds the first instruction that may not be run with the facts before it, in one pass over the slots: the error is this fault, or out of
-/// memory. `named` has the program's maps, and `pass` is memory for the facts. At the second slot of a wide instruction none begins, and
-/// nothing is done. The watcher receives the facts before each instruction that a run may reach. Each jump leads to a slot of the program,
+/// memory. `named` has the program's maps, and `pass` is memory for the facts. Nothing is done at the second slot of a wide instruction.
+/// The watcher receives the facts before each instruction that a run may reach, up to the fault. Each jump leads to a slot of the program,
 /// as the caller has checked its shape.
 pub(crate) fn check_safety<W: Watcher>(
     program: &Program,

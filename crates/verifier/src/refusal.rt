@@ -33,8 +33,8 @@ impl Cause {
 /// Why slots are rejected, and because of which slot. As text it is the line that `verify` and the log write for it.
 #[derive(Clone, Copy, Debug, PartialEq, Eq)]
 pub struct Refusal {
-    /// The first slot of the instruction at fault. If there is no slot, 0; if there are too many, the number that a program may have; if
-    /// the bytes end within a slot, the number of whole slots.
+    /// The first slot of the instruction at fault. If there is no slot, 0; if there are too many, the first that is too many, `MAX_SLOTS`;
+    /// if the bytes end within a slot, the number of whole slots.
     pub slot: usize,
     pub cause: Cause,
 }

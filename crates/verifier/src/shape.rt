@@ -20,7 +20,7 @@ use insn_codec::{Insn, MAX_SLOTS, Profile, Program, Reference, Reg, Successors};
 use reg_kinds::Reason;
 use tagged_model::{Named, Target, known_helper, shape_of, target_of};
 
-/// The frame pointer's number.
+/// The number of the register that is the frame pointer.
 const FRAME_POINTER: u8 = 10;
 
 /// Whether the register that an instruction writes is the frame pointer: `false` if it writes none.
@@ -45,8 +45,8 @@ fn is_unknown_helper(reference: Reference) -> bool
     }
 }
 
-/// Whether an instruction names a direct value that its map does not have: `false` also if the descriptor names no map, which is another
-/// fault.
+/// Whether an instruction loads a value of a map directly, without a call, and the map has none at this offset: `false` also if the
+/// descriptor names no map, which is another fault.
 fn is_no_value(named: &[Named], reference: Reference) -> bool
     ensures { result ≡ is_no_value named.now reference }
 {
@@ -61,7 +61,8 @@ fn is_no_value(named: &[Named], reference: Reference) -> bool
     }
 }
 
-/// The fault of the descriptor that an instruction names, or of the direct value; `None` if there is no fault, or it names no descriptor.
+/// Why the descriptor that an instruction names is at fault: it is not open, it names no map, or the map does not have the value that the
+/// instruction loads directly. `None` if there is no fault, or the instruction names no descriptor.
 fn descriptor_reason(named: &[Named], reference: Reference) -> Option<Reason>
     ensures { result ≡ first_reason
         ((is_not_open named.now (descriptor_by reference), DescriptorNotOpen)
@@ -76,9 +77,9 @@ fn descriptor_reason(named: &[Named], reference: Reference) -> Option<Reason>
     }
 }
 
-/// The fault of the target of a jump at `slot`, one of the program: `JumpOutside` if it is below slot 0 or no instruction begins there,
-/// `JumpBackward` if it is not a later slot. `None` if there is no fault or no jump. `successors` are those of `insn`, which only the
-/// contract needs.
+/// The fault of the target of `insn`, the instruction at `slot`, if it may jump: `JumpOutside` if the target is below slot 0 or no
+/// instruction begins there, `JumpBackward` if it is not a later slot. `None` if there is no fault or no jump. `successors` are those of
+/// `insn`, and only the contract needs `insn` itself.
 fn jump_reason(
     program: &Program,
     insn: &Insn,
@@ -102,9 +103,9 @@ fn jump_reason(
     }
 }
 
-/// Whether an instruction is simple, and so has no fault: it is reached, its only successor is the next one, at slot `next`, which exists,
-/// it names nothing, and it does not write the frame pointer. `row` has its properties, and `slots` is the number of slots. False at slot
-/// 0, which no instruction precedes; false only means that all checks are made.
+/// Whether an instruction is simple, and so has no fault of shape: `paths`, those that lead to it, have an instruction; its only successor
+/// is the next one, at slot `next`, which is one of the program's `slots` slots; it names nothing, and does not write the frame pointer.
+/// `row` has its properties. `false` also at slot 0, to which the path has no instruction; `false` only means that all checks are made.
 #[inline(always)]
 fn is_simple(row: &Profile, next: usize, slots: usize, paths: &Paths) -> bool
     ensures { IsTrue result → IsSimple row.now next slots paths.now }
@@ -117,7 +118,7 @@ fn is_simple(row: &Profile, next: usize, slots: usize, paths: &Paths) -> bool
     }
 }
 
-/// The first fault of the instruction at `slot`, whatever the registers hold; `None` if there is none. `row` has its properties, and
+/// The first fault of shape of the instruction at `slot`, by all checks; `None` if there is none. `row` has its properties, and
 /// `is_reached` is whether the slot can be reached.
 #[inline(always)]
 fn reason_against(
@@ -148,8 +149,8 @@ fn reason_against(
     }
 }
 
-/// Adds the instruction at `slot`, simple or not, to `paths`, those that lead there, or returns its first fault. `jumping` has the counts
-/// on the jumps to each slot.
+/// Makes all checks of the instruction at `slot`, and adds it to `paths`, those that lead there, or returns its first fault of shape.
+/// `jumping` has, by slot, the most instructions and calls on the paths that end with a jump there.
 #[inline(always)]
 fn pass_checked(
     program: &Program,
@@ -179,8 +180,9 @@ fn pass_checked(
     }
 }
 
-/// Adds the instruction at `slot`, with the properties `row`, to `paths`, those that lead there, or returns its first fault. A simple one
-/// (`is_simple`) has none. `jumping` has the counts on the jumps to each slot.
+/// Adds the instruction at `slot`, with the properties `row`, to `paths`, those that lead there, or returns its first fault of shape. One
+/// that names nothing and only goes on to the next (`is_simple`) has none, and is not checked. `jumping` has, by slot, the most
+/// instructions and calls on the paths that end with a jump there.
 #[inline(always)]
 fn pass(
     program: &Program,
@@ -210,8 +212,9 @@ fn pass(
     }
 }
 
-/// Finds the first fault of a program's shape, which is the error, or what the program costs if it is accepted, in one pass. The error may
-/// also be out of memory. `named` lists the open descriptors; `jumping` is space for the counts on the jumps to each slot.
+/// Finds, in one pass, the first fault of a program's shape, which is the error, or else what the program costs. The error may also be out
+/// of memory. `named` lists the open descriptors and their objects; `jumping` is space for the most instructions and calls on the paths
+/// that end with a jump to each slot.
 pub(crate) fn check_shape(
     program: &Program,
     named: &[Named],

@@ -14,7 +14,8 @@ use std::marker::Model;
 /// Contracts see the list of these facts by slot, up to the last slot that a jump has led to.
 #[derive(Drop)]
 pub(crate) struct TargetFacts {
-    /// An entry for each slot up to the last one that a jump has led to; `None` if no jump has led to the slot, or the pass has taken them.
+    /// An entry for each slot up to the last one that a jump has led to: the facts on the jumps there, or `None` if no jump has led there
+    /// or the pass has taken the facts.
     facts: Vec<Option<Box<NumberedFacts>>>,
     /// Boxes of entries whose facts the pass has taken, for reuse; what they hold means nothing.
     spare: Vec<Box<NumberedFacts>>,
@@ -29,7 +30,7 @@ impl Model for TargetFacts {
     ghost view = { λ e. map (option_map box_value) e.facts.items };
 }
 
-/// A box with these facts: a spare one, or a new one if there is no spare one.
+/// A box with these facts: a spare one, or a new one if there is no spare one. The error is out of memory.
 fn boxed(
     spare: &mut Vec<Box<NumberedFacts>>,
     alloc: Global,
@@ -46,7 +47,7 @@ fn boxed(
     }
 }
 
-/// Appends a box to the spare ones, for reuse.
+/// Appends a box to the spare ones, for reuse. The error is out of memory for their list.
 fn keep(spare: &mut Vec<Box<NumberedFacts>>, entry: Box<NumberedFacts>) -> Result<(), AllocError>
     ensures { OnOk result (spare.new.items ≡ spare.old.items ++ entry ∷ []) }
 {
@@ -54,8 +55,9 @@ fn keep(spare: &mut Vec<Box<NumberedFacts>>, entry: Box<NumberedFacts>) -> Resul
     Ok(())
 }
 
-/// Joins the facts of a jump into the entry of its target, in place. If the entry has none, they are copied to a box, if possible a spare
-/// one. Parts of the stack that change get the number `fresh`.
+/// Joins the facts on a jump into `entry`, those on the jumps to its target so far, in place. If there are none, they are copied to a box,
+/// a spare one if there is one. Each group of eight stack slots that a join changes gets the new number `fresh`. The error is out of
+/// memory.
 fn join_entry(
     entry: &mut Option<Box<NumberedFacts>>,
     facts: &NumberedFacts,
@@ -73,7 +75,7 @@ fn join_entry(
     Ok(())
 }
 
-/// Appends empty entries, until there are `slots` or more.
+/// Appends empty entries (`None`) to `facts`, until it has at least `slots` entries. The error is out of memory.
 fn append_empty(facts: &mut Vec<Option<Box<NumberedFacts>>>, slots: usize) -> Result<(), AllocError>
     ensures within { OnOk result (slots ≤ length (map (option_map box_value) facts.new.items)) }
     ensures entries { OnOk result ((i : ℕ) → entry_of i (map (option_map box_value) facts.new.items)
@@ -85,8 +87,8 @@ fn append_empty(facts: &mut Vec<Option<Box<NumberedFacts>>>, slots: usize) -> Re
     Ok(())
 }
 
-/// Empties all entries, and keeps their boxes for reuse. A box for which the list of spare ones cannot grow is freed, which only costs an
-/// allocation later.
+/// Empties the entries of all slots, and keeps their boxes in `spare`, for reuse. A box for which this list cannot grow is freed, which
+/// only costs an allocation later.
 fn keep_all(facts: &mut [Option<Box<NumberedFacts>>], spare: &mut Vec<Box<NumberedFacts>>) {
     for entry in facts {
         if let Some(entry) = entry.take() {
@@ -96,7 +98,7 @@ fn keep_all(facts: &mut [Option<Box<NumberedFacts>>], spare: &mut Vec<Box<Number
 }
 
 impl TargetFacts {
-    /// No entries.
+    /// No facts on jumps.
     pub(crate) fn new(alloc: Global) -> TargetFacts
         ensures { result ≡ [] }
     {
@@ -106,7 +108,7 @@ impl TargetFacts {
         }
     }
 
-    /// Removes all entries. Their memory is kept for later ones.
+    /// Removes the facts of all slots. Their memory is kept for later ones.
     pub(crate) fn clear(&mut self)
         ensures { self.new ≡ [] }
     {
@@ -114,8 +116,9 @@ impl TargetFacts {
         self.facts.clear();
     }
 
-    /// Joins the facts of the jumps to `slot` into `known`, those on the falling edge, and empties the entry, whose box is kept. Nothing is
-    /// done if no jump has led there. Parts of the stack that change get the number `fresh`. `AllocError`: no memory to list the box.
+    /// Joins the facts on the jumps to `slot` into `known`, those on the falling edge, and empties the entry of the slot, whose box is
+    /// kept. Nothing is done if no jump has led there. Each group of eight stack slots that a join changes gets the new number `fresh`. The
+    /// error is out of memory to list the box.
     pub(crate) fn join_at(
         &mut self,
         slot: usize,
@@ -135,7 +138,8 @@ impl TargetFacts {
         Ok(())
     }
 
-    /// Appends empty entries, until the list has one for `slot`, which is one of a program, so that `slot + 1` can't overflow.
+    /// Appends empty entries (`None`), until the list has an entry for `slot`, a slot of a program, so that `slot + 1` can't overflow. The
+    /// error is out of memory.
     fn reach(&mut self, slot: usize) -> Result<(), AllocError>
         requires { slot < MAX_SLOTS }
         ensures within { OnOk result (slot < length self.new) }
@@ -144,8 +148,8 @@ impl TargetFacts {
         append_empty(&mut self.facts, slot + 1)
     }
 
-    /// Joins the facts of a jump into the entry of its target, a slot of a program. Nothing is done without a target (`None`). Parts of the
-    /// stack that change get the number `fresh`.
+    /// Joins the facts on a jump to `target`, a slot of a program, into those on the jumps there so far. Nothing is done without a target
+    /// (`None`). Each group of eight stack slots that a join changes gets the new number `fresh`. The error is out of memory.
     pub(crate) fn send(
         &mut self,
         target: Option<usize>,
@@ -161,8 +165,8 @@ impl TargetFacts {
         Ok(())
     }
 
-    /// Joins the facts of a jump to `slot`, one of a program, into the entry of this slot. Parts of the stack that change get the number
-    /// `fresh`.
+    /// Joins the facts on a jump to `slot`, a slot of a program, into those on the jumps there so far. Each group of eight stack slots that
+    /// a join changes gets the new number `fresh`. The error is out of memory.
     pub(crate) fn put(
         &mut self,
         slot: usize,
@@ -176,8 +180,8 @@ impl TargetFacts {
         self.put_within(slot, facts, fresh)
     }
 
-    /// Joins the facts of a jump to `slot` into the entry of this slot, which is in the list. Parts of the stack that change get the number
-    /// `fresh`.
+    /// Joins the facts on a jump to `slot` into those on the jumps there so far, whose list already has an entry for the slot. Each group
+    /// of eight stack slots that a join changes gets the new number `fresh`. The error is out of memory.
     fn put_within(
         &mut self,
         slot: usize,

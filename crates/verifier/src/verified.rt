@@ -73,8 +73,8 @@ impl Verified {
         self.found.cost
     }
 
-    /// A law: what a run of the program executes is a path from slot 0, an instruction in each step, if the run is given maps of the
-    /// shapes with which the program was accepted. It does nothing when it runs.
+    /// A law: a run of the program executes a path from slot 0 to an exit, an instruction in each step, if the run is given maps of the
+    /// shapes with which the program was accepted. The function does nothing when it is called.
     pub fn runs_are_paths(&self)
         ensures { RunsArePaths (shapes_in self.now) self.now.code }
     {
@@ -83,8 +83,8 @@ impl Verified {
         laws::accepted_runs_are_paths();
     }
 
-    /// A law: no run of the program faults that is given maps of the shapes with which it was accepted. It does nothing when it
-    /// runs.
+    /// A law: no run of the program faults that is given maps of the shapes with which the program was accepted. The function does nothing
+    /// when it is called.
     pub fn never_faults(&self)
         ensures { (maps : MapsByDescriptor) (words packet : List ℕ)
             → AreRunInputs (shapes_in self.now) maps words packet
@@ -95,8 +95,8 @@ impl Verified {
         laws::accepted_programs_never_fault();
     }
 
-    /// A law: each edge out of an instruction of the program leads to another instruction, at a later
-    /// slot. It does nothing when it runs.
+    /// A law: each edge out of an instruction of the program leads to another instruction, at a later slot. The function does nothing when
+    /// it is called.
     pub fn goes_ahead(&self)
         ensures { GoesAhead self.now.code }
     {
@@ -105,8 +105,8 @@ impl Verified {
     }
 }
 
-/// Verifies a program. `named` lists the open descriptors and the objects that they name; the first entry of a descriptor counts.
-/// The result has a copy of the program.
+/// Verifies a program. `named` lists the open descriptors and the objects that they name; if it has a descriptor twice, the first object
+/// counts. The result has a copy of the program.
 ///
 /// # Errors
 ///

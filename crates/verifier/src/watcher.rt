@@ -16,7 +16,7 @@ pub trait Watcher {
     ///
     /// # Errors
     ///
-    /// `AllocError`: out of memory. The pass ends there.
+    /// `AllocError`: out of memory, whether or not the facts were received. The pass ends there.
     fn before(&mut self, slot: usize, facts: &Facts) -> Result<(), AllocError>
         ensures ok { OnOk result
             (seen self.new ≡ with_more (seen self.old) ((slot, facts.now) ∷ [])) }

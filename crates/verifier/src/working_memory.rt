@@ -4,16 +4,17 @@ use crate::cost::Counts;
 use crate::pass::Pass;
 use std::alloc::{AllocError, Global};
 
-/// The memory that verifications work in, one after another: two counts for each slot, and the facts that wait at jump targets.
+/// The memory that verifications work in, one after another: by slot, the most instructions and calls on the paths that end with a jump
+/// there, and the facts on these jumps.
 ///
 /// It has no contents between two verifications: the judgement on a program is the same with a new one. It is reused since fresh
 /// memory is slow: a program whose jumps wait at 1,900 targets needs 4.7 MB. It keeps what the largest verification so far has
 /// requested, which is at most 5.1 MB, and frees it when it is dropped.
 #[derive(Drop)]
 pub struct WorkingMemory {
-    /// The counts on the jumps to each slot, in the pass over a program's shape.
+    /// In the pass over a program's shape: by slot, the most instructions and calls on the paths that end with a jump there.
     pub(crate) jumping: Vec<Counts>,
-    /// The facts, in the pass over its instructions. The first such pass allocates them.
+    /// The facts, in the pass over a program's instructions. The first such pass allocates them.
     pass: Option<Box<Pass>>,
     alloc: Global,
 }

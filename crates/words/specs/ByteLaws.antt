@@ -114,8 +114,8 @@ bytes_written bytes new offset h =
     (drop-append_seam (take offset bytes) (new ++ drop (offset + length new) bytes))
     ∙ take-append_seam new (drop (offset + length new) bytes)
 
--- n bytes at `from` that end at an offset or below are those of the list, whatever replaces the
--- rest of the list from this offset on
+-- if other bytes (`rest`) replace the list from an offset on, n bytes at `from` that end at this
+-- offset or below are unchanged
 before : (bytes rest : List ℕ) (offset from n : ℕ)
     → from + n ≤ offset
     → offset ≤ length bytes
@@ -138,8 +138,7 @@ before bytes rest offset from n h k =
     (drop (offset - from) (drop from bytes)) less)
     ∙ ap (take n) (take-append-drop (offset - from) (drop from bytes))
 
--- after a write, the rest of the list is unchanged from any offset on that is past the written
--- bytes
+-- a write does not change the list from `from` on, if each written byte is before `from`
 behind : (bytes new : List ℕ) (offset from : ℕ)
     → offset + length new ≤ from
     → offset ≤ length bytes
@@ -166,8 +165,8 @@ bytes_stay bytes new offset from n k (inl h) =
 bytes_stay bytes new offset from n k (inr h) =
     ap (take n) (behind bytes new offset from h (omega arith))
 
--- of a list, a write at offset + at, within the `size` bytes at the offset, changes these bytes as
--- a write at `at` in them does
+-- a write at offset + at, within the `size` bytes of a list at `offset`, changes these bytes as a
+-- write at `at` changes a list of only these bytes
 pub over_within : (bytes new : List ℕ) (offset size at : ℕ)
     → offset + size ≤ length bytes
     → at + length new ≤ size
@@ -189,7 +188,7 @@ over_within bytes new offset size at fits room =
     (λ above. outside k lt long (inr (omega arith)) (inr above)) (cases_lt k (at + length new)))
     (cases_lt k at))
   where
-    -- a byte that is not written is that of the list in both
+    -- on both sides of the law, a byte that is not written is that of the list
     outside : (k : ℕ)
         → k < size
         → length (bytes_at bytes offset size) ≡ size
@@ -203,7 +202,7 @@ over_within bytes new offset size at fits room =
         (written_out (bytes_at bytes offset size) new at k (omega arith) near
         ∙ byte_of bytes offset size k lt)
 
-    -- a byte that is written is the new one in both
+    -- on both sides of the law, a byte that is written is the new one
     inside : (k : ℕ)
         → k < size
         → length (bytes_at bytes offset size) ≡ size
@@ -247,7 +246,7 @@ over_part bytes new start size at fits room =
     (cases_lt q (start + size)))
     (cases_lt q start))
   where
-    -- a byte outside the part is that of the list in both
+    -- on both sides of the law, a byte outside the `size` bytes at `start` is that of the list
     outside : (q : ℕ)
         → length (written_at (bytes_at bytes start size) at new) ≡ size
         → (q < start) ⊎ (start + length (written_at (bytes_at bytes start size) at new) ≤ q)
@@ -258,8 +257,8 @@ over_part bytes new start size at fits room =
         written_out bytes (written_at (bytes_at bytes start size) at new) start q (omega arith) far
         ∙ sym (written_out bytes new (start + at) q (omega arith) near)
 
-    -- a byte of the part, after the part is written back, is that of the part's bytes after the
-    -- write of `new`
+    -- after the `size` bytes are written back, a byte of the list among them is that which they had
+    -- after the write of `new`
     through : (q : ℕ)
         → start ≤ q
         → q < start + size
@@ -275,7 +274,8 @@ over_part bytes new start size at fits room =
         ∙ written_in bytes (written_at (bytes_at bytes start size) at new) start (q - start)
         (omega arith) (omega arith)
 
-    -- a byte of the part that the write of `new` leaves unchanged is that of the list
+    -- on both sides of the law, a byte among the `size` bytes that `new` does not overwrite is that
+    -- of the list
     kept : (q : ℕ)
         → start ≤ q
         → q < start + size
@@ -291,7 +291,8 @@ over_part bytes new start size at fits room =
         ∙ ap (λ (x : ℕ). get_or bytes x 0) there
         ∙ sym (written_out bytes new (start + at) q (omega arith) near)
 
-    -- a byte of the part that the write of `new` changes is a byte of `new`
+    -- on both sides of the law, a byte among the `size` bytes that `new` overwrites is a byte of
+    -- `new`
     fresh : (q : ℕ)
         → start ≤ q
         → at ≤ q - start
@@ -309,7 +310,7 @@ over_part bytes new start size at fits room =
         (ap (λ (x : ℕ). get_or (written_at bytes (start + at) new) x 0) (sym there)
         ∙ written_in bytes new (start + at) (q - start - at) (omega arith) (omega arith))
 
-    -- a byte of the part is the same in both
+    -- a byte among the `size` bytes at `start` is the same on both sides of the law
     inside : (q : ℕ)
         → start ≤ q
         → q < start + size

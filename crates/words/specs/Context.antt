@@ -2,7 +2,7 @@
 -- (linux/bpf.h).
 use Rattle.std.specs.Prelude.{ℕ}
 
--- the number of 32-bit words of the context after the first, which the caller of a test run gives
--- (this project's own)
+-- how many 32-bit words of the context the caller of a test run gives: all but the first (this
+-- project's own)
 abbrev pub given_words : ℕ
 given_words = 10

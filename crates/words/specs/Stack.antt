@@ -35,7 +35,7 @@ is_double _ = false
 abbrev pub is_in_stack : ℤ → ℕ → Bool
 is_in_stack offset n = int_le (negsuc (stack_size - 1)) offset && int_le (offset +ℤ pos n) (pos 0)
 
--- the byte index of an offset in the stack: 512 above it, 0 for the lowest byte (-512)
+-- the byte index of an offset in the stack: the offset plus 512, so 0 for the lowest byte (-512)
 abbrev pub byte_index : ℤ → ℕ
 byte_index offset = unsigned_abs (offset +ℤ pos stack_size)
 

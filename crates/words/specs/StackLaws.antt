@@ -8,8 +8,8 @@ use Rattle.words.specs.declared.stack.AccessSize.{AccessSize}
 use Rattle.words.specs.declared.stack.AccessSize.TheVariants.{Byte, Half, Word, Double}
 use Rattle.words.specs.Stack.{bytes_of, is_in_stack, byte_index}
 
--- if n bytes at an offset lie in the stack, the offset's byte index is 512 above it, and the n
--- bytes there end at 512 or below
+-- if n bytes at an offset lie in the stack, the byte index of this offset is the offset plus 512,
+-- and the n bytes end at byte index 512 or below
 pub in_stack : (n : ℕ) (y : ℤ)
     → is_in_stack y n ≡ true
     → (pos (byte_index y) ≡ pos 512 +ℤ y) × (byte_index y + n ≤ 512)

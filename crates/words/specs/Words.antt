@@ -67,7 +67,7 @@ shift_right n a b = a / 2 ^ (b % n)
 abbrev pub signed_shift_right : ℕ → ℕ → ℕ → ℕ
 signed_shift_right n a b = unsigned n (int_shr (signed n a) (b % n))
 
--- ---- parts of a word
+-- ---- the low bits of a word
 
 -- the low k bits of a, read as a signed number of k bits and written as a word of n bits
 abbrev pub sign_extend : ℕ → ℕ → ℕ → ℕ

@@ -66,8 +66,8 @@ pub enum Operator {
     End { how: ByteOrder, bits: KeptBits },
 }
 
-/// The condition of a conditional jump (RFC 9669, section 4.3). `Above` to `BelowOrEqual` compare unsigned numbers, the signed ones numbers
-/// in two's complement.
+/// The condition of a conditional jump (RFC 9669, section 4.3). `Above` to `BelowOrEqual` compare unsigned numbers, `SignedAbove` to
+/// `SignedBelowOrEqual` numbers in two's complement.
 #[derive(Clone, Copy, Debug, PartialEq, Eq)]
 pub enum Condition {
     Equal,
@@ -88,7 +88,7 @@ impl KeptBits {
     ghost use Rattle.std.specs.Prelude.{◌≡◌};
     ghost use Rattle.words.specs.Operate.{kept_bits};
 
-    /// The number of bits: 16, 32 or 64, in the type of the immediate field, in which an instruction has it.
+    /// The number of bits: 16, 32 or 64. It has the type of the immediate field, in which a slot has it.
     pub fn count(self) -> u32
         ensures { result ≡ kept_bits self }
     {
@@ -104,7 +104,7 @@ impl ExtendedBits {
     ghost use Rattle.std.specs.Prelude.{◌≡◌};
     ghost use Rattle.words.specs.Operate.{extended_bits, is_short};
 
-    /// The number of bits: 8, 16 or 32, in the type of the offset field, in which an instruction has it.
+    /// The number of bits: 8, 16 or 32. It has the type of the offset field, in which a slot has it.
     pub fn count(self) -> u16
         ensures { result ≡ extended_bits self }
     {
@@ -115,7 +115,7 @@ impl ExtendedBits {
         }
     }
 
-    /// Whether they are fewer than 32: then a move of 32 bits can extend the sign from them (RFC 9669, section 4.1).
+    /// Whether these bits are fewer than 32: then a move of 32 bits can extend the sign from them (RFC 9669, section 4.1).
     pub fn is_short(self) -> bool
         ensures { result ≡ is_short self }
     {

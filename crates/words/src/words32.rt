@@ -125,7 +125,7 @@ pub fn exclusive_or(a: u64, b: u64) -> u64
     u64::from(low_word(a) ^ low_word(b))
 }
 
-/// The low half of `a` shifted left by `b` modulo 32.
+/// The low half of `a` shifted left by `b % 32` bits. The bits that leave the 32 bits are lost.
 #[inline(always)]
 pub fn shift_left(a: u64, b: u64) -> u64
     ensures { result ≡ shift_left 32 (low 32 a) (low 32 b) }
@@ -133,7 +133,7 @@ pub fn shift_left(a: u64, b: u64) -> u64
     u64::from(low_word(a) << (low_word(b) % 32))
 }
 
-/// The low half of `a` shifted right by `b` modulo 32, with zeros from the left.
+/// The low half of `a` shifted right by `b % 32` bits, with zeros from the left.
 #[inline(always)]
 pub fn shift_right(a: u64, b: u64) -> u64
     ensures { result ≡ shift_right 32 (low 32 a) (low 32 b) }
@@ -141,7 +141,7 @@ pub fn shift_right(a: u64, b: u64) -> u64
     u64::from(low_word(a) >> (low_word(b) % 32))
 }
 
-/// The low half of `a`, as a signed number, shifted right by `b` modulo 32, with copies of its sign bit (bit 31) from the left.
+/// The low half of `a`, as a signed number, shifted right by `b % 32` bits, with copies of its sign bit (bit 31) from the left.
 #[inline(always)]
 pub fn signed_shift_right(a: u64, b: u64) -> u64
     ensures { result ≡ signed_shift_right 32 (low 32 a) (low 32 b) }
@@ -165,7 +165,7 @@ pub fn negate(a: u64) -> u64
     u64::from(0u32.wrapping_sub(low_word(a)))
 }
 
-/// The low bits of `a`, sign-extended from `from` to 32 bits. From 32 bits it is the low half itself.
+/// The low bits of `a`, as many as `from` has, sign-extended to 32 bits. For all 32 it is the low half itself.
 #[inline(always)]
 pub fn sign_extend(from: ExtendedBits, a: u64) -> u64
     ensures { result ≡ sign_extend 32 (extended_bits from) (low 32 a) }

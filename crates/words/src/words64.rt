@@ -102,7 +102,7 @@ pub fn exclusive_or(a: u64, b: u64) -> u64
     a ^ b
 }
 
-/// `a` shifted left by `b` modulo 64.
+/// `a` shifted left by `b % 64` bits. The bits that leave the word are lost.
 #[inline(always)]
 pub fn shift_left(a: u64, b: u64) -> u64
     ensures { result ≡ shift_left 64 a b }
@@ -110,7 +110,7 @@ pub fn shift_left(a: u64, b: u64) -> u64
     a << (b % 64)
 }
 
-/// `a` shifted right by `b` modulo 64, with zeros from the left.
+/// `a` shifted right by `b % 64` bits, with zeros from the left.
 #[inline(always)]
 pub fn shift_right(a: u64, b: u64) -> u64
     ensures { result ≡ shift_right 64 a b }
@@ -118,7 +118,7 @@ pub fn shift_right(a: u64, b: u64) -> u64
     a >> (b % 64)
 }
 
-/// `a`, as a signed number, shifted right by `b` modulo 64, with copies of its sign bit (bit 63) from the left.
+/// `a`, as a signed number, shifted right by `b % 64` bits, with copies of its sign bit (bit 63) from the left.
 #[inline(always)]
 pub fn signed_shift_right(a: u64, b: u64) -> u64
     ensures { result ≡ signed_shift_right 64 a b }
@@ -134,7 +134,7 @@ pub fn negate(a: u64) -> u64
     0u64.wrapping_sub(a)
 }
 
-/// The low bits of `a`, sign-extended from `from` to 64 bits.
+/// The low bits of `a`, as many as `from` has, sign-extended to 64 bits.
 #[inline(always)]
 pub fn sign_extend(from: ExtendedBits, a: u64) -> u64
     ensures { result ≡ sign_extend 64 (extended_bits from) a }

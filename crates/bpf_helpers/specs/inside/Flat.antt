@@ -17,13 +17,13 @@ use Rattle.bpf_helpers.specs.States.{CallSite, CallResult, site}
 abbrev pub site_of : Caller → Memory → LiveMaps → CallSite
 site_of caller memory maps = site caller.tenant caller.bind.now caller.packet.now memory maps
 
--- the bytes of a key, of the size for the map of handle k, at an offset of the part
+-- the bytes at an offset of the part, as many as a key of the map of handle k has
 abbrev pub key_bytes : CallSite → ℕ → ℕ → List ℕ
 key_bytes site k at =
     bytes_at site.memory.bytes (part_start site.memory site.tenant + at)
     (shape_at site.maps k).key_size
 
--- the bytes of a value, of the size for the map of handle k, at an offset of the part
+-- the bytes at an offset of the part, as many as a value of the map of handle k has
 abbrev pub value_bytes : CallSite → ℕ → ℕ → List ℕ
 value_bytes site k at =
     bytes_at site.memory.bytes (part_start site.memory site.tenant + at)
@@ -36,13 +36,14 @@ pair_there site k key value =
 
 -- ---- a look-up
 
--- the address of the value of an element; 0, null, without an element
+-- the address of an element's value, for the map whose handle is `key`; null (0) if no element is
+-- given
 abbrev pub value_word : CallSite → ℕ → Option ℕ → ℕ
 value_word site key None = 0
 value_word site key (Some element) =
     base + (part_start site.memory site.tenant + offset_at site.maps key element)
 
--- the address of the value of a key; 0 if the map does not have the key
+-- the address of the value that the map of n has for the key of n; 0 if it does not have the key
 abbrev pub key_word : CallSite → NamedKey → ℕ
 key_word site n =
     value_word site n.map (look_up (table_of (keys_at site.maps n.map)) n.key)

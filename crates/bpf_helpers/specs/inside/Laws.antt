@@ -45,8 +45,8 @@ StackBytesAreWritten =
 
 -- ---- the bytes that a helper writes
 
--- if the machine writes bytes through a pointer, the memory with these bytes at its address
--- represents the state after it
+-- if the machine writes bytes through a pointer, the pointer's word names as many bytes of the
+-- part, and the memory with the bytes written to them represents the state after the write
 abbrev pub OutputsKeepSimulation : Type 0
 OutputsKeepSimulation =
     (env : Environment) (l : Layout) (flat : FlatState) (s u : RunState)
@@ -66,7 +66,8 @@ GivesWord env l w None = Unit {0}
 GivesWord env l None (Some v) = ⊥
 GivesWord env l (Some w) (Some v) = IsWord env l v w
 
--- a look-up on words and bytes has the result of the machine's
+-- if the machine has a look-up in the state s, it returns a value v, and the look-up on words and
+-- bytes returns a word that represents v
 abbrev pub LookUpsFollow : Type 0
 LookUpsFollow =
     (env : Environment) (l : Layout) (flat : FlatState) (s u : RunState)
@@ -100,7 +101,8 @@ pub record UpdateKeepsSimulation (env : Environment) (l : Layout) (flat : FlatSt
   pub stands : Simulates env layout (with_held flat answer.memory answer.maps)
       (with_map s asked.given.descriptor (update_reply asked).map)
 
--- after an update, words, bytes and live maps represent the state after the machine's
+-- after an update, words, bytes and live maps represent the state after the machine's update of the
+-- same map, key, value and flags (`UpdateKeepsSimulation`)
 abbrev pub UpdatesKeepSimulation : Type 0
 UpdatesKeepSimulation =
     (env : Environment) (l : Layout) (flat : FlatState) (s : RunState)
@@ -117,7 +119,8 @@ UpdatesKeepSimulation =
     }) asked.flags answer
     → UpdateKeepsSimulation env l flat s asked answer
 
--- after a deletion, words, bytes and live maps represent the state after the machine's
+-- a deletion returns what the machine's deletion of the same key does, and after it words, bytes
+-- and live maps represent the machine's state, in which register 0 does not have the result yet
 abbrev pub DeletesKeepSimulation : Type 0
 DeletesKeepSimulation =
     (env : Environment) (l : Layout) (flat : FlatState) (s : RunState)
@@ -155,12 +158,12 @@ ReturnsKeepSimulation =
 
 -- ---- one map at the start and the end of a run
 
--- the element of the key of index n among those of the map of handle k
+-- the element of the key at index n in the order of the keys, for the map of handle k
 abbrev pub nth_element : LiveMaps → ℕ → ℕ → ℕ
 nth_element tenant k n = slice_index (values_of (keys_at tenant k).entries) n
 
--- at the start of a run, the map of handle k represents one whose objects are numbered in the order
--- of their keys
+-- at the start of a run, the live map of handle k represents the run's map of descriptor m, of
+-- which the objects are numbered in the order of their keys
 abbrev pub MapsBegin : Type 0
 MapsBegin =
     (l : Layout) (start : ℕ) (memory : List ℕ) (tenant : LiveMaps) (k m : ℕ) (value : ℕ → List ℕ)
@@ -173,7 +176,7 @@ MapsBegin =
     → HasMap l (stored_maps start memory tenant) k m
     (map_at_start (with_values value (table_of (keys_at tenant k))))
 
--- at the end of a run, the map of handle k has the same pairs as the machine's map
+-- at the end of a run, the map of handle k has the same keys and values as the machine's map
 abbrev pub MapsEnd : Type 0
 MapsEnd =
     (l : Layout) (start : ℕ) (memory : List ℕ) (old new : LiveMaps) (k m : ℕ) (t : RunMap)

@@ -74,8 +74,8 @@ abbrev pub label_fault : Option Definition → ℕ → Option TextFaultKind
 label_fault definition line =
     if nat_lt (kept_line definition line) line then Some LabelTwice else None
 
--- the fault of a line (`None` if it has none of the forms), with its index and the slots before it
--- in `here`
+-- the fault of a line (`None` if it has none of the forms), of which `here` has the index and the
+-- number of slots before it; `None` if it has no fault
 abbrev pub kept_fault : Labels → Definition → Option Line → Option TextFaultKind
 kept_fault labels here None = Some Syntax
 kept_fault labels here (Some blank) = None

@@ -77,7 +77,7 @@ chosen_subcommand arguments = subcommand_of program arguments
 abbrev pub tenants_value : List Row → Option Text
 tenants_value rows = first_of (codes "tenants") rows
 
--- a number of tenants in decimal digits; None if it is not from 1 to the most that there may be
+-- a number of tenants in decimal digits; None if it is not from 1 to `most_tenants`
 abbrev pub tenant_number : Text → Option ℕ
 tenant_number digits =
     option_and_then (λ number. if is_from_to 1 most_tenants number then Some number else None)
@@ -89,8 +89,8 @@ map_arguments rows = unwrap_or (all_of (codes "map") rows) []
 
 -- ---- the task that the arguments name
 
--- serve frames to a number of tenants; read a text and write another one; verify a program, with
--- arguments for its maps
+-- a task: to serve frames to a number of tenants; to assemble or disassemble; or to verify a
+-- program, with arguments for its maps
 pub data Asked : Type 0 where
   Serves : ℕ → Asked
   Rewrites : TextTask → Asked

@@ -26,7 +26,7 @@ colon = 58
 abbrev pub is_descriptor : ℕ → Bool
 is_descriptor fd = is_from_to fds.first_descriptor (fds.first_descriptor + fds.most - 1) fd
 
--- the descriptor in decimal digits; None if it is not one of the table
+-- the descriptor in decimal digits; None if it is not from 3 to 66, or the text is no number
 abbrev pub descriptor_number : Text → Option ℕ
 descriptor_number text =
     option_and_then (λ fd. if is_descriptor fd then Some fd else None) (decimal_number text)

@@ -96,7 +96,7 @@ fn tenants_given(serve: &ArgMatches<'_>) -> Option<usize>
     tenant_count(serve.get_str("tenants")?)
 }
 
-/// The task of the subcommand with this name; `None` if its options are wrong.
+/// The task of the subcommand with this name; `None` if its options are wrong, or if no subcommand has the name, which clap rejects before.
 fn task_named<'m, 'a>(name: &str, options: &'m ArgMatches<'a>) -> Option<Task<'m, 'a>>
     ensures tenants { IfSome result HasTenants }
     ensures asked { option_map asked_by result
@@ -127,8 +127,9 @@ fn chosen_task<'m, 'a>(matches: &'m ArgMatches<'a>) -> Option<Task<'m, 'a>>
     task_named(name, options)
 }
 
-/// Serves the input's frames and writes the replies; without a seed it fails before it reads. No failure has status 2, that of wrong
-/// arguments. It consumes the streams, so what was read and written, and which fault came, is only in the contract of `serve_frames`.
+/// Serves the input's frames and writes the replies. `Seed` if there is no seed, before anything is read; `Memory` if out of memory; else
+/// it fails like `serve_frames`. No failure has status 2, that of wrong arguments. It consumes the streams, so what was read and written,
+/// and which fault came, is only in the contract of `serve_frames`.
 fn serve_streams<I: Read + Drop, O: Write + Drop>(
     alloc: Global,
     seed: Option<HashSeed>,
@@ -151,8 +152,8 @@ fn serve_streams<I: Read + Drop, O: Write + Drop>(
     serve_frames(alloc, tenants, seed, &mut reader, &mut writer)
 }
 
-/// Assembles or disassembles the input. No failure has status 2, that of wrong arguments. It consumes the streams, so what was read and
-/// written, and which fault came, is in the contract of `rewrite` only.
+/// Assembles or disassembles the input. It fails like `rewrite`, and no failure has status 2, that of wrong arguments. It consumes the
+/// streams, so what was read and written, and which fault came, is only in the contract of `rewrite`.
 fn rewrite_streams<I: Read + Drop, O: Write + Drop>(
     alloc: Global,
     task: TextTask,
@@ -178,8 +179,9 @@ fn maps_given(alloc: Global, arguments: Option<&[&str]>) -> Result<Vec<Named>, F
     }
 }
 
-/// Reads the map arguments, verifies the input's program, and returns the exit status of the verdict: 0 if it is accepted, else 1. It
-/// consumes the streams, so what was read and written, and which fault came, is only in the contract of `judge`.
+/// Reads the map arguments, verifies the input's program, and returns the exit status of the verdict: 0 if it is accepted, else 1. It fails
+/// like `maps_given` or `judge`. It consumes the streams, so what was read and written, and which fault came, is only in the contract of
+/// `judge`.
 fn judge_streams<I: Read + Drop, O: Write + Drop>(
     alloc: Global,
     arguments: Option<&[&str]>,

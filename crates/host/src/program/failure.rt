@@ -25,7 +25,7 @@ pub enum Failure {
     /// In the input of `serve` another byte follows `MOST_FRAMES` frames.
     #[error("too many frames")]
     TooManyFrames,
-    /// The input of another subcommand has more than 1,048,576 bytes.
+    /// The input of `asm`, `dis` or `verify` has more than `LONGEST_INPUT` bytes.
     #[error("input too long")]
     TooLong,
     /// A text or hex lines have a fault. Lines are numbered from 1; line 0 is the whole text. `kind` is the fault's number in `bpf_text`.
@@ -66,7 +66,8 @@ impl Failure {
         }
     }
 
-    /// The exit status of the program: 1 if the input is rejected, 2 if arguments are wrong, 3 if a system call failed, 4 if out of memory.
+    /// The exit status of the program: 1 if the input is rejected, 2 if arguments are wrong, 3 if a call of the input or the output failed
+    /// or there is no seed, 4 if out of memory.
     pub fn status(&self) -> u8
         ensures { result ≡ exit_status self.now }
     {

@@ -16,7 +16,7 @@ use std::alloc::Global;
 ///
 /// # Errors
 ///
-/// Those of `serve_new_host`.
+/// The failure for a fault of `serve_new_host`: `Read`, `Write`, `Truncated`, `TooManyFrames` or `Memory`.
 pub(crate) fn serve_frames<R: Source, W: Sink>(
     alloc: Global,
     tenants: usize,

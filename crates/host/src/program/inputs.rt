@@ -20,7 +20,7 @@ use tagged_model::Named;
 ///
 /// # Errors
 ///
-/// `TooLong` if it has more than 1,048,576 bytes, `Read` if a call failed, `Memory` if out of memory.
+/// `TooLong` if it has more than `LONGEST_INPUT` bytes, `Read` if a call failed, `Memory` if out of memory.
 pub fn whole_input<I: Read + Drop>(alloc: Global, input: I) -> Result<Vec<u8>, Failure> {
     let mut reader = Counted::new(input);
     read_input(alloc, &mut reader)

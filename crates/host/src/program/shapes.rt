@@ -55,8 +55,7 @@ fn kind_named(name: &str) -> Option<MapKind>
     }
 }
 
-/// The shape with these fields, and without flags (the last 0); `None` if one is wrong, or if no map may have this shape
-/// (`MapShape::new`).
+/// The shape with these fields and with flags 0; `None` if a field is wrong, or if no map may have this shape (`MapShape::new`).
 fn shape_of(kind: &str, key_size: &str, value_size: &str, max_entries: &str) -> Option<MapShape>
     ensures written { IfSome result (λ shape.
         IsShapeOf shape kind.now key_size.now value_size.now max_entries.now) }
@@ -82,7 +81,7 @@ fn descriptor(field: &str) -> Option<u32>
     }
 }
 
-/// The map that an argument names; `None` if it names no map.
+/// The map that an argument names, as `read_shape` says; `None` if it names no map.
 fn map_of(argument: &str) -> Option<Named>
     ensures { (map : AnyNamed) → (result ≡ Some map) ↔ IsMapArgument argument.now map }
 {
@@ -96,7 +95,7 @@ fn map_of(argument: &str) -> Option<Named>
 }
 
 /// The map that an argument names: a descriptor from 3 to 66, `array` or `hash`, the sizes of a key and of a value in bytes,
-/// and the most entries. Colons separate the five fields; numbers are decimal digits, with or without leading zeros.
+/// and `max_entries`. Colons separate the five fields; numbers are decimal digits, with or without leading zeros.
 ///
 /// # Errors
 ///
@@ -114,7 +113,7 @@ fn is_open(maps: &[Named], fd: u32) -> bool
     maps.iter().any(|map| map.fd == fd)
 }
 
-/// The map that an argument names, which comes after the arguments of `maps`. `None` if it names no map, or one at a descriptor that one of
+/// The map that an argument names, if the arguments before it name `maps`. `None` if it names no map, or one at a descriptor that one of
 /// `maps` has.
 fn further_map(maps: &[Named], argument: &str) -> Option<Named>
     ensures named { IfSome result (λ map. IsMapArgument argument.now map

@@ -104,8 +104,8 @@ fn disassembled(alloc: Global, input: &[u8]) -> Result<String, Failure>
     Ok(text)
 }
 
-/// What the task makes of the input: the hex lines of the program whose text it has, or the text of the program whose hex lines it has.
-/// Fails like `assembled` or `disassembled`.
+/// What the task makes of the input: of a program's text its hex lines, or of a program's hex lines its text. Fails like `assembled` or
+/// `disassembled`.
 fn rewritten(alloc: Global, task: TextTask, input: &[u8]) -> Result<String, Failure>
     ensures made { IfOk result (λ output. IsRewritten task input.now (string_bytes output)) }
     ensures only { (output : List ℕ) → IsRewritten task input.now output
@@ -127,7 +127,7 @@ fn buffer(alloc: Global, size: usize) -> Result<Vec<u8>, AllocError>
     vec![in alloc; 0; size]
 }
 
-/// Reads the input to its end. `TooLong` if it has more than `LONGEST_INPUT` bytes, `Read` if a call failed, `Memory` if out
+/// Reads the input to its end. `TooLong` if it has more than `LONGEST_INPUT` bytes, `Read` if a call of the reader failed, `Memory` if out
 /// of memory.
 pub(crate) fn read_input<S: Source>(alloc: Global, reader: &mut S) -> Result<Vec<u8>, Failure>
     requires { S.failures reader.old < 2 ^ 64 - 1 }
@@ -151,8 +151,8 @@ pub(crate) fn read_input<S: Source>(alloc: Global, reader: &mut S) -> Result<Vec
     Ok(input)
 }
 
-/// Reads the input, and writes what the task makes of it. Nothing is written on a failure, except for `Write`: then a front of the output
-/// may be written.
+/// Reads the input, and writes what the task makes of it. It fails like `read_input` or `rewritten`, and then writes nothing; or with
+/// `Write` if a call of the writer failed, and then a front of the output may be written.
 pub(crate) fn rewrite<S: Source, O: Sink>(
     alloc: Global,
     task: TextTask,

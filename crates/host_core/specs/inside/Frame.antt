@@ -32,7 +32,8 @@ ServesFrameOrEnds old new true =
 ServesFrameOrEnds old new false = ReadsOnly old new [] × IsAtEnd new.input × NoCallFailed old new
 
 -- What was read and written of one frame before a fault, and why: a call failed, or the input is at
--- its end. Memory occurs before the first frame, and TooManyFrames after the last one.
+-- its end. Two faults never occur here: Memory comes before the first frame, and TooManyFrames
+-- after the last one.
 abbrev pub StopsInFrame : StreamState → StreamState → ServeFaultKind → Type 0
 StopsInFrame old new Read =
     ((rest : List ℕ) × IsPartial rest × ReadsOnly old new rest)

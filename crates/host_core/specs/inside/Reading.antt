@@ -20,7 +20,7 @@ pub record ReadsPartial (kind : ServeFaultKind) (old new : Option (List ℕ)) : 
   pub read : Consumes old new bytes
 
 -- why no more was read: a call failed, or the input is at its end and no call failed; no other
--- fault occurs while a frame is read
+-- fault occurs while a frame is read. `left` are the bytes left then, if they are known
 abbrev pub StopsReading : ServeFaultKind → Option (List ℕ) → ℕ → ℕ → Type 0
 StopsReading Read left failures_before failures_after = failures_before < failures_after
 StopsReading Truncated left failures_before failures_after =
@@ -29,7 +29,8 @@ StopsReading Write left failures_before failures_after = ⊥
 StopsReading TooManyFrames left failures_before failures_after = ⊥
 StopsReading Memory left failures_before failures_after = ⊥
 
--- why no more was read, given the reader before and after, with its bytes and its failed calls
+-- why no more was read, given the reader before and after, old and new: `remaining` gives the bytes
+-- that it has left, if they are known, and `failures` how many of its calls failed
 abbrev pub StopsAt : {R : Type 0}
     → (R → Option (List ℕ))
     → (R → ℕ)
@@ -41,7 +42,7 @@ StopsAt remaining failures kind old new =
     StopsReading kind (remaining new) (failures old) (failures new)
 
 -- the front is the frame, or both are longer than the longest valid frame and begin with the same
--- head, and the reply to such a frame depends only on its head
+-- head; the reply to such a long frame depends only on its head
 abbrev pub IsKeptFrontOf : List ℕ → List ℕ → Type 0
 IsKeptFrontOf front frame =
     (front ≡ frame)

@@ -18,8 +18,8 @@ use Rattle.insn_codec.specs.declared.opcode.SourceBit.TheVariants.{Imm, Reg}
 use Rattle.insn_codec.specs.inside.OpcodeForm.{OpcodeForm}
 use Rattle.insn_codec.specs.inside.OpcodeForm as form
 
--- whether an opcode has this form: of two operators with one opcode the form has the unsigned one,
--- and no load of a double word extends the sign
+-- whether some opcode has this form: of two operators with one opcode the form has the unsigned
+-- one, and no load of a double word extends the sign
 abbrev pub is_form : OpcodeForm → Bool
 is_form (form.Alu wide op source) = alu_offset op == 0
 is_form (form.Load size signed) = not (signed && is_double size)
@@ -70,13 +70,14 @@ jump_at true Imm code =
     (if code == 9 then Some form.Exit else jump_by_condition true Imm code))
 jump_at false Imm code = if code == 0 then Some form.Jal else jump_by_condition false Imm code
 
--- the load with an opcode of class LDX, None if there is none: sections 5.1 and 5.2. The table has
--- for an opcode whether the load extends the sign, and its size
+-- the form of a load with this opcode of class LDX; None if no load has it (sections 5.1 and 5.2).
+-- The table has for an opcode whether the load extends the sign, and its size
 abbrev pub load_at : ℕ → Option OpcodeForm
 load_at opcode = option_and_then (λ l. Some (form.Load l.1 l.0)) (load_by_opcode opcode)
 
--- the store with an opcode of class ST or STX, None if there is none: its upper three bits are the
--- mode MEM, 3, and the next two the size (section 5.1)
+-- the form of a store with this opcode of class ST or STX; None if no store has it. The upper three
+-- bits are the mode MEM, 3, and the next two the size (section 5.1). The class is that of the
+-- source that is given
 abbrev pub store_at : ℕ → SourceBit → Option OpcodeForm
 store_at opcode source =
     if opcode / 32 == 3 then Some (form.Store (size_at (opcode / 8 % 4)) source) else None
@@ -105,14 +106,16 @@ form_at opcode =
     (if opcode % 8 == 6 then jump_at false (source_at opcode) (opcode / 16) else
     alu_at true (source_at opcode) (opcode / 16)))))))
 
--- whether the operand field that this source bit does not select is zero: section 4
+-- whether the operand field that is not used is zero (section 4): the source register with source
+-- bit Imm, the immediate with Reg
 abbrev pub one_operand : SourceBit → SlotFields → Bool
 one_operand Imm s = s.src == 0
 one_operand Reg s = s.imm == 0
 
--- whether the opcode of this operator, of two with one opcode the unsigned one, allows this offset
--- (section 4.1), in an operation of 64 bits (wide) or 32: at 1 a division or a remainder is signed;
--- 8, 16 or, if wide, 32 are the bits from which a move of a register extends the sign
+-- whether an operation of 64 bits (wide) or 32 with this operator's opcode may have this offset
+-- (section 4.1). Of two operators with one opcode, the unsigned one is given. 0 is always allowed;
+-- at 1 a division or a remainder is signed; 8, 16 or, if wide, 32 are the bits from which a move of
+-- a register extends the sign
 abbrev pub offset_listed : Bool → AluOp → SourceBit → ℕ → Bool
 offset_listed wide Div source offset = nat_le offset 1
 offset_listed wide Mod source offset = nat_le offset 1

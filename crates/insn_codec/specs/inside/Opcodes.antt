@@ -1,4 +1,4 @@
--- The numbers of opcodes by their parts, as a decoder takes them apart: RFC 9669, sections 4 and 5.
+-- The numbers of opcodes by the bit fields that a decoder takes apart: RFC 9669, sections 4 and 5.
 use Rattle.std.specs.Prelude.{ℕ, ◌+◌}
 use Rattle.insn_codec.specs.inside.OpcodeForm.{OpcodeForm}
 use Rattle.insn_codec.specs.inside.OpcodeForm as form

@@ -1,4 +1,4 @@
-//! Accesses to the stack, to the context and to maps' values.
+//! Accesses to the stack, to the context and to maps' values. `AllocError`: out of memory for the text.
 //!
 //! A `verb` is what the instruction does with bytes: it `reads`, `writes` or `changes` them. `first` and `last`, both included, are
 //! offsets: of stack bytes from the stack's upper end, of others from the start of their object.
@@ -41,7 +41,7 @@ impl AccessKind {
 struct Access {
     /// The number of the base register.
     base: u8,
-    /// The offset of the bytes from the base register.
+    /// The distance in bytes of the accessed bytes from the address in the base register.
     offset: i64,
     /// How many bytes the instruction accesses.
     bytes: i64,
@@ -221,8 +221,8 @@ fn write_part_stored(
     write!(text, ", and is stored by 8 bytes, not by {bytes}")
 }
 
-/// The size in bytes of the values of the map with this descriptor. 0 if it names no map, which can't occur: kinds only have descriptors of
-/// maps.
+/// The size in bytes of the values of the map with this descriptor. 0 if it names no map, which can't occur: the descriptor in the `Kind`
+/// of a register or a spill is that of a map.
 pub(crate) fn value_size_of(named: &[Named], fd: u32) -> u32 {
     match shape_of(named, fd) {
         Some(shape) => shape.value_size,
@@ -230,7 +230,7 @@ pub(crate) fn value_size_of(named: &[Named], fd: u32) -> u32 {
     }
 }
 
-/// Writes which bytes the instruction reads, writes or changes (`verb`), not all of which lie in a value of `map`.
+/// Writes which bytes the instruction reads, writes or changes (`verb`), not all of which lie in a value of the map of descriptor `map`.
 pub(crate) fn write_outside_value(
     text: &mut String,
     named: &[Named],
@@ -279,8 +279,8 @@ fn write_given(
     }
 }
 
-/// Writes the offset in a map's value at which an atomic operation is, by a pointer of this kind: one that is no multiple of its size, or a
-/// range, of which the offset is not known.
+/// Writes at which offset in a map's value an atomic operation is: at one that is no multiple of the operation's size, or at one of a
+/// range, if the offset is not known. `pointer` is what is known of its base register.
 fn write_unaligned_atomic(
     text: &mut String,
     access: Access,

@@ -1,4 +1,4 @@
-//! Arithmetic on pointers.
+//! Arithmetic on pointers. `AllocError`: out of memory for the text.
 
 use crate::needs::RefusedProgram;
 use crate::needs::registers::{kind_of, write_maybe_null, write_register};

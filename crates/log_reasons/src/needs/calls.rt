@@ -1,4 +1,4 @@
-//! Arguments of helpers.
+//! Arguments of helpers. `AllocError`: out of memory for the text.
 
 use crate::needs::RefusedProgram;
 use crate::needs::access::{
@@ -106,7 +106,8 @@ pub(crate) fn has_argument(id: i32, register: u8) -> bool {
 }
 
 /// How many bytes an argument points to: the size of a key or a value of the map in register 1, or the greatest length that register 4 may
-/// have. 0 if it points to none, or no map or length is known, or the length does not fit 32 bits: then it is rejected itself.
+/// have. 0 if it points to none, or if no map or length is known, or the length does not fit 32 bits: then the map or the length is itself
+/// rejected.
 fn count_of(named: &[Named], facts: &Facts, role: Role) -> u32 {
     let (map, length) = (kind_of(facts, 1), kind_of(facts, 4));
     match (role, map, length) {
@@ -185,8 +186,8 @@ fn needed(role: Role) -> &'static str {
     }
 }
 
-/// Writes what is known of the length argument, register 4, of this kind, against what is needed. Nothing is written unless it is a number,
-/// which it is: for another kind the reason is `HelperArgument`.
+/// Writes what is known of the length argument, register 4, which has this kind, against what is needed. Writes nothing if the kind is no
+/// number, which can't occur: then the reason would be `HelperArgument`.
 fn write_length(text: &mut String, kind: Kind) -> Result<(), AllocError> {
     let Kind::Scalar(range) = kind else {
         return Ok(());

@@ -1,4 +1,4 @@
-//! Registers that are unreadable or may be null, results and comparisons.
+//! Registers that are unreadable or may be null, results and comparisons. `AllocError`: out of memory for the text.
 
 use crate::needs::RefusedProgram;
 use crate::needs::calls::has_argument;

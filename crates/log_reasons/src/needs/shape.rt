@@ -1,4 +1,4 @@
-//! Faults of a program's shape.
+//! Faults of a program's shape. `AllocError`: out of memory for the text.
 
 use crate::needs::RefusedProgram;
 use insn_codec::{Insn, Reference};

@@ -8,7 +8,7 @@ use Rattle.ordered_keys.specs.declared.element_order.ElementOrder.TheInside.{Ins
 abbrev pub lone_link : ℕ → Link
 lone_link element = record { before = element; after = element }
 
--- the link of p, which the bound and each element of an order have; a link to 0 if p has none
+-- the link of p, an element or the bound; if the links have none for p, one whose neighbours are 0
 abbrev pub link_at : List Link → ℕ → Link
 link_at links p = slice_index_or links p (lone_link 0)
 

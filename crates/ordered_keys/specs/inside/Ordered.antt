@@ -59,13 +59,13 @@ AreApart {K} eq es =
     → eq a.0 b.0 ≡ true
     → i ≡ j
 
--- without an allocation the table can have `bound` entries in all, with those that it has
+-- the table can have `bound` entries in all, those that it has included, without an allocation
 abbrev pub HasAllRows : {K S : Type 0} → ℕ → IndexMap K ℕ S → Type 0
 HasAllRows bound table = bound ≤ index_map_len table + spare table
 
 -- the table, the indices and the order agree, and the table has room for the entries of all
--- elements. The buffer is empty, `rows` being the number of entries in it, and has room for
--- `capacity` entries, at least half of all
+-- elements less than the bound. The buffer is empty, `rows` being the number of entries in it, and
+-- has room for `capacity` entries, at least half as many as the bound
 pub record IsWhole {K S : Type 0} (table : IndexMap K ℕ S) (indices : List ℕ) (order : Order)
     (rows capacity : ℕ) : Type 0 where
   pub indexed : IsIndexed table.entries indices order

@@ -11,8 +11,8 @@ use Rattle.saving.specs.Births.{Birth}
 use Rattle.saving.specs.Restored.{filled, closings}
 use Rattle.saving.specs.SaveParts.{puts_of, creation, birth_parts}
 
--- the commands of one part of a save; a part of keys puts those from index `first` on, at most
--- `KEYS_OF_PART`
+-- the commands of one part of a save; a part that puts keys puts those from index `first` on, at
+-- most `KEYS_OF_PART`
 abbrev pub part_commands : TenantState → SavePart → List Command
 part_commands s Filling = filled most
 part_commands s (Creation b) = creation s b

@@ -34,12 +34,12 @@ use Rattle.text_line.specs.declared.token.Token.{Token as CodeToken}
 use Rattle.text_line.specs.inside.Shown.{shown_tokens}
 use Rattle.text_line.specs.Token.{Token, name, number, symbol}
 
--- `f` of the value of `o`; `None` if `o` has none
+-- `f` applied to the value of `o`; `None` if `o` has no value
 infixl 10 ◌>>=◌
 abbrev pub ◌>>=◌ : {A B : Type 0} → Option A → (A → Option B) → Option B
 o >>= f = option_and_then f o
 
--- `x` if the option has no value, else `f` of its value
+-- `x` if the option has no value, else `f` applied to its value
 abbrev pub match_option : {A B : Type 0} → Option A → B → (A → B) → B
 match_option None x f = x
 match_option (Some y) x f = f y
@@ -49,25 +49,28 @@ abbrev pub bool_eq : Bool → Bool → Bool
 bool_eq true b = b
 bool_eq false b = not b
 
--- the tokens that a result of the code represents; `None` if it has none
+-- the tokens of a result of the code, as definitions have them; `None` if the result is `None`
 abbrev pub seen : Option (Bor (List CodeToken)) → Option (List Token)
 seen o = option_map (λ rest. shown_tokens rest.now) o
 
--- a part of a line that the code has read, and the tokens after it
+-- what the code has read at the front of the tokens, and the tokens after it, as definitions have
+-- them; `None` if it has read nothing
 abbrev pub seen_pair : {A : Type 0} → Option (A × Bor (List CodeToken)) → Option (A × List Token)
 seen_pair o = option_map (λ p. (p.0, shown_tokens p.1.now)) o
 
--- the bytes of a name or a symbol that the code has read, and the tokens after it
+-- the bytes of a name or a symbol that the code has read, and the tokens after it, as definitions
+-- have them; `None` if it has read none
 abbrev pub seen_label : Option (Bor (List ℕ) × Bor (List CodeToken)) → Option (List ℕ × List Token)
 seen_label o = option_map (λ p. (p.0.now, shown_tokens p.1.now)) o
 
--- what the code has read, and the name of the label that it names, empty if it names none
+-- what the code has read, and the name of the label that it names, empty if it names none; `None`
+-- if the code has read nothing
 abbrev pub seen_destination : {A : Type 0} → Option (A × Bor (List ℕ)) → Option (A × List ℕ)
 seen_destination o = option_map (λ p. (p.0, p.1.now)) o
 
 -- ---- the names
 
--- each name of a register: whether it is of 64 bits, else of the low 32, and the register
+-- each name of a register: whether it names all 64 bits (`true`) or the low 32, and the register
 abbrev pub registers : List (List ℕ × (Bool × ℕ))
 registers =
     (codes "r0", (true, 0)) ∷ (codes "r1", (true, 1)) ∷ (codes "r2", (true, 2))
@@ -81,21 +84,22 @@ registers =
 
 -- ---- one token
 
--- the first token, if it is a symbol, and the tokens after it
+-- the first token, if it is a symbol, and the tokens after it; `None` if it is no symbol
 abbrev pub leading_symbol : List Token → Option (List ℕ × List Token)
 leading_symbol [] = None
 leading_symbol (name n ∷ ts) = None
 leading_symbol (number v ∷ ts) = None
 leading_symbol (symbol t ∷ ts) = Some (t, ts)
 
--- the first token, if it is a name, and the tokens after it
+-- the first token, if it is a name, and the tokens after it; `None` if it is no name
 abbrev pub leading_name : List Token → Option (List ℕ × List Token)
 leading_name [] = None
 leading_name (name n ∷ ts) = Some (n, ts)
 leading_name (number v ∷ ts) = None
 leading_name (symbol t ∷ ts) = None
 
--- the value of the first token, if it is a number (`None` from 2 ^ 64 on), and the tokens after it
+-- the value of the first token, if it is a number (the value is `None` from 2 ^ 64 on), and the
+-- tokens after it; `None` if it is no number
 abbrev pub leading_number : List Token → Option (Option ℕ × List Token)
 leading_number [] = None
 leading_number (name n ∷ ts) = None
@@ -202,14 +206,14 @@ atomic_size_of _ _ = None
 
 -- ---- operations
 
--- an operator of two operands or a move, from the tokens after its symbol: its source, a constant,
--- or a register, r if wide, else w
+-- an operator of two operands or a move, from the tokens after its symbol, which are its source: a
+-- constant, or a register, r if wide, else w
 unfoldable pub parsed_binary : Bool → AluOp → List Token → Option Operation
 parsed_binary wide op ts =
     leading_operand wide ts >>= λ src. at_end (operation.Binary op src.0) src.1
 
--- a move with sign extension, from the tokens after `(`, as s16)r2; of an r register if wide, else
--- of a w register, which has none from 32 bits, as these are all of its bits
+-- a move with sign extension, from the tokens after `(`, as s16)r2: of an r register if wide, else
+-- of a w register. `None` also if a w register is extended from 32 bits, which are all that it has
 unfoldable pub parsed_sign_extension : Bool → List Token → Option Operation
 parsed_sign_extension wide ts = do
   n ← leading_name ts
@@ -224,7 +228,7 @@ unfoldable pub parsed_in_place : Bool → ℕ → Operation → List Token → O
 parsed_in_place wide dst o ts =
     leading_register wide ts >>= λ r. if r.0 == dst then at_end o r.1 else None
 
--- a byte-order conversion, from the tokens after `=`, of an r register
+-- a byte-order conversion of the r register dst, from the tokens after `=`: its name, and dst again
 abbrev pub parsed_end : ℕ → List Token → Option Operation
 parsed_end dst ts = do
   n ← leading_name ts

@@ -45,7 +45,7 @@ number_at text =
     )
     else None)
 
--- x if it is a value, else y
+-- the option x if it has a value, else the option y
 abbrev pub or_else : {A : Type 0} → Option A → Option A → Option A
 or_else (Some x) y = Some x
 or_else None y = y

@@ -12,8 +12,9 @@ use Rattle.verifier.specs.inside.Numbers.{facts_on, entry_of}
 abbrev pub brought_to : ℕ → List (Option NumberedFacts) → Option Facts
 brought_to slot entries = facts_on (entry_of slot entries)
 
--- the entry of slot i after a jump with these facts, if any: they are joined into it if i is the
--- target; for all other slots, and if there is no target, it is unchanged
+-- a jump with these facts, if any, changes the facts on the jumps to slot i from those in `old` to
+-- those in `new`: its facts are joined into them if i is the target; otherwise, also without a
+-- target (None), they are unchanged
 abbrev pub Brings : Option ℕ → Option Facts → List (Option NumberedFacts)
     → List (Option NumberedFacts) → ℕ → Type 0
 Brings target facts old new i =

@@ -30,16 +30,16 @@ total weight (i ∷ is) = weight i + total weight is
 
 -- ---- the most on the way to a slot
 
--- the most on a path to slot i whose last instruction is the one at slot n, from the most on the
--- way to that one (`before`); 0 if no edge of it leads to slot i, or no instruction begins at slot
--- n
+-- the greatest total weight of a path to slot i whose last instruction is the one at slot n, from
+-- the greatest of a path to slot n (`before`); 0 if no edge of that instruction leads to slot i, or
+-- no instruction begins at slot n
 abbrev pub passed_on : (Insn → ℕ) → Option Insn → ℕ → ℕ → ℕ → ℕ
 passed_on weight None n i before = 0
 passed_on weight (Some insn) n i before =
     if leads_into (Some insn) n i then before + weight insn else 0
 
--- the most on the way to slot i, without the instruction at it, if the last edge is from a slot
--- below n; 0 if there is no such edge
+-- the greatest total weight of a path to slot i, without the instruction there, whose last edge is
+-- from a slot below n; 0 if there is no such edge
 unfoldable pub most_from : (Insn → ℕ) → List Insn → ℕ → ℕ → ℕ
 most_from weight code i zero = 0
 most_from weight code i (suc n) =
@@ -48,13 +48,13 @@ most_from weight code i (suc n) =
 
 -- ---- the most on a path
 
--- the most on a path that ends with this instruction, from the most on the way to it (`before`); 0
--- if it is no exit, or there is none (None)
+-- the greatest total weight of a path that ends with this instruction, from the greatest of a path
+-- to it (`before`); 0 if the instruction is no exit, or there is none (None)
 abbrev pub at_exit : (Insn → ℕ) → Option Insn → ℕ → ℕ
 at_exit weight None before = 0
 at_exit weight (Some insn) before = if is_exit insn then before + weight insn else 0
 
--- the most on a path to an exit below slot n; 0 if there is none
+-- the greatest total weight of a path to an exit below slot n, with the exit; 0 if there is none
 unfoldable pub most_ended : (Insn → ℕ) → List Insn → ℕ → ℕ
 most_ended weight code zero = 0
 most_ended weight code (suc n) =
@@ -67,21 +67,21 @@ most_ended weight code (suc n) =
 abbrev pub no_counts : Counts
 no_counts = record { instructions = 0; calls = 0 }
 
--- the greater count at slot i, of instructions or of calls (`count`): that on the falling edge,
--- which leads to slot `next`, or that on the jumps
+-- the count at slot i, of instructions or of calls as `count` selects: the greater of that on the
+-- falling edge, if this leads there (to slot `next`), and that on the jumps
 abbrev pub arriving : (Counts → ℕ) → ℕ → Counts → List Counts → ℕ → ℕ
 arriving count next falling jumping i =
     max (if next == i then count falling else 0) (count (slice_index_or jumping i no_counts))
 
--- the paths to the slot of the pass have few instructions: at most as many as a program may have
--- slots
+-- the paths to the slot at which the pass is have at most as many instructions, and at most as many
+-- calls, as a program may have slots
 pub record AreFew (paths : Paths) : Type 0 where
   pub instructions : paths.here.instructions ≤ most_slots
   pub calls : paths.here.calls ≤ most_slots
 
--- instruction i, at a slot, is added to the paths there, which its edges take to later slots or to
--- the end. `old` and `new` are the paths before and after this; `jumping` and `later` are the
--- counts on the jumps before and after it
+-- instruction i is added to the paths to its slot, which its edges take to later slots, or at an
+-- exit to the end. `old` and `new` are the counts of the paths before and after this; `jumping` and
+-- `later` are the counts on the jumps to each slot before and after it
 pub record IsAdded (i : Insn) (slot : ℕ) (old new : Paths)
     (jumping later : List Counts) : Type 0 where
   pub instructions : (to : ℕ)
@@ -99,15 +99,15 @@ pub record IsAdded (i : Insn) (slot : ℕ) (old new : Paths)
   pub ended_calls : new.ended.calls
       ≡ max old.ended.calls (at_exit one_if_call (Some i) old.here.calls)
 
--- the paths of the pass have an instruction before this slot, or it is slot 0, exactly if the slot
--- can be reached
+-- the paths to this slot, at which the pass is, have an instruction, or it is slot 0, exactly if
+-- the slot can be reached
 abbrev pub LeadTo : List Insn → ℕ → Paths → Type 0
 LeadTo code slot paths =
     (nat_lt 0 paths.here.instructions || slot == 0) ≡ is_reachable code slot
 
 -- an instruction with the properties `row` is simple: its only successor is at slot `next`, one of
--- the program's slots (`slots` is how many); it names nothing, does not write the frame pointer,
--- and comes after another one on some path
+-- the program's `slots` slots; it names nothing, does not write the frame pointer, and the paths to
+-- it (`paths`) have an instruction
 pub record IsSimple (row : Profile) (next slots : ℕ) (paths : Paths) : Type 0 where
   pub goes_on : row.successors ≡ Next
   pub names : row.reference ≡ Nothing

@@ -1,12 +1,11 @@
--- Numbers of the groups of stacks, and the facts on the edges out of an instruction. A number
--- identifies the facts about a group of the stack, which is eight of its slots, so that a group is
--- not joined again if it is known to be joined already. It is not 0; the groups at program entry
--- have number 1. At slot n the new numbers are 8 * n + 2 for the join before the instruction, + 3
--- for its writes, + 4 for the jumping and + 5 for the falling edge of a null test, and + 6 for the
--- join at the jump's target. A parameter `fresh` is such a new number. An edge leads to the next
--- instruction (falling) or to the target of a jump (jumping); a flow (`Flow` of `transfer`) is
--- which of them control may take after an instruction. No facts (None) on an edge means that it is
--- never taken. This project's own.
+-- Numbers of groups of eight stack slots, and the facts on the edges out of an instruction. A
+-- number identifies what is known of a group, so that a group is not joined again if it is known to
+-- be joined already. It is not 0; the groups at program entry have number 1. At slot n the new
+-- numbers are 8 * n + 2 for the join before the instruction, + 3 for its writes, + 4 for the
+-- jumping and + 5 for the falling edge of a null test, and + 6 for the join at the jump's target. A
+-- parameter `fresh` is such a new number. An edge leads to the next instruction (falling) or to the
+-- target of a jump (jumping); a flow (`Flow` of `transfer`) is which of them control may take after
+-- an instruction. No facts (None) on an edge means that it is never taken. This project's own.
 use Rattle.std.specs.Prelude.{◌≡◌, ◌≢◌, ◌⊎◌, ℕ, ◌+◌, ◌*◌, ◌<◌, ◌≤◌, Bool, not, List, length, replicate, slice_index_or, slice_set, Option, Some, None, Ok}
 use Rattle.std.specs.Option.{option_map}
 use Rattle.words.specs.Stack.{stack_slots}
@@ -31,20 +30,20 @@ use Rattle.verifier.specs.declared.numbered_facts.NumberedFacts.{NumberedFacts}
 abbrev pub facts_on : Option NumberedFacts → Option Facts
 facts_on o = option_map (λ x. x.facts) o
 
--- the entry of a slot: the join of the facts on the jumps to it so far; None if there are none
+-- the entry of slot i: the join of the facts on the jumps to it so far; None if there are none
 abbrev pub entry_of : ℕ → List (Option NumberedFacts) → Option NumberedFacts
 entry_of i entries = slice_index_or entries i None
 
--- the number of the group of the stack that has stack slot i
+-- the number of the group of eight stack slots that has stack slot i
 abbrev pub number_of : NumberedFacts → ℕ → ℕ
 number_of x i = slice_index_or x.numbers (group_of i) 0
 
--- the number of the group that is known to be joined into the group that has stack slot i; 0 if
--- none is known
+-- of the group of eight stack slots that has stack slot i: the number of the group that is known to
+-- be joined into it; 0 if none is known
 abbrev pub included_in : NumberedFacts → ℕ → ℕ
 included_in x i = slice_index_or x.includes (group_of i) 0
 
--- the facts with number n for all groups of the stack; no join is known
+-- the facts with number n for all groups of eight stack slots; no join into a group is known
 abbrev pub numbered_by : ℕ → Facts → NumberedFacts
 numbered_by n f = record {
   facts = f;
@@ -52,15 +51,16 @@ numbered_by n f = record {
   includes = replicate stack_groups 0;
 }
 
--- the facts at program entry, in which all groups have number 1
+-- the facts at program entry, in which all groups of eight stack slots have number 1
 abbrev pub at_entry : NumberedFacts
 at_entry = numbered_by 1 entry
 
--- x with the new number `fresh` for all groups of the stack; no join into them is known
+-- x with the new number `fresh` for all groups of eight stack slots; no join into a group is known
 abbrev pub renumbered : NumberedFacts → ℕ → NumberedFacts
 renumbered x fresh = numbered_by fresh x.facts
 
--- x with the new number `fresh` for the group that has stack slot i; no join into it is known
+-- x with the new number `fresh` for the group of eight stack slots that has stack slot i; no join
+-- into this group is known
 abbrev pub group_renumbered : NumberedFacts → ℕ → ℕ → NumberedFacts
 group_renumbered x i fresh =
     record {
@@ -69,39 +69,41 @@ group_renumbered x i fresh =
       includes = slice_set x.includes (group_of i) 0;
     }
 
--- s' is slot s after the join with slot t. The group of s has number n, and a join into it of the
--- group with number m is known; after this join they are n' and m'. The group of t has number k. If
--- m is k, the join would change nothing and is left out. Else m' is k. Then n' is `fresh`, or it is
--- still n, but only if the slot is unchanged
+-- stack slot s is s' after the join with stack slot t. The group of eight stack slots that has s
+-- has number n, and a join into it of the group with number m is known; after this join these
+-- numbers are n' and m'. The group that has t has number k. If m is k, the join would change
+-- nothing and is left out. Else m' is k, and n' is the new number `fresh`, or still n, but only if
+-- the slot is unchanged
 abbrev pub IsJoinedSlot : ℕ → Slot → ℕ → ℕ → Slot → ℕ → Slot → ℕ → ℕ → Type 0
 IsJoinedSlot fresh s n m t k s' n' m' =
     ((m ≡ k) × (s' ≡ s) × (n' ≡ n) × (m' ≡ m))
     ⊎ ((s' ≡ slot_join s t) × (m' ≡ k) × ((n' ≡ fresh) ⊎ ((n' ≡ n) × (s' ≡ s))))
 
--- slot i of z, with the numbers of its group, is that of x after the join with slot i of y
+-- stack slot i of z, with the numbers of its group of eight stack slots, is that of x after the
+-- join with stack slot i of y
 abbrev pub IsJoinedAt : ℕ → NumberedFacts → NumberedFacts → NumberedFacts → ℕ → Type 0
 IsJoinedAt fresh x y z i =
     IsJoinedSlot fresh (slot_at x.facts i) (number_of x i) (included_in x i) (slot_at y.facts i)
     (number_of y i)
     (slot_at z.facts i) (number_of z i) (included_in z i)
 
--- slot i of z is that of x, with the numbers of its group
+-- stack slot i of z is that of x, with the numbers of its group of eight stack slots
 abbrev pub IsSameAt : NumberedFacts → NumberedFacts → ℕ → Type 0
 IsSameAt x z i =
     (slot_at z.facts i ≡ slot_at x.facts i)
     × (number_of z i ≡ number_of x i)
     × (included_in z i ≡ included_in x i)
 
--- z is x, after one group of the stack of y is joined into it; `fresh` is the number of this group
--- if it changes
+-- z is x, after the group of eight stack slots of y with index `group` is joined into that of x;
+-- `fresh` is the new number of this group if it changes
 pub record IsGroupJoin (fresh group : ℕ) (x y z : NumberedFacts) : Type 0 where
   pub registers : z.facts.registers ≡ x.facts.registers
   pub groups : length z.numbers ≡ stack_groups
   pub here : (i : ℕ) → i < stack_slots → group_of i ≡ group → IsJoinedAt fresh x y z i
   pub others : (i : ℕ) → i < stack_slots → group_of i ≢ group → IsSameAt x z i
 
--- z is the join of x and y, of each register and each stack slot; `fresh` is the number of the
--- groups of the stack that change
+-- z is the join of x and y, of each register and each stack slot; `fresh` is the new number of each
+-- group of eight stack slots that changes
 pub record IsJoin (fresh : ℕ) (x y z : NumberedFacts) : Type 0 where
   pub registers : z.facts.registers
       ≡ tabulate 11 (λ r. kind_join (kind_at x.facts r) (kind_at y.facts r))
@@ -109,45 +111,48 @@ pub record IsJoin (fresh : ℕ) (x y z : NumberedFacts) : Type 0 where
   pub groups : length z.numbers ≡ stack_groups
   pub slots : (i : ℕ) → i < stack_slots → IsJoinedAt fresh x y z i
 
--- the facts y are joined into those on an edge or of an entry: the first option has these before,
--- the second after the join, and not None. If there were none (None), they are y then
+-- the facts y are joined into those on an edge, or on the jumps to a slot: the first option has
+-- these before the join, the second after it, and is not None. If there were none before (None),
+-- they are y after it. `fresh` is the new number of each group of eight stack slots that the join
+-- changes
 abbrev pub IsJoinedBy : ℕ → Option NumberedFacts → NumberedFacts → Option NumberedFacts → Type 0
 IsJoinedBy fresh None y new = new ≡ Some y
 IsJoinedBy fresh (Some x) y None = ⊥
 IsJoinedBy fresh (Some x) y (Some z) = IsJoin fresh x y z
 
--- the facts of an entry, the second option, are joined into those on an edge, which are `old`
--- before this and `new` after it; they are unchanged if the entry has none
+-- the facts on the jumps to a slot, the second option, are joined into those on the falling edge to
+-- it, which are `old` before this and `new` after it; they are unchanged if there are none on jumps
 abbrev pub IsJoinedIf : ℕ → Option NumberedFacts → Option NumberedFacts → Option NumberedFacts
     → Type 0
 IsJoinedIf fresh old None new = new ≡ old
 IsJoinedIf fresh old (Some y) new = IsJoinedBy fresh old y new
 
--- the entry of a slot is joined into the facts on the falling edge to it, which are `old` before
--- and `new` after this; the entries of later slots are unchanged
+-- the entry of a slot, the facts on the jumps there, is joined into the facts on the falling edge
+-- to it, which are `old` before and `new` after this; the entries of later slots are unchanged
 abbrev pub IsTaken : ℕ → ℕ → List (Option NumberedFacts) → List (Option NumberedFacts)
     → Option NumberedFacts → Option NumberedFacts → Type 0
 IsTaken slot fresh entries_old entries_new old new =
     IsJoinedIf fresh old (entry_of slot entries_old) new
     × ((i : ℕ) → slot < i → entry_of i entries_new ≡ entry_of i entries_old)
 
--- the facts y are joined into the entry of a slot, and the entries of all other slots are
--- unchanged; `old` has the entries before this, `new` those after it
+-- the facts y are joined into the entry of a slot, the facts on the jumps there, and the entries of
+-- all other slots are unchanged; `old` has the entries before this, `new` those after it
 abbrev pub IsPut : ℕ → ℕ → NumberedFacts → List (Option NumberedFacts) → List (Option NumberedFacts)
     → Type 0
 IsPut slot fresh y old new =
     IsJoinedBy fresh (entry_of slot old) y (entry_of slot new)
     × ((i : ℕ) → i ≢ slot → entry_of i new ≡ entry_of i old)
 
--- the facts y are joined into the entry of a jump's target; without a target (None) no entry
--- changes
+-- the facts y on a jump are joined into the entry of its target, the facts on all jumps there;
+-- without a target (None) no entry changes
 abbrev pub IsSent : Option ℕ → ℕ → NumberedFacts → List (Option NumberedFacts)
     → List (Option NumberedFacts) → Type 0
 IsSent None fresh y old new = new ≡ old
 IsSent (Some slot) fresh y old new = IsPut slot fresh y old new
 
--- the facts on a jumping edge are joined into the entry of the target; no entry changes if there
--- are none, since the edge is then never taken, or if there is no target
+-- the facts on a jumping edge are joined into the entry of its target, the facts on all jumps
+-- there; no entry changes if the edge has none (None), since it is then never taken, or if there is
+-- no target
 abbrev pub IsSentIf : Option ℕ → ℕ → Option NumberedFacts → List (Option NumberedFacts)
     → List (Option NumberedFacts) → Type 0
 IsSentIf target fresh None old new = new ≡ old
@@ -155,8 +160,8 @@ IsSentIf target fresh (Some y) old new = IsSent target fresh y old new
 
 -- ---- the facts on the edges of an instruction
 
--- x with these ranges for the operands of a comparison, that of dst first; the numbers are
--- unchanged, since they are of the stack
+-- x with these ranges for the operands of a comparison, that of dst first; the numbers, which are
+-- of the stack, are unchanged, since operands are registers or constants
 abbrev pub with_ranges : NumberedFacts → ℕ → Operand → RangePair → NumberedFacts
 with_ranges x dst src ranges = record {
   facts = with_pair x.facts dst src ranges;
@@ -165,7 +170,7 @@ with_ranges x dst src ranges = record {
 }
 
 -- x with the look-up at a site settled as null (true) or not null (false). This may change each
--- group of the stack, so all have the new number `fresh`
+-- group of eight stack slots, so all groups have the new number `fresh`
 abbrev pub settled : ℕ → Bool → ℕ → NumberedFacts → NumberedFacts
 settled site null fresh x = numbered_by fresh (facts_settled site null x.facts)
 
@@ -182,7 +187,7 @@ jumps_settled site jumps_on_null n x = settled site jumps_on_null (8 * n + 4) x
 -- the facts on the falling edge out of an instruction, None if this edge is never taken. The flow
 -- is the edges that control may take after the instruction, with what holds on only one of them; x
 -- are the facts that the verifier has after the instruction, which hold on both. `fresh` is the new
--- number that a null test gives all groups of the stack
+-- number that a null test gives all groups of eight stack slots
 abbrev pub on_falling_edge : Flow → ℕ → NumberedFacts → Option NumberedFacts
 on_falling_edge Ends fresh x = None
 on_falling_edge Falls fresh x = Some x
@@ -197,7 +202,7 @@ on_falling_edge (Settles site jumps_on_null) fresh x =
 -- the facts on the jumping edge out of an instruction, None if this edge is never taken. The flow
 -- is the edges that control may take after the instruction, with what holds on only one of them; x
 -- are the facts that the verifier has after the instruction, which hold on both. `fresh` is the new
--- number that a null test gives all groups of the stack
+-- number that a null test gives all groups of eight stack slots
 abbrev pub on_jumping_edge : Flow → ℕ → NumberedFacts → Option NumberedFacts
 on_jumping_edge Ends fresh x = None
 on_jumping_edge Falls fresh x = None
@@ -214,9 +219,9 @@ abbrev pub IsInStack : Flow → Type 0
 IsInStack (WritesSlot i) = i < stack_slots
 IsInStack flow = Unit {0}
 
--- the facts x after an instruction with this flow: each group of the stack that the instruction may
--- have written has the new number `fresh`. The numbers on the edges of a null test are given later,
--- on each edge
+-- the facts x after an instruction with this flow: each group of eight stack slots that the
+-- instruction may have written has the new number `fresh`. A null test changes the stack only on
+-- its edges, so its new numbers are given there
 abbrev pub noted : Flow → ℕ → NumberedFacts → NumberedFacts
 noted (WritesSlot i) fresh x = group_renumbered x i fresh
 noted Writes fresh x = renumbered x fresh
@@ -255,8 +260,9 @@ IsPastIf shapes n insn (Some x) entries_old new entries_new =
 
 -- ---- the meaning of each number, for numbers below a bound
 
--- `held` gives the slot that each number means. Slot s is the one of number n. If m is not 0, a
--- join of s with the slot of number m, which the group of s includes, changes nothing. The numbers
+-- `held` gives the stack slot that each number means. Stack slot s is the one of n, the number of
+-- its group of eight stack slots, which is not 0. If m is not 0, it is the number of the group that
+-- was joined into this one, and a join of s with the slot of number m changes nothing. Both numbers
 -- are below the bound
 pub record IsNumberedSlot (held : ℕ → Slot) (bound : ℕ) (s : Slot) (n m : ℕ) : Type 0 where
   pub is : s ≡ held n
@@ -277,9 +283,9 @@ abbrev pub IsNumberedIf : (ℕ → ℕ → Slot) → ℕ → Option NumberedFact
 IsNumberedIf stacks bound None = Unit {0}
 IsNumberedIf stacks bound (Some x) = IsNumbered stacks bound x
 
--- the numbers of the facts on the falling edge, and of those in the entries from a slot on, have
--- one meaning: groups with one index and one number are the same. All numbers are below the
--- bound, so one from the bound on is new
+-- the numbers of the facts on the falling edge, and of those on the jumps to a slot or a later one,
+-- have one meaning (`stacks`): groups of eight stack slots with one index and one number are the
+-- same. All numbers are below the bound, so one from the bound on is new
 pub record AreNumbered (slot bound : ℕ) (falling : Option NumberedFacts)
     (entries : List (Option NumberedFacts)) : Type 0 where
   pub stacks : ℕ → ℕ → Slot
@@ -288,8 +294,8 @@ pub record AreNumbered (slot bound : ℕ) (falling : Option NumberedFacts)
 
 -- ---- a join, group by group
 
--- z is x during its join with y, before the turn of this group: the registers and the groups below
--- are joined, the other groups are those of x
+-- z is x during its join with y, before the turn of the group `group` of eight stack slots: the
+-- registers and the groups of a lower index are joined, the other groups are those of x
 pub record IsJoinedBelow (fresh group : ℕ) (x y z : NumberedFacts) : Type 0 where
   pub registers : z.facts.registers
       ≡ tabulate 11 (λ r. kind_join (kind_at x.facts r) (kind_at y.facts r))

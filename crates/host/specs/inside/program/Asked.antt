@@ -19,8 +19,8 @@ asked_by (task.Serve tenants) = Serves tenants
 asked_by (task.Rewrite made) = Rewrites made
 asked_by (task.Verify maps) = Verifies (texts_given maps)
 
--- the number of tenants to serve is from 1 to the most that there may be; of the other tasks, which
--- have no tenants, nothing is required
+-- the number of tenants to serve is from 1 to `most_tenants`; of the other tasks, which have no
+-- tenants, nothing is required
 abbrev pub HasTenants : Task → Type 0
 HasTenants (task.Serve tenants) = (1 ≤ tenants) × (tenants ≤ most_tenants)
 HasTenants (task.Rewrite made) = Unit {0}

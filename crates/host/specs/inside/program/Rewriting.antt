@@ -150,8 +150,8 @@ pub record RefusesInput (refused : List ℕ → Failure → Type 0) (old new : S
   pub silent : WritesNothing old new
   pub sound : new.read_failures ≡ old.read_failures
 
--- the input was read, of the output that `made` relates to it the first `count` bytes were written,
--- which may be all of them, and a call of the writer failed
+-- the input was read, and a call of the writer failed: of the output that `made` relates to the
+-- input, only the first `count` bytes were written, or all if only the flush failed
 pub record CutsOutput (made : List ℕ → List ℕ → Type 0) (old new : Streams)
     (failure : Failure) : Type 0 where
   pub input : List ℕ

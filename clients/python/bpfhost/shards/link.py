@@ -59,14 +59,24 @@ def _error(said: str) -> RedisError:
 
 def packed(words: Sequence[Word]) -> bytes:
     """A command as the server reads it. A worker's command names many streams, for which the library's own encoder takes four times as long."""
-    parts = [b"$%d\r\n%b\r\n" % (len(word), word) if isinstance(word, bytes) else _packed_text(str(word)) for word in words]
-    return b"".join([b"*%d\r\n" % len(words), *parts])
+    # What is mostly sent again: the name of a script with its keys, and all of XREAD except the ids.
+    same = 3 + cast(int, words[2]) if words[0] == "EVALSHA" else 3 + len(words) // 2 if words[0] == "XREAD" else 0
+    return b"".join([b"*%d\r\n" % len(words), _kept(tuple(words[:same])), *_parts(words[same:])])
+
+
+def _parts(words: Sequence[Word]) -> list[bytes]:
+    return [b"$%d\r\n%b\r\n" % (len(word), word) if isinstance(word, bytes) else _part(word) for word in words]
+
+
+@functools.lru_cache(512)
+def _kept(words: Sequence[Word]) -> bytes:
+    return b"".join(_parts(words))
 
 
 @functools.lru_cache(4096)
-def _packed_text(text: str) -> bytes:
-    """A text as the server reads it: names and numbers are sent again and again."""
-    data = text.encode()
+def _part(word: Word) -> bytes:
+    """A text or a number as the server reads it: both are sent again and again."""
+    data = str(word).encode()
     return b"$%d\r\n%b\r\n" % (len(data), data)
 
 

@@ -20,10 +20,11 @@ BEFORE_PACKET = 52
 
 def fields_of(layout: str, stream: bytes | bytearray, size: int) -> list[bytes]:
     """The fields of all frames of this length, one frame after another, by the layout (`struct`) of each."""
+    if (count := len(stream) // size) <= _AT_ONCE:
+        return list(struct.unpack(layout * count, stream))
     found: list[bytes] = []
     for at in range(0, len(stream), _AT_ONCE * size):
-        piece = stream[at : at + _AT_ONCE * size]
-        found += struct.unpack(layout * (len(piece) // size), piece)
+        found += fields_of(layout, stream[at : at + _AT_ONCE * size], size)
     return found
 
 
@@ -51,6 +52,15 @@ def packed(stream: bytes, size: int) -> bytes:
     fields = fields_of(f"{BEFORE_PACKET}s{size - BEFORE_PACKET}s", stream, size)
     head = fields[0]
     return head + b"".join(fields[1::2]) if 2 * fields[::2].count(head) == len(fields) else b""
+
+
+def looked_at(stream: bytes) -> tuple[int, bytes]:
+    """The length of each frame if they are alike (`size_of_alike`), and the frames as they are packed, if they are test runs."""
+    size = 4 + int.from_bytes(stream[:4], "little")
+    # What can be packed is alike, so nothing else is compared.
+    if len(stream) >= _LEAST * size and not len(stream) % size and (runs := packed(stream, size)):
+        return size, runs
+    return size_of_alike(stream), b""
 
 
 def unpacked(runs: bytes) -> bytes:

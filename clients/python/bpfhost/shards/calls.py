@@ -6,7 +6,7 @@ from collections.abc import Mapping
 from dataclasses import dataclass
 from typing import NamedTuple
 
-from bpfhost.alike import BEFORE_PACKET, is_short, size_of_alike, size_of_packet, unpacked
+from bpfhost.alike import BEFORE_PACKET, is_short, looked_at, size_of_packet, unpacked
 from bpfhost.numbers import Command
 from bpfhost.shards.connection import Entry
 from bpfhost.shards.names import ARRIVES, FRAMES, LEAVES, RUNS
@@ -95,7 +95,7 @@ def item_of(tenant: int, entry: Entry) -> Item:
     is_packed = RUNS in fields
     stored = fields[RUNS] if is_packed else fields.get(FRAMES, b"")
     try:
-        count, alike, each = (*_count_of_packed(stored), ()) if is_packed else _looked_at(stored)
+        count, alike, each, _ = (*_count_of_packed(stored), (), b"") if is_packed else _looked_at(stored)
         return Call(name, tenant, stored, count, alike, is_packed, tuple(each))
     except ValueError as error:
         return NoCall(name, tenant, f"no call: {error}", len(stored))
@@ -111,9 +111,14 @@ def count_of(stream: bytes) -> tuple[int, int]:
     return _looked_at(stream)[:2]
 
 
-def _looked_at(stream: bytes) -> tuple[int, int, list[bytes]]:
-    """The same, and the frames if they are not alike."""
-    alike = size_of_alike(stream)
+def packed_of(stream: bytes) -> bytes:
+    """The frames of a call as they are packed, if they can be; raises ValueError if the bytes are no call."""
+    return _looked_at(stream)[3]
+
+
+def _looked_at(stream: bytes) -> tuple[int, int, list[bytes], bytes]:
+    """The same as `count_of`, and the frames if they are not alike, and as they are packed, if they can be."""
+    alike, runs = looked_at(stream)
     frames = [] if alike else split(stream)
     count = len(stream) // alike if alike else len(frames)
     most = MOST_ALIKE if count > MOST_FRAMES and alike and is_short(stream) else MOST_FRAMES
@@ -122,7 +127,7 @@ def _looked_at(stream: bytes) -> tuple[int, int, list[bytes]]:
         raise ValueError(f"a call has {limits}, and not {count} of {len(stream)}")
     if stream[4:6] != _TENANT or any(len(frame) < BODY or frame[4:6] != _TENANT for frame in frames):
         raise ValueError("a frame of a call has a head, and names tenant 0")
-    return count, alike, frames
+    return count, alike, frames, runs
 
 
 def _count_of_packed(runs: bytes) -> tuple[int, int]:

@@ -11,11 +11,11 @@ from collections.abc import AsyncIterator, Iterable, Sequence
 from contextlib import AbstractAsyncContextManager
 from typing import NamedTuple
 
-from bpfhost.alike import packed, size_of_alike
+from bpfhost.alike import looked_at, packed
 from bpfhost.parts import in_parts
 from bpfhost.shards import names, scripts
 from bpfhost.shards.aside import Aside
-from bpfhost.shards.calls import LONGEST_CALL, MOST_FRAMES, count_of
+from bpfhost.shards.calls import LONGEST_CALL, MOST_FRAMES, count_of, packed_of
 from bpfhost.shards.connection import Entry, Redis, as_in
 from bpfhost.shards.directory import Directory, Seat, demand_name
 from bpfhost.shards.errors import Away, CallError, CallPassed, NoReply, NotDone, NotServed, NotTaken, OutOfMemory
@@ -146,20 +146,19 @@ class AsyncCustomer:
         Raises NotTaken if there is no room: the call is not done later either. Raises NoReply if it is not known whether it was taken:
         the error has the ticket, and waiting for the ticket, or the next call, sends the call again.
         """
-        _, alike = count_of(stream)
+        runs = packed_of(stream)
         if self._gathered.count:
             await self.flush()
-        return await self._post(stream, alike, seconds, by)
+        return await self._post(stream, runs, seconds, by)
 
     async def post_checked(self, stream: bytes, count: int) -> Ticket:
         """The same with frames that the caller has split and checked; their number is counted in the session."""
-        return await self._post(stream, size_of_alike(stream), None, count)
+        return await self._post(stream, looked_at(stream)[1], None, count)
 
-    async def _post(self, stream: bytes, alike: int, seconds: float | None = None, by: int = 1) -> Ticket:
-        """Does what `post` does, with the length of each frame if they are known to be alike, and 0 otherwise."""
+    async def _post(self, stream: bytes, runs: bytes, seconds: float | None = None, by: int = 1) -> Ticket:
+        """Does what `post` does, with the frames as they are packed, if they are."""
         if self._open:
             await self.settle(seconds)
-        runs = packed(stream, alike)
         self._open = ticket = Ticket(runs or stream, self.session, self._number + by, self._given_up, bool(runs))
         await self.settle(seconds)
         return ticket
@@ -181,7 +180,8 @@ class AsyncCustomer:
         """Sends the gathered calls. An error is passed to each caller that waits for one of them."""
         call, self._gathered = self._gathered, Gathered()
         try:
-            call.ticket = await self._post(bytes(call.stream), call.alike) if call.count else None
+            stream = bytes(call.stream)
+            call.ticket = await self._post(stream, packed(stream, call.alike)) if call.count else None
         except CallError as error:
             call.error, call.ticket = error, error.ticket
         except ShardError:

@@ -71,7 +71,7 @@ class AsyncClient(AbstractAsyncContextManager["AsyncClient"]):
 
 
 class _Used(NamedTuple):
-    """What each call to a seat uses: the shard's Redis, the keys of the script, and the text of the seat's owner."""
+    """What each call to a seat uses: the shard's Redis, whose deadline is the call's, the keys of the script, and the text of the seat's owner."""
 
     seat: Seat
     redis: Redis
@@ -92,7 +92,7 @@ class AsyncCustomer:
         self._at: dict[int, tuple[Redis, ShardKeys]] = {}
         self._used: _Used | None = None
         # The latest calls that were taken, and whose replies were not read yet.
-        self._unread: dict[Place, Ticket] = {}
+        self._unread: dict[tuple[int, int, bytes], Ticket] = {}
 
     async def ask_bytes(self, frames: Iterable[bytes]) -> AsyncIterator[bytes]:
         """Sends frames, many at once, and yields their replies in order, each as the bytes that the host wrote."""
@@ -201,9 +201,16 @@ class AsyncCustomer:
         ticket = self._open
         if ticket is None:
             return
-        deadline = self._deadline(seconds)
+        deadline, pause = self._deadline(seconds), _PAUSE
         try:
-            await self._send(ticket, deadline)
+            while ticket.place is None:
+                seat = ticket.seat = ticket.seat or self._seat or await self._take_seat(deadline, ticket)
+                why = await self._send_to(ticket, seat, deadline)
+                if why and self._system.now() + pause > deadline:
+                    await self._give_up(ticket, seat, why)
+                elif why:
+                    await asyncio.sleep(pause)
+                    pause = min(2 * pause, _LONGEST_PAUSE)
         except NotTaken:
             # A later call with this number can't be mistaken for it.
             self._open, self._given_up = None, ticket.given_up + 1
@@ -211,10 +218,9 @@ class AsyncCustomer:
         except Away as away:
             raise NoReply(f"it is not known whether a call of customer {self.name} was taken: {away}", ticket) from None
         self._open, self._number = None, ticket.number
-        if ticket.place:
-            self._unread[ticket.place] = ticket
-            if len(self._unread) > _MOST_UNREAD:
-                del self._unread[next(iter(self._unread))]
+        self._unread[ticket.place] = ticket
+        if len(self._unread) > _MOST_UNREAD:
+            del self._unread[next(iter(self._unread))]
 
     async def wait(self, ticket: Ticket, seconds: float | None = None) -> list[bytes]:
         """Waits for the replies to a call, one for each frame (`wait_bytes`)."""
@@ -246,31 +252,18 @@ class AsyncCustomer:
 
     # Sending.
 
-    async def _send(self, ticket: Ticket, deadline: float) -> None:
-        """Sends a call until it is taken, or is never taken: then raises NotTaken."""
-        pause = _PAUSE
-        while ticket.place is None:
-            seat = ticket.seat = ticket.seat or self._seat or await self._take_seat(deadline, ticket)
-            why = await self._send_to(ticket, seat, deadline)
-            if not why:
-                continue
-            if self._system.now() + pause > deadline:
-                await self._give_up(ticket, seat, why)
-                return
-            await asyncio.sleep(pause)
-            pause = min(2 * pause, _LONGEST_PAUSE)
-
     async def _send_to(self, ticket: Ticket, seat: Seat, deadline: float) -> str:
         """Sends a call once; returns a sentence if there is no room for it now."""
         used = self._used
         if not used or used.seat is not seat:
             redis, keys = await self._shard(seat.shard, deadline)
             of_seat = [keys.seats, keys.frames(seat.tenant), keys.sessions(seat.generation), keys.waiting, keys.lease]
-            used = self._used = _Used(seat, redis, of_seat, seat.owned_by(self.name))
+            used = self._used = _Used(seat, redis.patient(deadline), of_seat, seat.owned_by(self.name))
+        used.redis.deadline = deadline
         session = [ticket.session, ticket.number, ticket.given_up, used.owner, seat.shard, seat.tenant]
         limits = [names.weight(len(ticket.stored)), names.MOST_WAITING, names.MOST_SESSIONS, RUNS if ticket.is_packed else FRAMES]
         try:
-            what, *said = await scripts.ASK(used.redis.patient(deadline), used.keys, [*session, ticket.stored, *limits])
+            what, *said = await scripts.ASK(used.redis, used.keys, [*session, ticket.stored, *limits])
         except OutOfMemory as error:
             return f"a call of customer {self.name} is not taken: {error}"
         if what == b"taken":
@@ -349,7 +342,7 @@ class AsyncCustomer:
     def _note_read(self, place: Place, found: Sequence[Entry]) -> None:
         """Gives replies to the calls that they belong to, after the first of them, which is returned to the caller."""
         for entry, fields in found:
-            ticket = self._unread.pop(place._replace(entry=entry), None)
+            ticket = self._unread.pop((place.shard, place.tenant, entry), None)
             if ticket and entry != place.entry and REPLIES in fields:
                 ticket.answered = fields[REPLIES]
 

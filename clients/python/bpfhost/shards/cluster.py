@@ -142,9 +142,10 @@ class Line:
 
     def _to(self, node: str) -> RedisLink:
         """The connection to a node."""
-        if node not in self._links or self._links[node].is_over:
-            self._links[node] = self._nodes.connect(node)
-        return self._links[node]
+        link = self._links.get(node)
+        if not link or link.is_over:
+            link = self._links[node] = self._nodes.connect(node)
+        return link
 
     async def _called(self, words: Sequence[Word], seconds: float, slot: int) -> Any:
         nodes = self._nodes

@@ -14,7 +14,7 @@ from bpfhost.shards.cluster import Line, Nodes
 from bpfhost.shards.errors import Away, NoScript, NotAllowed, RedisError
 from bpfhost.shards.link import Word, library
 from bpfhost.shards.names import START, before
-from bpfhost.shards.system import MACHINE, System
+from bpfhost.shards.system import MACHINE, System, Work
 
 # A server that does not reply for so many seconds is taken to be away. A call blocks for so many seconds at most.
 _SECONDS_TO_ANSWER, _SECONDS_TO_BLOCK = 30.0, 1.0
@@ -52,7 +52,7 @@ class Redis:
         """
         self.url, self.system = url or os.environ.get("BPFHOST_REDIS") or "redis://127.0.0.1:6379/0", system
         self.nodes = Nodes(self.url, system)
-        self._slot, self._deadline, self._patience = -1, math.inf, 0.0
+        self._slot, self.deadline, self._patience = -1, math.inf, 0.0
 
     def _with(self, **changed: object) -> Redis:
         # Each call has one: `copy` takes ten times as long.
@@ -66,19 +66,25 @@ class Redis:
 
     def until(self, deadline: float) -> Redis:
         """The same server, whose calls end at a time of the system's clock."""
-        return self._with(_deadline=deadline)
+        return self._with(deadline=deadline)
 
     def patient(self, deadline: float = math.inf, seconds: float = math.inf) -> Redis:
         """The same, but if the server is away calls are repeated, each for so many seconds: only for calls that may be done twice."""
-        return self._with(_deadline=deadline, _patience=seconds)
+        return self._with(deadline=deadline, _patience=seconds)
 
-    async def call(self, *words: Word, wait: float = 0.0) -> Any:
-        """The reply to a command, which may block for so many seconds. Raises Away if the server can't be reached in time."""
-        until, pause = min(self._deadline, self.system.now() + self._patience) if self._patience else 0.0, _PAUSE
+    async def call(self, *words: Word, wait: float = 0.0, text: str = "") -> Any:
+        """The reply to a command, which may block for so many seconds. Raises Away if the server can't be reached in time.
+
+        A script is named, and has its text for a server that does not know it yet.
+        """
+        until, pause = min(self.deadline, self.system.now() + self._patience) if self._patience else 0.0, _PAUSE
         while True:
             line = self.nodes.line()
             try:
                 return await self.begin(line, words, wait)
+            except NoScript:
+                words = ("EVAL", text, *words[2:])
+                continue
             except Away:
                 if self.system.now() + pause > until or self.nodes.has_changed:
                     raise
@@ -93,7 +99,7 @@ class Redis:
 
     def begin(self, line: Line, words: Sequence[Word], wait: float = 0.0) -> asyncio.Future[Any]:
         """Begins a command on a line, which may block for so many seconds. The wait for it raises Away if no reply comes."""
-        seconds = max(_LEAST_SECONDS, min(wait + _SECONDS_TO_ANSWER, self._deadline - self.system.now()))
+        seconds = max(_LEAST_SECONDS, min(wait + _SECONDS_TO_ANSWER, self.deadline - self.system.now()))
         return line.begin(words, seconds, self._slot)
 
     # Commands, by their names.
@@ -111,7 +117,7 @@ class Redis:
     async def xread(self, name: str, place: bytes, many: int) -> list[Entry]:
         """Entries of a stream after an id, at most so many; waits a little if there is none."""
         # The server replies before the client gives the call up.
-        left = self._deadline - self.system.now()
+        left = self.deadline - self.system.now()
         wait = max(0.0, min(_SECONDS_TO_BLOCK, left - min(_SECONDS_FOR_AN_ANSWER, left / 2)))
         return entries_of(await self.call(*xread_words({name: place}, many, wait), wait=wait)).get(name, [])
 
@@ -158,12 +164,9 @@ class Script:
         # The name by which a server knows it.
         self.name = hashlib.sha1(self.text.encode()).hexdigest()
 
-    async def __call__(self, redis: Redis, keys: Sequence[str], arguments: Sequence[Word]) -> Any:
-        """The result of the script. A server that has just started does not know the script yet."""
-        try:
-            return await redis.call("EVALSHA", self.name, len(keys), *keys, *arguments)
-        except NoScript:
-            return await redis.call("EVAL", self.text, len(keys), *keys, *arguments)
+    def __call__(self, redis: Redis, keys: Sequence[str], arguments: Sequence[Word]) -> Work[Any]:
+        """The result of the script."""
+        return redis.call("EVALSHA", self.name, len(keys), *keys, *arguments, text=self.text)
 
     def begin(self, redis: Redis, line: Line, keys: Sequence[str], arguments: Sequence[Word]) -> asyncio.Future[Any]:
         """Begins the script on a line of a server. If its reply is a NoScript, the caller calls the script once more."""

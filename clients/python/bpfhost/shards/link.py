@@ -87,7 +87,9 @@ class RedisLink(asyncio.BufferedProtocol):
     """
 
     transport: asyncio.Transport | None = None
+    # When the first reply is due, as far as it is looked at then.
     _timer: asyncio.TimerHandle | None = None
+    _due = math.inf
     # Whether it has ended; whether the history that its server reports was looked at (`cluster`).
     is_over = is_checked = False
 
@@ -108,7 +110,7 @@ class RedisLink(asyncio.BufferedProtocol):
         reply, until = self._loop.create_future(), self._loop.time() + seconds
         self._waiting.append((reply, until))
         self._write(packed(words))
-        if not self._timer or until < self._timer.when():
+        if until < self._due:
             self._look()
         return reply
 
@@ -143,7 +145,7 @@ class RedisLink(asyncio.BufferedProtocol):
         """Ends the connection if a reply is overdue, and looks again when the next one is."""
         if self._timer:
             self._timer.cancel()
-        due = min((until for reply, until in self._waiting if not reply.done()), default=math.inf)
+        self._due = due = min((until for reply, until in self._waiting if not reply.done()), default=math.inf)
         self._timer = self._loop.call_at(due, self._look) if due < math.inf else None
         if due <= self._loop.time():
             self.cut(TimeoutError())

@@ -4,7 +4,6 @@ from __future__ import annotations
 
 import json
 from dataclasses import dataclass, field
-from functools import cached_property
 from typing import NamedTuple
 
 from bpfhost.alike import is_short
@@ -50,11 +49,14 @@ class Ticket:
     place: Place | None = None
     # The replies, one after another; empty until they have come.
     answered: bytes = b""
+    # Each of them, once somebody has asked for that.
+    each: list[bytes] = field(default_factory=list)
 
-    @cached_property
+    @property
     def replies(self) -> list[bytes]:
         """The replies that have come, one for each frame."""
-        return split(self.answered)
+        self.each = self.each or split(self.answered)
+        return self.each
 
     @property
     def entry(self) -> bytes | None:

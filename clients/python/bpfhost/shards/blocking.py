@@ -18,7 +18,7 @@ from bpfhost.replies import Reply, read_replies
 from bpfhost.shards import directory, moving
 from bpfhost.shards.calls import LONGEST_CALL, MOST_FRAMES
 from bpfhost.shards.client import SECONDS, AsyncClient, AsyncCustomer
-from bpfhost.shards.loop import new_loop
+from bpfhost.shards.loop import RoundsLoop
 from bpfhost.shards.names import PREFIX
 from bpfhost.shards.system import MACHINE, Answer, System, Work
 from bpfhost.shards.tickets import Part, Ticket
@@ -32,7 +32,7 @@ class Loop:
     """An event loop that runs only while somebody waits for something. Threads may share it: one of those that wait runs it for all."""
 
     def __init__(self) -> None:
-        self._loop = new_loop()
+        self._loop = RoundsLoop()
         # Held by the thread that runs it; how many others wait.
         self._runs, self._others = threading.Lock(), 0
         self._changed = threading.Condition()

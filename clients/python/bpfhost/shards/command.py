@@ -29,7 +29,7 @@ from bpfhost.shards.gateway.limits import GatewayLimits
 from bpfhost.shards.gateway.server import Gateway, Tls
 from bpfhost.shards.library import find_library
 from bpfhost.shards.logs import JsonLines
-from bpfhost.shards.loop import new_loop
+from bpfhost.shards.loop import RoundsLoop
 from bpfhost.shards.metrics import Page
 from bpfhost.shards.names import ShardKeys
 from bpfhost.shards.settings import Settings
@@ -104,7 +104,7 @@ def metrics_of(address: str, shard: int) -> str:
 def run_gateway(said: Namespace) -> None:
     """Accepts customers until SIGTERM or SIGINT."""
     _log(said)
-    with asyncio.Runner(loop_factory=new_loop) as runner:
+    with asyncio.Runner(loop_factory=RoundsLoop) as runner:
         runner.run(_serve(said))
 
 

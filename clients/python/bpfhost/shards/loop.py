@@ -3,16 +3,21 @@
 from __future__ import annotations
 
 import asyncio
+import select
 import selectors
+from collections.abc import Sequence
 
 # It asks at least after so many rounds of callbacks.
 _MOST_ROUNDS = 8
 
 
-class _Selector(selectors.DefaultSelector):
+class _Selector(selectors.EpollSelector):
     """A selector that does not ask the system while the loop has something to do, but for each eighth time."""
 
     rounds = 0
+    # Names that are not public in the library.
+    _selector: select.epoll
+    _fd_to_key: dict[int, selectors.SelectorKey]
 
     def select(self, timeout: float | None = None) -> list[tuple[selectors.SelectorKey, int]]:
         if timeout is not None and timeout <= 0 and self.rounds < _MOST_ROUNDS:
@@ -21,6 +26,11 @@ class _Selector(selectors.DefaultSelector):
         self.rounds = 0
         return super().select(timeout)
 
+    def reader(self, timeout: float | None) -> asyncio.Handle | None:
+        """What reads from a connection, if something comes on it within so many seconds, and nothing else comes."""
+        found = self._selector.poll(timeout, 2)
+        return self._fd_to_key[found[0][0]].data[0] if len(found) == 1 and found[0][1] == select.EPOLLIN else None
+
 
 class RoundsLoop(asyncio.SelectorEventLoop):
     """Such a loop: a call of Redis takes four rounds, and now one question to the system in place of four.
@@ -28,10 +38,18 @@ class RoundsLoop(asyncio.SelectorEventLoop):
     A caller that needs only one result runs it round by round: `run_forever` would need a further round to end.
     """
 
-    # asyncio has no public name for one round.
-    run_round = asyncio.SelectorEventLoop._run_once  # type: ignore[attr-defined]
+    # Names that are not public in asyncio: what is to be done at once, and later.
+    _ready: Sequence[asyncio.Handle]
+    _scheduled: Sequence[asyncio.TimerHandle]
 
+    def __init__(self) -> None:
+        self._questions = _Selector()
+        super().__init__(self._questions)
 
-def new_loop() -> RoundsLoop:
-    """A new loop."""
-    return RoundsLoop(_Selector())
+    def run_round(self) -> None:
+        """One round: waits until there is something to do, and does it. If only one connection has something, it is read at once."""
+        wait = self._scheduled[0].when() - self.time() if self._scheduled else None
+        if not self._ready and (wait is None or wait > 0) and (reader := self._questions.reader(wait)):
+            reader._run()
+        else:
+            self._run_once()  # type: ignore[attr-defined]

@@ -27,7 +27,7 @@ from bpfhost.shards.jobs import Jobs
 from bpfhost.shards.keeping import Keeping
 from bpfhost.shards.lease import Lease
 from bpfhost.shards.log import Log
-from bpfhost.shards.loop import new_loop
+from bpfhost.shards.loop import RoundsLoop
 from bpfhost.shards.manifest import build_of
 from bpfhost.shards.metrics import WORKER, Numbers, Told
 from bpfhost.shards.names import ShardKeys
@@ -95,7 +95,7 @@ class Worker:
                 for redis in dict.fromkeys((self._redis, self._directory.redis)):
                     await redis.nodes.close()
 
-        with asyncio.Runner(loop_factory=new_loop) as runner:
+        with asyncio.Runner(loop_factory=RoundsLoop) as runner:
             runner.run(run())
 
     async def serve(self, is_stopped: Callable[[], bool] = lambda: False) -> None:

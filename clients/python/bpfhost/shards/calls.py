@@ -20,7 +20,7 @@ _TENANT = bytes(2)
 _HEAD_OF_RUN = _TENANT + Command.PROG_TEST_RUN.to_bytes(2, "little")
 
 
-@dataclass(frozen=True)
+@dataclass
 class Call:
     """Frames of a tenant as they are stored, and their number.
 

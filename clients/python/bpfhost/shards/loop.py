@@ -5,7 +5,7 @@ from __future__ import annotations
 import asyncio
 import select
 import selectors
-from collections.abc import Sequence
+from typing import Any
 
 # It asks at least after so many rounds of callbacks.
 _MOST_ROUNDS = 8
@@ -15,9 +15,6 @@ class _Selector(selectors.EpollSelector):
     """A selector that does not ask the system while the loop has something to do, but for each eighth time."""
 
     rounds = 0
-    # Names that are not public in the library.
-    _selector: select.epoll
-    _fd_to_key: dict[int, selectors.SelectorKey]
 
     def select(self, timeout: float | None = None) -> list[tuple[selectors.SelectorKey, int]]:
         if timeout is not None and timeout <= 0 and self.rounds < _MOST_ROUNDS:
@@ -26,8 +23,9 @@ class _Selector(selectors.EpollSelector):
         self.rounds = 0
         return super().select(timeout)
 
-    def reader(self, timeout: float | None) -> asyncio.Handle | None:
-        """What reads from a connection, if something comes on it within so many seconds, and nothing else comes."""
+    def reader(self: Any, timeout: float | None) -> Any:
+        """What reads from a connection, if something comes on it within so many seconds, and nothing else comes; or None."""
+        # These names, and those that the loop uses, are not public in the library.
         found = self._selector.poll(timeout, 2)
         return self._fd_to_key[found[0][0]].data[0] if len(found) == 1 and found[0][1] == select.EPOLLIN else None
 
@@ -38,18 +36,13 @@ class RoundsLoop(asyncio.SelectorEventLoop):
     A caller that needs only one result runs it round by round: `run_forever` would need a further round to end.
     """
 
-    # Names that are not public in asyncio: what is to be done at once, and later.
-    _ready: Sequence[asyncio.Handle]
-    _scheduled: Sequence[asyncio.TimerHandle]
-
     def __init__(self) -> None:
-        self._questions = _Selector()
-        super().__init__(self._questions)
+        super().__init__(_Selector())
 
-    def run_round(self) -> None:
+    def run_round(self: Any) -> None:
         """One round: waits until there is something to do, and does it. If only one connection has something, it is read at once."""
         wait = self._scheduled[0].when() - self.time() if self._scheduled else None
-        if not self._ready and (wait is None or wait > 0) and (reader := self._questions.reader(wait)):
+        if not self._ready and (wait is None or wait > 0) and (reader := self._selector.reader(wait)):
             reader._run()
         else:
-            self._run_once()  # type: ignore[attr-defined]
+            self._run_once()

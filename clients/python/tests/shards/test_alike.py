@@ -8,7 +8,7 @@ from collections.abc import Callable, Iterator
 from typing import Any
 
 from bpfhost import Errno, Host, MapType, frames
-from bpfhost.alike import is_short, packed, size_of_alike, size_of_packet, statuses_are_zero, unpacked
+from bpfhost.alike import is_short, looked_at, packed, size_of_alike, size_of_packet, statuses_are_zero, unpacked
 from bpfhost.errors import ReplyError
 from bpfhost.replies import Reply
 from bpfhost.shards.calls import MOST_ALIKE, MOST_FRAMES, Call, NoCall, count_of, item_of
@@ -136,13 +136,15 @@ class Sizes(unittest.TestCase):
             runs = b"".join(frames.prog_test_run(0, 4, draw.randbytes(size)) for _ in range(many))
             short = packed(runs, 52 + size)
             self.assertEqual((len(short), size_of_packet(short), unpacked(short)), (52 + size * many, size, runs))
+            self.assertEqual(looked_at(runs), (52 + size, short))
             call = item_of(7, (b"1-0", {RUNS: short}))
             assert isinstance(call, Call)
             self.assertEqual((call.count, call.alike, call.stream, call.size, call.is_short), (many, 52 + size, runs, len(short), True))
         other = frames.prog_test_run(0, 5, bytes(64)) + frames.prog_test_run(0, 4, bytes(64)) * 8
         marked = frames.prog_test_run(0, 4, bytes(64), frames.Context(mark=1)) + frames.prog_test_run(0, 4, bytes(64)) * 8
         for stream in (other, marked, frames.prog_test_run(0, 4) * 9, put(1) * 9, CREATE + put(1)):
-            self.assertEqual(packed(stream, size_of_alike(stream)), b"")
+            self.assertEqual((packed(stream, size_of_alike(stream)), looked_at(stream)), (b"", (size_of_alike(stream), b"")))
+        self.assertEqual(looked_at(frames.prog_test_run(0, 4, bytes(64)) * 7), (0, b""))
 
     def test_what_is_packed_wrongly(self) -> None:
         """Entries that this package does not write are no calls."""

@@ -64,7 +64,6 @@ class Answering:
         self._send()
         while sum(map(_size, self._waiting)) > _MOST_WAITING:
             await self._end_first()
-            self._send()
 
     def _send(self) -> None:
         """Sends what waits, as far as there is room."""
@@ -85,16 +84,14 @@ class Answering:
         return [self._batches[0].task] if self._batches else []
 
     async def look(self) -> None:
-        """Notes the batches that Redis has replied to, and sends what waits."""
+        """Notes the batches that Redis has replied to."""
         while self._batches and self._batches[0].task.done():
             await self._end_first()
-        self._send()
 
     async def settle(self) -> None:
         """Waits until all replies are written."""
         while self._batches:
             await self._end_first()
-            self._send()
 
     def forget(self) -> None:
         """Drops the batches in progress: they belong to a log that this worker does not continue."""
@@ -117,15 +114,16 @@ class Answering:
                 await self._make_room(error)
 
     async def _end_first(self) -> None:
-        """Waits for the batch that was begun first; if it is not written, writes all batches in progress once more."""
+        """Waits for the batch that was begun first, and sends what waits; if it is not written, writes all batches in progress once more."""
         if await self._writing.end(self._batches[0].task):
             self._note(self._batches.popleft().played)
-            return
-        for batch in list(self._batches)[1:]:
-            await self._writing.end(batch.task)
-        while self._batches:
-            await self._write([one.written for one in self._batches[0].played])
-            self._note(self._batches.popleft().played)
+        else:
+            for batch in list(self._batches)[1:]:
+                await self._writing.end(batch.task)
+            while self._batches:
+                await self._write([one.written for one in self._batches[0].played])
+                self._note(self._batches.popleft().played)
+        self._send()
 
     def _note(self, played: Sequence[Played]) -> None:
         for _, written, _ in played:

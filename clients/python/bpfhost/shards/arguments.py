@@ -134,8 +134,7 @@ def parse(words: Sequence[str] | None) -> argparse.Namespace:
     parser, of_words = _parser()
     complete(parser)
     given = list(sys.argv[1:] if words is None else words)
-    file = _config_of(given)
-    if file:
+    if file := _config_of(given):
         try:
             configure(Path(file), of_words)
         except ValueError as error:

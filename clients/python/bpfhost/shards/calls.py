@@ -95,7 +95,7 @@ def item_of(tenant: int, entry: Entry) -> Item:
     is_packed = RUNS in fields
     stored = fields[RUNS] if is_packed else fields.get(FRAMES, b"")
     try:
-        count, alike, each, _ = (*_count_of_packed(stored), (), b"") if is_packed else _looked_at(stored)
+        count, alike, each, _ = (*_count_of_packed(stored), (), b"") if is_packed else parsed(stored)
         return Call(name, tenant, stored, count, alike, is_packed, tuple(each))
     except ValueError as error:
         return NoCall(name, tenant, f"no call: {error}", len(stored))
@@ -108,15 +108,10 @@ def size_of(fields: Mapping[bytes, bytes]) -> int:
 
 def count_of(stream: bytes) -> tuple[int, int]:
     """The number of frames of a call, and the length of each if they are alike; raises ValueError if the bytes are no call."""
-    return _looked_at(stream)[:2]
+    return parsed(stream)[:2]
 
 
-def packed_of(stream: bytes) -> bytes:
-    """The frames of a call as they are packed, if they can be; raises ValueError if the bytes are no call."""
-    return _looked_at(stream)[3]
-
-
-def _looked_at(stream: bytes) -> tuple[int, int, list[bytes], bytes]:
+def parsed(stream: bytes) -> tuple[int, int, list[bytes], bytes]:
     """The same as `count_of`, and the frames if they are not alike, and as they are packed, if they can be."""
     alike, runs = looked_at(stream)
     frames = [] if alike else split(stream)
@@ -142,4 +137,4 @@ def _count_of_packed(runs: bytes) -> tuple[int, int]:
 
 def whole_frames(stream: bytes) -> list[bytes]:
     """The frames of a call; raises ValueError if the bytes are no frames, or there are too many."""
-    return _looked_at(stream)[2] or split(stream)
+    return parsed(stream)[2] or split(stream)

@@ -15,7 +15,7 @@ from bpfhost.alike import looked_at, packed
 from bpfhost.parts import in_parts
 from bpfhost.shards import names, scripts
 from bpfhost.shards.aside import Aside
-from bpfhost.shards.calls import LONGEST_CALL, MOST_FRAMES, count_of, packed_of
+from bpfhost.shards.calls import LONGEST_CALL, MOST_FRAMES, count_of, parsed
 from bpfhost.shards.connection import Entry, Redis, as_in
 from bpfhost.shards.directory import Directory, Seat, demand_name
 from bpfhost.shards.errors import Away, CallError, CallPassed, NoReply, NotDone, NotServed, NotTaken, OutOfMemory
@@ -146,7 +146,7 @@ class AsyncCustomer:
         Raises NotTaken if there is no room: the call is not done later either. Raises NoReply if it is not known whether it was taken:
         the error has the ticket, and waiting for the ticket, or the next call, sends the call again.
         """
-        runs = packed_of(stream)
+        _, _, _, runs = parsed(stream)
         if self._gathered.count:
             await self.flush()
         return await self._post(stream, runs, seconds, by)
@@ -290,10 +290,9 @@ class AsyncCustomer:
         redis, keys = await self._shard(seat.shard, deadline)
         used = [keys.sessions(seat.generation), keys.lease]
         what, *said = await scripts.GIVE_UP(redis.patient(deadline), used, [ticket.session, ticket.number, ticket.given_up])
-        if what == b"taken":
-            ticket.place = Place.of(*said)
-        else:
+        if what != b"taken":
             raise NotTaken(why, ticket)
+        ticket.place = Place.of(*said)
 
     async def _take_seat(self, deadline: float, ticket: Ticket | None) -> Seat:
         """The customer's seat in the directory. Waits while the customer is moved, or no shard that may have it is served."""

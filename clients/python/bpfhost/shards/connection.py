@@ -3,6 +3,7 @@
 from __future__ import annotations
 
 import asyncio
+import contextlib
 import hashlib
 import math
 import os
@@ -22,6 +23,7 @@ _LEAST_SECONDS, _SECONDS_FOR_AN_ANSWER = 0.25, 0.2
 _PAUSE, _LONGEST_PAUSE = 0.01, 0.25
 # What the options of a URL begin with that are for only one process.
 _OWN = ("username", "password", "ssl_")
+_UNSEEN = "this user may not see whether appendfsync is always, as a shard's log needs: `show` of an operator tells it"
 _DURABLE = {"appendonly": "yes", "maxmemory-policy": "noeviction", "appendfsync": "always"}
 
 Entry = tuple[bytes, dict[bytes, bytes]]
@@ -188,15 +190,12 @@ async def demand_durable(redis: Redis) -> str:
         # Meanwhile it says that it has no log.
         raise Away("Redis loads its files")
     has = {"appendonly": "yes" if said.get("aof_enabled") == "1" else "no", "maxmemory-policy": said.get("maxmemory_policy", "")}
-    unseen = ""
-    try:
+    with contextlib.suppress(NotAllowed):
         has["appendfsync"] = _pairs(await redis.call("CONFIG", "GET", "appendfsync")).get(b"appendfsync", b"").decode()
-    except NotAllowed:
-        unseen = "this user may not see whether appendfsync is always, as a shard's log needs: `show` of an operator tells it"
     for name, found in has.items():
         if found != _DURABLE[name]:
             raise RedisError(f"Redis has {name} {found}, and a shard's log needs {_DURABLE[name]}: else it may lose what it has answered")
-    return unseen
+    return "" if "appendfsync" in has else _UNSEEN
 
 
 async def demand_version(redis: Redis) -> None:

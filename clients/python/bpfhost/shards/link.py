@@ -61,16 +61,14 @@ def packed(words: Sequence[Word]) -> bytes:
     """A command as the server reads it. A worker's command names many streams, for which the library's own encoder takes four times as long."""
     # What is mostly sent again: the name of a script with its keys, and all of XREAD except the ids.
     same = 3 + cast(int, words[2]) if words[0] == "EVALSHA" else 3 + len(words) // 2 if words[0] == "XREAD" else 0
-    return b"".join([b"*%d\r\n" % len(words), _kept(tuple(words[:same])), *_parts(words[same:])])
+    return b"".join([b"*%d\r\n" % len(words), _kept(tuple(words[:same])), _joined(words[same:])])
 
 
-def _parts(words: Sequence[Word]) -> list[bytes]:
-    return [b"$%d\r\n%b\r\n" % (len(word), word) if isinstance(word, bytes) else _part(word) for word in words]
+def _joined(words: Sequence[Word]) -> bytes:
+    return b"".join([b"$%d\r\n%b\r\n" % (len(word), word) if isinstance(word, bytes) else _part(word) for word in words])
 
 
-@functools.lru_cache(512)
-def _kept(words: Sequence[Word]) -> bytes:
-    return b"".join(_parts(words))
+_kept = functools.lru_cache(512)(_joined)
 
 
 @functools.lru_cache(4096)

@@ -106,8 +106,7 @@ class Told:
         client = library("prometheus_client")
         for name, value in self._look().items():
             self.set(name, value)
-        text: bytes = client.generate_latest(self.registry)
-        return text.decode()
+        return str(client.generate_latest(self.registry), "utf-8")
 
 
 # Whether a process is well, and the details.

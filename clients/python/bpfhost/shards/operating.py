@@ -174,10 +174,8 @@ async def _lease(client: AsyncClient, shard: int) -> _Lease:
 
 
 def _health(seen: SeenShard) -> str:
-    if seen.unreachable:
-        return seen.unreachable
     if not seen.served_by:
-        return "not served"
+        return seen.unreachable or "not served"
     return f"served by {seen.served_by}" if seen.raises else f"{seen.served_by} has its lease, and does not raise it"
 
 

@@ -4,7 +4,7 @@ from __future__ import annotations
 
 import types
 from collections.abc import Generator
-from typing import Any, TypeVar
+from typing import Any, TypeVar, cast
 
 from bpfhost.shards.system import Work
 from bpfhost.state import Steps
@@ -25,8 +25,7 @@ async def in_steps(steps: Steps[Done]) -> Done:
         try:
             next(steps)
         except StopIteration as end:
-            done: Done = end.value
-            return done
+            return cast(Done, end.value)
         await step()
 
 

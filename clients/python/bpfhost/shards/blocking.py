@@ -64,7 +64,7 @@ class Loop:
                 while waits and not waits.done():
                     loop.run_round()
         except StopIteration as ended:
-            return cast(Answer, ended.value)
+            return ended.value  # type: ignore[no-any-return]
         finally:
             work.close()
             asyncio._set_running_loop(None)

@@ -120,7 +120,7 @@ def parsed(stream: bytes) -> tuple[int, int, list[bytes], bytes]:
     if not count or count > most or len(stream) > LONGEST_CALL:
         limits = f"1 to {most} frames of {LONGEST_CALL} bytes together"
         raise ValueError(f"a call has {limits}, and not {count} of {len(stream)}")
-    if stream[4:6] != _TENANT or any(len(frame) < BODY or frame[4:6] != _TENANT for frame in frames):
+    if stream[4:6] != _TENANT or frames and any(len(frame) < BODY or frame[4:6] != _TENANT for frame in frames):
         raise ValueError("a frame of a call has a head, and names tenant 0")
     return count, alike, frames, runs
 

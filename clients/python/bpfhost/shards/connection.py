@@ -79,7 +79,7 @@ class Redis:
 
         A script is named, and has its text for a server that does not know it yet.
         """
-        until, pause = min(self.deadline, self.system.now() + self._patience) if self._patience else 0.0, _PAUSE
+        began, pause = self.system.now(), _PAUSE
         while True:
             line = self.nodes.line()
             try:
@@ -88,7 +88,7 @@ class Redis:
                 words = ("EVAL", text, *words[2:])
                 continue
             except Away:
-                if self.system.now() + pause > until or self.nodes.has_changed:
+                if self.system.now() + pause > min(self.deadline, began + self._patience) or self.nodes.has_changed:
                     raise
             except (asyncio.CancelledError, GeneratorExit):
                 # The next command does not wait for the reply to this one.

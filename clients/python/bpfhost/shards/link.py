@@ -60,7 +60,7 @@ def _error(said: str) -> RedisError:
 def packed(words: Sequence[Word]) -> bytes:
     """A command as the server reads it. A worker's command names many streams, for which the library's own encoder takes four times as long."""
     # What is mostly sent again: the name of a script with its keys, and all of XREAD except the ids.
-    same = 3 + cast(int, words[2]) if words[0] == "EVALSHA" else 3 + len(words) // 2 if words[0] == "XREAD" else 0
+    same = 3 + words[2] if words[0] == "EVALSHA" else 3 + len(words) // 2 if words[0] == "XREAD" else 0  # type: ignore[operator]
     return b"".join([b"*%d\r\n" % len(words), _kept(tuple(words[:same])), _joined(words[same:])])
 
 

@@ -50,7 +50,7 @@ class Ticket:
     # The replies, one after another; empty until they have come.
     answered: bytes = b""
     # Each of them, once somebody has asked for that.
-    each: list[bytes] = field(default_factory=list)
+    each: list[bytes] | None = None
 
     @property
     def replies(self) -> list[bytes]:

@@ -73,7 +73,7 @@ _kept = functools.lru_cache(512)(_joined)
 
 @functools.lru_cache(4096)
 def _part(word: Word) -> bytes:
-    """A text or a number as the server reads it: both are sent again and again."""
+    """A text or a whole number as the server reads it: both are sent again and again."""
     data = str(word).encode()
     return b"$%d\r\n%b\r\n" % (len(data), data)
 

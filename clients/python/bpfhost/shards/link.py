@@ -94,7 +94,8 @@ class RedisLink(asyncio.BufferedProtocol):
     def __init__(self, **words: Any) -> None:
         """The arguments are those of the library's class."""
         super().__init__(**words)
-        self._replies, self._read = library("hiredis").Reader(protocolError=RedisError, replyError=_error), bytearray(_READ_AT_ONCE)
+        self._replies = library("hiredis").Reader(protocolError=RedisError, replyError=_error)
+        self._read = memoryview(bytearray(_READ_AT_ONCE))
         # Who waits, and until when.
         self._waiting: deque[tuple[asyncio.Future[Any], float]] = deque()
         # What is written before the library has logged in is sent then.
@@ -163,7 +164,8 @@ class RedisLink(asyncio.BufferedProtocol):
 
     # What the event loop calls.
 
-    def get_buffer(self, sizehint: int) -> bytearray:
+    def get_buffer(self, sizehint: int) -> memoryview:
+        # With TLS, asyncio fills parts of it one after another: a part of a bytearray would be a copy.
         return self._read
 
     def buffer_updated(self, nbytes: int) -> None:

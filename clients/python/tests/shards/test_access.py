@@ -6,6 +6,7 @@ The tests check what each user may do, and may not; TLS; and that the directory 
 from __future__ import annotations
 
 import hashlib
+import os
 import socket
 import time
 import unittest
@@ -202,6 +203,12 @@ class ByTls(HostTest):
             with Client(url) as client:
                 self.assertEqual(client.customer("acme").ask(CREATE).status, 3)
             self.by_gateway(url)
+            # A reply that comes in many records of TLS.
+            redis, large = connect(url), os.urandom(1 << 20)
+            redis.call("SET", "large", large)
+            for _ in range(3):
+                self.assertEqual(redis.call("GET", "large"), large)
+            redis.close()
             for wrong, seconds in (
                 (f"rediss://127.0.0.1:{port}/0?ssl_ca_certs={other}", 2.0),
                 (f"rediss://127.0.0.1:{port}/0?ssl_ca_certs={own}", 2.0),

@@ -33,8 +33,7 @@ _ERRORS: tuple[tuple[str, type[RedisError], str], ...] = (
     ("MOVED ", Moved, "another node of the cluster has the slot: {rest}"),
     (r"(NOREPLICAS|UNBLOCKED|CLUSTERDOWN|MASTERDOWN|TRYAGAIN|ASK|LOADING|READONLY)\b", Away, "Redis can't do it just now: {said}"),
     ("NOAUTH|WRONGPASS|.* .*AUTH", RedisError, "Redis does not know this user, or not by this password: {rest}"),
-    ("NOPERM", NotAllowed, "Redis refuses a command to this user: {rest}"),
-    (".*user executing the script can't", NotAllowed, "Redis refuses a script to this user: {said}"),
+    ("NOPERM|.*user executing the script can't", NotAllowed, "Redis refuses a command or a script to this user: {said}"),
     (".*OOM|.*allow-oom", OutOfMemory, "Redis has no memory: {said}"),
     ("", RedisError, "Redis refuses a command: {said}"),
 )

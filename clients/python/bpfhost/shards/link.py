@@ -168,10 +168,9 @@ class RedisLink(asyncio.BufferedProtocol):
         return self._read
 
     def buffer_updated(self, nbytes: int) -> None:
-        replies = self._replies
         try:
-            replies.feed(self._read, 0, nbytes)
-            while (reply := replies.gets()) is not False:
+            self._replies.feed(self._read, 0, nbytes)
+            while (reply := self._replies.gets()) is not False:
                 waits, _ = self._waiting.popleft()
                 if not waits.done():
                     (waits.set_exception if isinstance(reply, RedisError) else waits.set_result)(reply)

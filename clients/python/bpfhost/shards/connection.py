@@ -196,10 +196,3 @@ async def demand_durable(redis: Redis) -> str:
         if found != _DURABLE[name]:
             raise RedisError(f"Redis has {name} {found}, and a shard's log needs {_DURABLE[name]}: else it may lose what it has answered")
     return "" if "appendfsync" in has else _UNSEEN
-
-
-async def demand_version(redis: Redis) -> None:
-    """Raises RedisError if the server is too old for flags of scripts."""
-    version = (await told_by(redis, "server")).get("redis_version", "0.0")
-    if tuple(map(int, version.split(".")[:2])) < (7, 0):
-        raise RedisError(f"Redis is of version {version}, and shards need one from 7.0 on")

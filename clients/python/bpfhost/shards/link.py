@@ -34,6 +34,7 @@ _ERRORS: tuple[tuple[str, type[RedisError], str], ...] = (
     (r"(NOREPLICAS|UNBLOCKED|CLUSTERDOWN|MASTERDOWN|TRYAGAIN|ASK|LOADING|READONLY)\b", Away, "Redis can't do it just now: {said}"),
     ("NOAUTH|WRONGPASS|.* .*AUTH", RedisError, "Redis does not know this user, or not by this password: {rest}"),
     ("NOPERM|.*user executing the script can't", NotAllowed, "Redis refuses a command or a script to this user: {said}"),
+    (".*user_script:1: unexpected symbol near '#'", RedisError, "Redis is older than version 7.0, and knows no flags of scripts: {said}"),
     (".*OOM|.*allow-oom", OutOfMemory, "Redis has no memory: {said}"),
     ("", RedisError, "Redis refuses a command: {said}"),
 )

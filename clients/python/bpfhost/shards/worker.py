@@ -19,7 +19,7 @@ from bpfhost.shards.agenda import Agenda
 from bpfhost.shards.answering import Answering, Played
 from bpfhost.shards.attending import Attending
 from bpfhost.shards.calls import Call
-from bpfhost.shards.connection import Redis, as_in, demand_durable, demand_version, forgotten
+from bpfhost.shards.connection import Redis, as_in, demand_durable, forgotten
 from bpfhost.shards.decisions import SECONDS_TO_LOOK, Decisions
 from bpfhost.shards.directory import Directory, register
 from bpfhost.shards.errors import LeaseLost, LogChanged, OutOfMemory, RedisError, ShardError, Stopped
@@ -115,7 +115,6 @@ class Worker:
                 self._agenda.drop()
 
     async def _take_lease(self) -> None:
-        await demand_version(self._redis)
         if self._settings.demand_durable:
             unseen = await demand_durable(self._redis)
             if unseen:

@@ -47,6 +47,9 @@ class Commands(ShardTest, unittest.IsolatedAsyncioTestCase):
                     await task
             else:
                 self.assertEqual(await task, b"1")
+        # A server that is too old for flags of scripts replies this to each script.
+        with self.assertRaisesRegex(RedisError, "^Redis is older than version 7.0, and knows no flags of scripts: Error compiling script"):
+            await self.redis.call("EVAL", "#", 0)
         await self.redis.call("CONFIG", "SET", "maxmemory", 1)
         with self.assertRaises(OutOfMemory):
             await self.redis.begin(line, ["SET", "a", "b"])

@@ -88,7 +88,7 @@ class Store:
         return [name, {b"appendonly": b"yes", b"appendfsync": b"always"}.get(name, b"noeviction")]
 
     def _info(self, _section: bytes) -> bytes:
-        said = {"redis_version": "7.0.15", "used_memory": self.memory[0], "maxmemory": self.memory[1], "maxmemory_policy": "noeviction", "aof_enabled": 1}
+        said = {"used_memory": self.memory[0], "maxmemory": self.memory[1], "maxmemory_policy": "noeviction", "aof_enabled": 1}
         return "".join(f"{name}:{value}\r\n" for name, value in said.items()).encode()
 
     # Texts.

@@ -45,7 +45,6 @@ class Attending:
         self._system = directory.redis.system
         self._seconds = max(_LEAST_SECONDS, seconds / 3)
         self._beats, self._moves = _Watch(), _Watch()
-        self._is_known = True
 
     async def run(self) -> None:
         """Attends until it is cancelled. Errors are reported, and what failed is tried again."""

@@ -132,7 +132,6 @@ class Client(Blocking[AsyncClient], AbstractContextManager["Client"]):
         """The directory's Redis, by its URL (`Redis`)."""
         super().__init__(AsyncClient(url, prefix, system), Loop())
         self.directory = Directory(self.aio.directory, self.loop)
-        self.prefix, self.system = prefix, system
 
     def __exit__(self, *_error: object) -> None:
         self.close()

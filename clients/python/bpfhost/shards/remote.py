@@ -20,7 +20,7 @@ from typing import Any
 from bpfhost.shards.calls import LONGEST_CALL, MOST_FRAMES, whole_frames
 from bpfhost.shards.blocking import Asking
 from bpfhost.shards.client import NAMELESS, SECONDS
-from bpfhost.shards.errors import NoReply, NotDone, NotTaken, ReplyGone, SessionPassed, SetAside, ShardError
+from bpfhost.shards.errors import NoReply, NotDone, ReplyGone, SessionPassed, SetAside, ShardError
 from bpfhost.shards.gateway.protocol import GATEWAY, Why, Word, ack, hello, read_told
 from bpfhost.parts import in_parts
 
@@ -287,6 +287,3 @@ def _whole(held: bytearray) -> int | None:
     """The length of the first frame, if it is whole."""
     size = 4 + int.from_bytes(held[:4], "little") if len(held) >= 4 else 0
     return size if size and len(held) >= size else None
-
-
-__all__ = ["CustomerTls", "GatewayCustomer", "GatewayRefuses", "NotTaken", "Posted"]

@@ -10,9 +10,6 @@ from bpfhost.shards.system import Work
 if TYPE_CHECKING:
     from bpfhost.shards.playing import Playing
 
-# Work for one tenant, whose calls are not played meanwhile.
-Job = tuple[int, Work[None]]
-
 
 class Agenda:
     """The jobs of one shard, in order."""
@@ -21,7 +18,8 @@ class Agenda:
     under_way: Playing
 
     def __init__(self) -> None:
-        self.jobs: deque[Job] = deque()
+        # Work for one tenant each, whose calls are not played meanwhile.
+        self.jobs: deque[tuple[int, Work[None]]] = deque()
         # Tenants with a job.
         self.busy: set[int] = set()
 

@@ -23,9 +23,6 @@ _LEAST_SECONDS = 0.1
 _SECONDS_AT_WORK = 120.0
 _PAUSE = 0.02
 
-# What is read of a lease: its token and its count, and how long it runs.
-_Seen = tuple[bytes, bytes]
-
 
 class Lease:
     """The lease of a worker on a shard."""
@@ -50,7 +47,8 @@ class Lease:
 
         Raises LeaseHeld if the count was raised meanwhile, and Stopped if this worker is asked to stop.
         """
-        seen: _Seen | None = None
+        # The token and the count of another worker's lease.
+        seen: tuple[bytes, bytes] | None = None
         since = 0.0
         while True:
             expected = seen if seen and self._system.now() >= since else (b"", b"")

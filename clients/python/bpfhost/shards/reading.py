@@ -50,8 +50,7 @@ class Reading:
         """Tenants that are busy are not read; `wake` is called when something has come."""
         self._redis, self._tenants, self._busy, self._patience = redis, tenants, busy, patience
         self._settings, self._wake = settings, wake
-        lanes = settings.lanes
-        self._lanes = [_Lane(redis.nodes.line(), keys, range(at, MOST_TENANTS, lanes)) for at in range(lanes)]
+        self._lanes = [_Lane(redis.nodes.line(), keys, range(at, MOST_TENANTS, settings.lanes)) for at in range(settings.lanes)]
         # The ids up to which tenants were read whose replies are not written yet.
         self._read_to: dict[int, bytes] = {}
 

@@ -33,9 +33,6 @@ _ASKED_AT_ONCE, _MADE_IN_A_STEP, _READ_AT_ONCE = 1024, 400, 1 << 16
 # Commands that may be refused memory (an update only by a host of version 0.1.0); no other error has -12.
 _WANTS_MEMORY = (Command.MAP_CREATE, Command.MAP_UPDATE_ELEM, Command.PROG_LOAD)
 
-# The frames of a tenant with their replies, since its last snapshot.
-History = Callable[[], AsyncIterator[Iterable[Asked]]]
-
 
 class Written(NamedTuple):
     """The entry of replies to a call: its tenant and id, one field, and the weight of the call while it waited."""
@@ -225,7 +222,7 @@ class Serving:
                 raise ShardError(f"the host answers {reply.hex()} to the end of tenant {tenant}")
             tenancy.note(frame, 0)
 
-    async def state(self, tenant: int, before: Callable[[], Work[bytes]], history: History) -> bytes:
+    async def state(self, tenant: int, before: Callable[[], Work[bytes]], history: Callable[[], AsyncIterator[Iterable[Asked]]]) -> bytes:
         """The frames that make a tenant's state, in steps; no calls of the tenant are played meanwhile.
 
         A host in this process saves it. Otherwise its maps are read: `before` returns the frames of its last snapshot, and `history` its

@@ -30,8 +30,7 @@ class Suspects:
     async def host_has_ended(self, suspects: Sequence[Call | NoCall], error: Exception) -> None:
         """Notes the entries that may have ended the host, sets an entry aside that has done so three times, and starts another host."""
         for call in suspects:
-            key = call.tenant, call.entry
-            self._tries[key] += 1
+            self._tries[call.tenant, call.entry] += 1
             self.careful.setdefault(call.tenant, call.entry)
         self._patience.tell_of_host(error)
         await self._states.make_all()

@@ -31,8 +31,7 @@ async def move(client: AsyncClient, name: str, shard: int | None = None, seconds
     """
     deadline = client.system.now() + seconds
     seat, next_seat = await client.directory.patient(deadline).begin_move(name, shard)
-    if next_seat is None:
-        raise MoveError(f"customer {name} is being removed")
+    assert next_seat
     return await (await _Move.of(client, name, seat, deadline)).to(next_seat)
 
 
@@ -48,11 +47,10 @@ async def remove(client: AsyncClient, name: str, seconds: float = SECONDS) -> No
 async def end_move(client: AsyncClient, name: str, seconds: float = SECONDS) -> None:
     """Completes a move, or a removal, that was begun; does nothing if there is none."""
     moves = await client.directory.moves()
-    if name in moves:
-        if moves[name] is None:
-            await remove(client, name, seconds)
-        else:
-            await move(client, name, None, seconds)
+    if name in moves and moves[name]:
+        await move(client, name, None, seconds)
+    elif name in moves:
+        await remove(client, name, seconds)
 
 
 async def abort_move(client: AsyncClient, name: str, seconds: float = SECONDS) -> Seat:

@@ -106,8 +106,7 @@ class Nodes:
         """The node of a slot as far as it is known, or a node to ask; raises Away if something has changed since `watch`."""
         if self.has_changed:
             raise Away("Redis has another history since, or another node of its cluster serves a slot")
-        node = self._known.get(slot, next(iter(self._all)))
-        return next(one for one in (node, *self._all) if not self._all.get(one))
+        return next(one for one in (self._known.get(slot), *self._all) if one and not self._all.get(one))
 
     def learn(self, of: int | str, now: str) -> bool:
         """Notes the node of a slot, or the history that a node reports; returns whether it differs from what was known before."""

@@ -15,6 +15,7 @@ import sys
 from argparse import Namespace
 from collections.abc import Callable, Sequence
 from contextlib import AbstractContextManager, closing, nullcontext
+from dataclasses import asdict
 from typing import TextIO, cast
 
 from bpfhost.program import find_program
@@ -187,7 +188,7 @@ async def run_show(client: AsyncClient, said: Namespace) -> None:
     """Prints the state of the shards, moves and customers."""
     seen = await operating.look(client)
     if said.json:
-        print(json.dumps(operating.plain(seen)))
+        print(json.dumps(asdict(seen)))
         return
     for line in operating.lines(seen):
         print(line)

@@ -4,7 +4,7 @@ from __future__ import annotations
 
 import asyncio
 from collections.abc import AsyncIterator, Callable, Iterator
-from dataclasses import asdict, dataclass
+from dataclasses import dataclass
 
 from bpfhost.shards import moving, scripts
 from bpfhost.shards.aside import LOST, SKIP, Aside
@@ -96,12 +96,20 @@ class SeenShard:
 
 
 @dataclass(frozen=True)
+class SeenAside:
+    """What is set aside: the customer's name, or else its seat, and the reason."""
+
+    customer: str
+    why: str
+
+
+@dataclass(frozen=True)
 class Seen:
-    """The whole state. For moves, the next seats; for what is set aside, the customer's name, or else its seat, and the reason."""
+    """The whole state, each part in order. For moves, the next seats."""
 
     shards: list[SeenShard]
     moves: dict[str, Seat | None]
-    aside: list[tuple[str, str]]
+    aside: list[SeenAside]
     customers: dict[str, Seat]
 
 
@@ -112,7 +120,7 @@ async def look(client: AsyncClient) -> Seen:
     held = [lease.seconds for lease in first.values() if lease.token]
     if held:
         await asyncio.sleep(min(_SECONDS_TO_ANSWER, max(held) * 0.7))
-    customers, shards = await client.directory.customers(), []
+    customers, shards = dict(sorted((await client.directory.customers()).items())), []
     for shard, load in sorted(loads.items()):
         lease, before = await _lease(client, shard), first[shard]
         raises = bool(lease.token) and (lease.token, lease.count) != (before.token, before.count)
@@ -121,7 +129,8 @@ async def look(client: AsyncClient) -> Seen:
         why, holder = "" if isinstance(wrong, Away) else str(wrong), holder_of(lease.token)
         offered, is_drained = shard in beats, shard in drained
         shards.append(SeenShard(shard, load, lease.waiting, holder, raises, offered, is_drained, lease.unreachable, why))
-    return Seen(shards, await client.directory.moves(), [one async for one in _asides(client, customers)], customers)
+    moves = dict(sorted((await client.directory.moves()).items()))
+    return Seen(shards, moves, [one async for one in _asides(client, customers)], customers)
 
 
 def lines(seen: Seen) -> Iterator[str]:
@@ -131,22 +140,11 @@ def lines(seen: Seen) -> Iterator[str]:
         waits = f"{one.waiting // CALL_WEIGHT} KiB of calls wait" if one.waiting is not None else ""
         yield ", ".join(filter(None, [f"shard {one.shard}: {one.customers} customers", waits, _health(one), offered]))
     yield from (f"shard {one.shard}: {one.wrong}" for one in seen.shards if one.wrong)
-    for name, to in sorted(seen.moves.items()):
+    for name, to in seen.moves.items():
         seat = seen.customers.get(name)
         yield f"{name} is being {'moved' if to else 'removed'}: from shard {seat.shard if seat else '?'}" + (f" to shard {to.shard}" if to else "")
-    yield from (f"{name} is set aside: {why}" for name, why in seen.aside)
-    for name, seat in sorted(seen.customers.items()):
-        yield place(name, seat)
-
-
-def plain(seen: Seen) -> dict[str, object]:
-    """The state, as JSON."""
-    return {
-        "shards": [asdict(one) for one in seen.shards],
-        "moves": {name: asdict(to) if to else None for name, to in sorted(seen.moves.items())},
-        "aside": [{"customer": name, "why": why} for name, why in seen.aside],
-        "customers": {name: asdict(seat) for name, seat in sorted(seen.customers.items())},
-    }
+    yield from (f"{one.customer} is set aside: {one.why}" for one in seen.aside)
+    yield from (place(name, seat) for name, seat in seen.customers.items())
 
 
 def place(name: str, seat: Seat) -> str:
@@ -179,9 +177,9 @@ def _health(seen: SeenShard) -> str:
     return f"served by {seen.served_by}" if seen.raises else f"{seen.served_by} has its lease, and does not raise it"
 
 
-async def _asides(client: AsyncClient, customers: dict[str, Seat]) -> AsyncIterator[tuple[str, str]]:
+async def _asides(client: AsyncClient, customers: dict[str, Seat]) -> AsyncIterator[SeenAside]:
     names = {(seat.shard, seat.tenant): name for name, seat in customers.items()}
     for shard in sorted(await client.directory.loads()):
         found = await _told(client, shard, lambda redis, keys: redis.hgetall(keys.aside))
         for tenant, kept in sorted(found.items()) if isinstance(found, dict) else ():
-            yield names.get((shard, int(tenant)), f"tenant {int(tenant)} of shard {shard}"), Aside.read(kept).why
+            yield SeenAside(names.get((shard, int(tenant)), f"tenant {int(tenant)} of shard {shard}"), Aside.read(kept).why)

@@ -14,6 +14,7 @@ import tomllib
 import unittest
 import urllib.error
 import urllib.request
+from dataclasses import asdict
 from pathlib import Path
 from typing import Any
 
@@ -105,7 +106,7 @@ class Numbers(ShardTest):
     def test_what_is_shown_as_json(self) -> None:
         self.shard(0)
         self.client.customer("acme").ask(CREATE)
-        said: dict[str, Any] = json.loads(json.dumps(operating.plain(did(self.client, operating.look))))
+        said: dict[str, Any] = json.loads(json.dumps(asdict(did(self.client, operating.look))))
         self.assertEqual(said["customers"], {"acme": {"shard": 0, "tenant": 0, "generation": 1}})
         shard = said["shards"][0]
         self.assertRegex(shard.pop("served_by"), "process [0-9]+")

@@ -17,8 +17,8 @@ use Rattle.tagged_model.specs.Cells.{Cell, holds, byte_at}
 use Rattle.tagged_model.specs.State.{RunState, RunMap, set_at}
 
 -- what facts do not determine of a state: `gave`, for each site the result of the look-up there,
--- one value for all its copies; and `objects`, for each map, by its descriptor, a number of objects
--- that it has had at least
+-- one value for all its copies; and `objects`, for each map, by its descriptor, a lower bound on
+-- the number of objects that the map has had
 pub record Witness : Type 0 where
   pub gave : ℕ → Tagged
   pub objects : ℕ → ℕ
@@ -29,8 +29,8 @@ pub record Witness : Type 0 where
 abbrev pub IsScalarOf : Range → Tagged → Type 0
 IsScalarOf r v = (n : ℕ) × (v ≡ Scalar n) × IsMember n r × (n < 2 ^ 64)
 
--- a pointer to an object that the map has had, perhaps deleted since, at an offset in the range of
--- p
+-- v is a pointer to an object that the map of p has had, perhaps deleted since, at an offset in the
+-- range of p
 abbrev pub IsValueOf : Witness → ValuePointer → Tagged → Type 0
 IsValueOf witness p v =
     (number : ℕ)
@@ -77,8 +77,8 @@ IsKeptWhole (Pointer o x) = Unit {0}
 abbrev pub HoldsWhole : Witness → Kind → Cell → Type 0
 HoldsWhole witness k c = (v : Tagged) × (c ≡ holds v) × IsOfKind witness k v × IsKeptWhole v
 
--- the kind is that of a look-up which gave null, and the cell has eight zero bytes: null is a
--- number, which a store puts into a cell as bytes
+-- the kind is `MaybeValue` of a look-up that gave null, by the witness, and the cell has eight zero
+-- bytes: null is a number, and a store puts a number into a cell as bytes
 abbrev pub HoldsNull : Witness → Kind → Cell → Type 0
 HoldsNull witness (kind.MaybeValue m site) c =
     (witness.gave site ≡ Scalar 0) × ((j : ℕ) → j < 8 → byte_at c j ≡ Some 0)

@@ -6,6 +6,6 @@ use Rattle.std.proofs.lemmas.Nat.Bits.{bit_at-zero}
 use Rattle.tagged_model.specs.Cells.{Cell}
 use Rattle.abstraction.specs.Admits.{HasBytes}
 
--- every cell has the bytes of the empty mask
+-- every cell has the bytes of the mask 0, which has no bit, so they are none
 pub no_bytes : (c : Cell) → HasBytes 0 c
 no_bytes c j h e = absurd (omega (arith, bit_at-zero j, e))

@@ -37,8 +37,9 @@ StackReadAdmits =
     → stack_read f offset size signed ≡ Ok k
     → (v : Tagged) × (stack_load s offset size signed ≡ Some v) × IsOfKind witness k v
 
--- if the facts f allow a store into the stack of a value v of kind k, the store is no fault, and
--- the facts g after it admit the state t after it
+-- if the facts f admit a state s in range (`IsInRange`) and allow a store into its stack of a value
+-- v of kind k, the store is no fault, and the facts g after it admit the state t after it, which is
+-- in range too
 abbrev pub StackWriteAdmits : Type 0
 StackWriteAdmits =
     (witness : Witness) (f g : Facts) (s : RunState) (offset : ℤ) (size : AccessSize) (k : Kind)
@@ -128,8 +129,8 @@ ValueLoadAdmits =
     × (number_from size signed (object_bytes s m number y (bytes_of size)) ≡ Some v)
     × IsOfKind witness (loaded size signed) v
 
--- a store of a number within an object is no fault, and the facts that describe the state before it
--- describe the state u after it
+-- a store of a number within a value of a map is no fault: the state u after it has the same slot
+-- of the next instruction, and the facts that describe the state before it also describe u
 abbrev pub ValueStoreAdmits : Type 0
 ValueStoreAdmits =
     (witness : Witness) (f : Facts) (shapes : ℕ → Option MapShape) (s : RunState) (m number : ℕ)
@@ -143,14 +144,15 @@ ValueStoreAdmits =
     × Describes witness f shapes u
     × (u.at ≡ s.at)
 
--- the map u keeps the shape of t, and has had all objects of t; each of its bytes is below 256
+-- the map u has the shape `shape`, and at least as many objects as t, deleted ones included; each
+-- byte of u's objects is below 256
 pub record KeepsShape (shape : MapShape) (t u : RunMap) : Type 0 where
   pub is : IsMapOf shape u
   pub more : t.count ≤ u.count
   pub bytes : (number : ℕ) → AreBytes (u.values number)
 
--- an update and a delete keep the shape of a map and its objects; a look-up, and a load of a direct
--- value, give one of the objects that it has had
+-- an update and a delete keep the shape of a map and its objects; a look-up in a map, and a load of
+-- its direct value, give the number of one of the objects that the map has had
 pub record MapCallsKeep : Type 0 where
   pub direct : (shape : MapShape) (t : RunMap) (offset : ℕ)
       → IsMapOf shape t
@@ -192,8 +194,8 @@ CallAdmits =
     → IsOfKind witness k v
     → Describes witness (called_facts f k) shapes (returns s v)
 
--- if all sites in the facts are below `site`, the facts describe the state also by the witness that
--- records a look-up at `site` that gave v
+-- if the facts describe the state by a witness, and all sites in the facts are below `site`, the
+-- facts also describe the state by the witness that records a look-up at `site` that gave v
 abbrev pub SiteAdmits : Type 0
 SiteAdmits =
     (witness : Witness) (f : Facts) (shapes : ℕ → Option MapShape) (s : RunState) (site : ℕ)

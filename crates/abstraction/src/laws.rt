@@ -22,7 +22,8 @@ pub fn stack_write_admits()
     ensures { StackWriteAdmits }
 {}
 
-/// A law: if the facts that admit a state allow a helper to read bytes across slots of the stack, these bytes are present.
+/// A law: if the facts that admit a state allow a helper to read bytes across slots of the stack, these bytes lie in the stack, and each is
+/// a number in the state.
 pub fn stack_input_admits()
     ensures { StackInputAdmits }
 {}
@@ -33,7 +34,7 @@ pub fn stack_output_admits()
     ensures { StackOutputAdmits }
 {}
 
-/// A law, for loads and helpers: bytes at offsets within a map's value are present.
+/// A law, for loads and helpers: a read of bytes within a map's value is no fault, and gives these bytes.
 pub fn object_read_admits()
     ensures { ObjectReadAdmits }
 {}
@@ -43,7 +44,8 @@ pub fn object_write_admits()
     ensures { ObjectWriteAdmits }
 {}
 
-/// A law: a load within a map's value is no fault, and gives a value of the kind that the facts predict, a number.
+/// A law: a load within a map's value is no fault, and gives a value of the kind `loaded`: a number of the load's size, or any number of
+/// 64 bits if the load extends the sign.
 pub fn value_load_admits()
     ensures { ValueLoadAdmits }
 {}
@@ -53,8 +55,8 @@ pub fn value_store_admits()
     ensures { ValueStoreAdmits }
 {}
 
-/// A law: an update and a delete keep a map's shape and all objects that it has had; a look-up that finds a key, or a load of the direct
-/// value, gives one of these objects.
+/// A law: an update and a delete keep a map's shape, and the objects that the map has had still count, also those of deleted keys. The
+/// object that a look-up finds, or that an instruction loads without a call (a direct value), is one that the map has had.
 pub fn map_calls_keep()
     ensures { MapCallsKeep }
 {}
@@ -69,12 +71,13 @@ pub fn call_admits()
     ensures { CallAdmits }
 {}
 
-/// A law: facts admit a state also by the witness that records a new look-up, at a slot above all sites that the facts have.
+/// A law: if facts admit a state by a witness, and all their sites are below a slot, they admit it also by the witness that records a
+/// look-up at this slot too.
 pub fn site_admits()
     ensures { SiteAdmits }
 {}
 
-/// A law: on each edge of a null test of a look-up, the facts that are settled for this edge admit the state.
+/// A law: if facts admit a state, so do the facts with a look-up settled by its result: as null if that is null, else as a value.
 pub fn null_test_admits()
     ensures { NullTestAdmits }
 {}

@@ -35,8 +35,9 @@ pub record PartsAreApart : Type 0 where
       → length new ≡ m.part
       → size_of (with_part m t new) ≡ size_of m
 
--- bytes written at offset `at` of part t, at their offset in the memory or through the part
--- (`with_part`), are written there in the part's bytes, and leave the size of the memory unchanged
+-- Bytes are written at offset `at` of part t, all of them in the part. A write of them into the
+-- memory (`with_bytes`) writes them at `at` in the part's bytes, and keeps the size of the memory.
+-- To write the part's bytes, so changed, over the part (`with_part`) gives the same memory.
 pub record WritesAreInParts : Type 0 where
   pub bytes : (m : Memory) (t at : ℕ) (new : List ℕ)
       → IsPart m t
@@ -80,6 +81,7 @@ pub record HasAccesses (m : Memory) (t : ℕ) : Type 0 where
       → IsWrittenAt m t to (bytes_at (part_bytes m t) from n)
       (copied m n (asked_in m t n from) (asked_in m t n to))
 
--- the accesses within any part of a memory are those of the part's bytes
+-- in each part of a memory, a range is found, a load returns the part's bytes as a number, and a
+-- store or a copy writes only in the part's bytes (`HasAccesses`)
 abbrev pub AccessesAreInParts : Type 0
 AccessesAreInParts = (m : Memory) (t : ℕ) → IsPart m t → HasAccesses m t

@@ -11,7 +11,7 @@
 ghost use Rattle.std.specs.Prelude.{◌≡◌, ◌+◌, ◌≤◌, length, take};
 ghost use Rattle.words.specs.Bytes.{written_at};
 
-/// The first `N` bytes, in an array of their own: so LLVM knows that they do not overlap the bytes over which they are then written.
+/// The first `N` bytes, copied to an array: LLVM knows that the array does not overlap the bytes that the caller overwrites with it.
 #[inline(always)]
 fn first_bytes<const N: usize>(bytes: &[u8]) -> [u8; N]
     requires { N ≤ length bytes.now }
@@ -33,7 +33,7 @@ fn copy_piece<const N: usize>(to: &mut [u8], offset: usize, bytes: &[u8])
     to[offset..offset + N].copy_from_slice(&piece);
 }
 
-/// Copies `N` to 2 `N` bytes to an offset of `to`: the first `N` and the last `N` of them, which may overlap.
+/// Copies `bytes`, of which there are `N` to 2 `N`, to `offset` of `to`: the first `N` and the last `N` of them, which may overlap.
 #[inline(always)]
 fn copy_by_ends<const N: usize>(to: &mut [u8], offset: usize, bytes: &[u8])
     requires least { N ≤ length bytes.now }

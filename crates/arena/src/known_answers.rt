@@ -21,7 +21,8 @@ fn number_stored_and_loaded(alloc: Global) -> Result<(), AllocError> {
     Ok(())
 }
 
-/// A stored number is loaded unchanged by the accesses without a test, for bytes that are known to be in the memory.
+/// `load_inside` loads what `store_inside` has stored: the eight bytes of a number, or only the last of them. A store of two bytes stores
+/// the low two of its number, and leaves the bytes after them zero.
 fn number_stored_and_loaded_inside(alloc: Global) -> Result<(), AllocError> {
     let mut arena = Arena::new(alloc, 2, 16)?;
     let mut trace = Trace::new();
@@ -36,7 +37,8 @@ fn number_stored_and_loaded_inside(alloc: Global) -> Result<(), AllocError> {
     Ok(())
 }
 
-/// Nothing is loaded from, stored to or copied from or to a range of eight bytes that does not lie in a memory of 32 bytes.
+/// If the eight bytes from `address` on do not all lie in an arena of 32 bytes, a load or a store of them, and a copy to or from them, give
+/// `None`. It fails only if memory is refused.
 fn accesses_outside(alloc: Global, address: u64) -> Result<(), AllocError> {
     let mut arena = Arena::new(alloc, 2, 16)?;
     let mut trace = Trace::new();

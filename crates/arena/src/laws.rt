@@ -7,12 +7,14 @@ pub fn writes_stay_inside()
     ensures { WritesStayInside }
 {}
 
-/// After a write through a lent part, the part has the bytes written, and every other part and the size are unchanged.
+/// If all bytes of a part are replaced, as through a lent part, the part has the new bytes, and every other part and the size of the memory
+/// are unchanged.
 pub fn parts_are_apart()
     ensures { PartsAreApart }
 {}
 
-/// A write within a part, at an offset in the memory or through the lent part, is a write in the part's bytes.
+/// Bytes written into a part, by an offset in the memory or through the lent part, are written at their offset in the part's bytes, and the
+/// size of the memory is unchanged.
 pub fn writes_are_in_parts()
     ensures { WritesAreInParts }
 {}

@@ -38,8 +38,8 @@ impl Model for Arena {
     ghost invariant = { IsWholeMemory };
 }
 
-/// The offset of `address` in a memory of `memory_size` bytes that holds `size` bytes there: the low 32 bits, since addresses
-/// begin at 2^32 and the memory has at most 2^28 bytes. The machine code needs no 64-bit constant for it.
+/// The offset of `address` in a memory of `memory_size` bytes, in which the `size` bytes from `address` on lie. It is the low 32 bits of
+/// the address, since addresses begin at 2^32 and the memory has at most 2^28 bytes. So the machine code needs no 64-bit constant.
 #[inline(always)]
 fn offset_inside(memory_size: usize, size: usize, address: u64) -> usize
     requires small { memory_size ≤ 2 ^ 28 }

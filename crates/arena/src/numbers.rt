@@ -49,7 +49,8 @@ fn read_double(bytes: &[u8], at: usize) -> u64
     ])
 }
 
-/// The number whose eight bytes, little-endian, are at offset `at`: `read_double` with the contract that a copy of the number needs.
+/// The number whose eight bytes, little-endian, are at offset `at`, by `read_double`. `copy_double` needs this contract: the number's bytes
+/// are those at `at`.
 #[inline(always)]
 fn spelled_double(bytes: &[u8], at: usize) -> u64
     requires { at + 8 ≤ length bytes.now }
@@ -58,7 +59,7 @@ fn spelled_double(bytes: &[u8], at: usize) -> u64
     read_double(bytes, at)
 }
 
-/// The low four bytes of a number.
+/// The low four bytes of a number, the lowest first.
 #[inline(always)]
 fn low_word(value: u64) -> [u8; 4]
     ensures { result ≡ low_bytes 4 value }
@@ -82,9 +83,9 @@ fn low_byte(value: u64) -> [u8; 1]
     ((value % 0x100) as u8).to_le_bytes()
 }
 
-/// Writes the low `size` bytes (1, 2, 4 or 8) of `value` at offset `at`, little-endian. Each size has its own conversion: with a slice of
-/// the eight bytes of `value`, the machine code of a run also stored all eight on its stack, and a program's stores of a constant and of a
-/// register shared one jump to the next opcode.
+/// Writes the low `size` bytes (1, 2, 4 or 8) of `value` at offset `at`, little-endian. Each size has its own conversion. If all sizes
+/// wrote a front of the same eight bytes, the machine code of a run would also store these eight on its stack, and a program's stores of a
+/// constant and of a register would share one jump to the next opcode.
 #[inline(always)]
 pub(crate) fn write(bytes: &mut [u8], at: usize, size: usize, value: u64)
     requires size { IsSize size }

@@ -13,7 +13,8 @@ use Rattle.arena.specs.Memory.{Memory, base, part_start}
 use Rattle.bpf_maps.specs.Live.{shape_at}
 use Rattle.bpf_helpers.specs.States.{CallSite}
 
--- the handle of the map that a word names: i + 1 names the map of index i; None if none is named
+-- the handle of the map that word w names: `bind` has the handles of the run's maps, and i + 1
+-- names the map of index i; None for 0, or if `bind` has no such index
 abbrev pub bound_map : List ℕ → ℕ → Option ℕ
 bound_map bind w = if w == 0 then None else slice_get bind (w - 1)
 

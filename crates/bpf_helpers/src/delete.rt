@@ -13,9 +13,9 @@ use arena::{Arena, Trace};
 use bpf_maps::{Maps, laws};
 use tagged_model::MapFault;
 
-/// bpf_map_delete_elem (3): deletes a key, and returns 0, or the number of the error, negated. `map` is the position of the map among those
-/// of the run, counted from 1, and `key` the address of the key. If there is no such map, or the key's bytes don't lie in the part, it
-/// returns EINVAL, negated, and nothing changes.
+/// bpf_map_delete_elem (3): deletes a key, and returns 0. `map` is the position of the map among those of the run, counted from 1, and
+/// `key` the address of the key. With an error nothing changes, and it returns the error's number, negated: ENOENT if the map doesn't have
+/// the key; EINVAL if the map is an array, if there is no such map, or if the key's bytes don't lie in the part.
 pub(crate) fn delete(
     map: u64,
     key: u64,

@@ -21,15 +21,16 @@ pub fn loads_give_words()
     ensures { LoadsGiveWords }
 {}
 
-/// If the machine stores a value, the address of the store lies in the part, and once the low bytes of the value's word are there, words
-/// and bytes represent the state after the store.
+/// If the machine stores a value, the bytes at the address of the store lie in the part. If they become the low bytes of the value's word,
+/// words and bytes represent the state after the store.
 pub fn stores_keep_simulation()
     ensures { StoresKeepSimulation }
 {
     arena::laws::writes_stay_inside();
 }
 
-/// If the machine's load of packet bytes has a result, the words of its arguments name bytes of the part, to which it writes.
+/// If the machine's load of packet bytes has a result, the bytes to which it writes lie in the part: the words of registers 3 and 4 are
+/// their address and their number.
 pub fn loads_name_bytes()
     ensures { LoadsNameBytes }
 {
@@ -41,7 +42,8 @@ pub fn pointers_are_low()
     ensures { PointersAreLow }
 {}
 
-/// With the result of a call in register 0, the words represent the state after the call.
+/// If words and bytes represent a state, and a word the result of a call, then with this word in register 0 they represent the state in
+/// which the call has returned this result.
 pub(crate) fn returns_keep_simulation()
     ensures { ReturnsKeepSimulation }
 {}
@@ -51,7 +53,7 @@ pub fn runs_begin()
     ensures { RunsBegin }
 {}
 
-/// Once a run has ended on a map that is bound to it, this map has the keys and values that it has after the machine's run.
+/// Once a run has ended on a map that is bound to it, the stored map has the keys and values of the machine's map after the machine's run.
 pub fn runs_end()
     ensures { RunsEnd }
 {

@@ -67,8 +67,8 @@ pub(crate) fn traced_offset(
     Some(at)
 }
 
-/// A law, for offsets that are computed without a test: if `named_offset` gives the bytes at an address an offset in the part of `tenant`,
-/// all of them lie in the part, and the offset is the address less that of the part. It does nothing when it runs.
+/// A law, by which offsets are computed without a test: if `size` bytes at an address have an offset in the part of `tenant`
+/// (`named_offset`), all of them lie in the part, and their offset is the address less the part's address. It does nothing when it runs.
 #[inline(always)]
 pub(crate) fn named_bytes_lie_inside(arena: &Arena, tenant: usize, size: usize, address: u64)
     requires { IsSome (named_offset arena.now tenant size address) }
@@ -81,8 +81,8 @@ pub(crate) fn named_bytes_lie_inside(arena: &Arena, tenant: usize, size: usize, 
     let _ = (tenant, size, address);
 }
 
-/// The offset, in the part of `tenant`, of `size` bytes at an address that are known to lie in it, without a test; their range is appended
-/// to the trace.
+/// The offset, in the part of `tenant`, of the `size` bytes at an address; their range is appended to the trace. The caller knows that they
+/// lie in the part, so there is no test.
 #[inline(always)]
 pub(crate) fn traced_offset_inside(
     arena: &Arena,
@@ -134,9 +134,9 @@ pub(crate) fn look_up(
     maps.address_of(map, &part[at..at + size], arena.address(caller.tenant))
 }
 
-/// bpf_map_lookup_elem (1) for a run that knows which of its maps are arrays, with the result of `look_up`. `map` is the position of the
-/// map, counted from 1, and `key` the address of the key. The key of an array is found by `arrays`, without the map; a map whose count is 0
-/// there is a hash map, and is read by `look_up`. Each list of `arrays` has `MAPS` words, so one for each map of the run (`few`).
+/// bpf_map_lookup_elem (1) with the result of `look_up`: the address of the value, or 0. `map` is the position of the map, counted from 1,
+/// and `key` the address of the key. In an array the value is found by `arrays`, without reading the map. A map whose `Elements` in
+/// `arrays` have the count 0 is a hash map, and `look_up` reads it. By `few`, each list of `arrays` has a word for each map of the run.
 #[inline(always)]
 pub(crate) fn look_up_among(
     arrays: Arrays<'_>,

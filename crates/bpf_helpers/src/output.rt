@@ -52,9 +52,9 @@ fn write_named(arena: &mut Arena, tenant: usize, address: u64, bytes: &[u8], tra
     arena.write_inside(address, bytes, trace);
 }
 
-/// bpf_skb_load_bytes (26), if the caller knows that the `count` bytes at the address `to` lie in the tenant's part (`named`): copies
-/// `count` bytes of the packet at `offset` there, and returns 0. Of `offset` the low 32 bits are read, as a signed number. If the bytes
-/// don't lie in the packet, it writes `count` zeros and returns EFAULT, negated.
+/// bpf_skb_load_bytes (26), if the caller knows that the `count` bytes from the address `to` on lie in the tenant's part (`named`): copies
+/// `count` bytes of the packet, from `offset` on, to this address, and returns 0. Of `offset` the low 32 bits are read, as a signed number.
+/// If the packet doesn't have these bytes, it writes `count` zeros to the address and returns EFAULT, negated.
 #[inline(always)]
 pub(crate) fn load_bytes_inside(
     offset: u64,

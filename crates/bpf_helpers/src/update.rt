@@ -52,9 +52,9 @@ pub(crate) fn refusal(fault: MapFault) -> u64
     u64::MAX - errno_of(fault) + 1
 }
 
-/// Stores a value under a key of a live map, and returns 0. With an error nothing changes, and it returns the error's number, negated. The
-/// key and the value are at the offsets `at` of the tenant's part, and `flags` are those of bpf(2). Both lie in the part, as `update` has
-/// tested (`key`, `value`), so the value is copied without a test.
+/// Stores a value under a key of a live map, and returns 0. If that fails, nothing changes, and it returns the error's number, negated. The
+/// key and the value are at the offsets `at` of the tenant's part; `update` has tested that both lie in it (`key`, `value`), so the value
+/// is copied without a test. `flags` are those of bpf(2).
 fn put(
     map: MapKey,
     at: Offsets,

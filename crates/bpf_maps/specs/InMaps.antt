@@ -37,8 +37,8 @@ as_live_maps a = record { maps = live_maps_of (stored_in a); refused = a.refused
 
 -- ---- the invariant
 
--- `keys` has the slab's key of the map of each handle, if the handle has a map: the slab has these
--- keys and no others, and no two handles have the same key
+-- `keys` has, by handle, the key under which the slab `maps` has the handle's map, or None if the
+-- handle has no map. The slab has no other keys, and no two handles have the same key
 pub record AreKeys (keys : List (Option ℕ)) (maps : Slab StoredMap) : Type 0 where
   pub long : length keys ≡ most_maps
   pub there : (k key : ℕ) → slice_index_or keys k None ≡ Some key → ContainsKey maps key
@@ -59,9 +59,10 @@ closed_up end size e = record {
   holds = e.holds;
 }
 
--- a map's area lies in the `bytes` bytes after the stack and the context, its values begin at
--- multiples of eight, its field `elements` is the number of its shape's `Elements`, it has a
--- reference, and no two of its keys have the same element
+-- a map's area lies in the `bytes` bytes after the stack and the context, and begins at a multiple
+-- of eight. Its values are `stride` bytes apart, their size rounded up to a multiple of eight. Its
+-- field `elements` is the word of the `Elements` of its shape (`word_of`). It has a reference, and
+-- its table of keys is sound: no two keys have the same element
 pub record IsInItsArea (bytes : ℕ) (e : StoredMap) : Type 0 where
   pub behind : STACK_AND_CONTEXT ≤ e.start
   pub within : e.start + area_of (live_of e) ≤ STACK_AND_CONTEXT + bytes

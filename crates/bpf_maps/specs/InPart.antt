@@ -44,8 +44,8 @@ pub record ValueIsWritten (part : List ℕ) (t : LiveMaps) (k p : ℕ) (bytes : 
   pub front : take STACK_AND_CONTEXT (with_value part t k p bytes) ≡ take STACK_AND_CONTEXT part
   pub size : length (with_value part t k p bytes) ≡ PART
 
--- a value that is written at an element of a live map is the value of the element and of its key,
--- and nothing else changes (`ValueIsWritten`)
+-- once a value is written at an element of a live map, it is the value of this element, and of its
+-- key if it has one; no other value of a live map changes (`ValueIsWritten`)
 abbrev pub ValuesAreWritten : Type 0
 ValuesAreWritten =
     (part : List ℕ) (t : LiveMaps) (k p : ℕ) (bytes : List ℕ)
@@ -54,8 +54,8 @@ ValuesAreWritten =
 
 -- ---- a map changes, and its area does not
 
--- the map after an update of a key to a value, with this verdict: unchanged after a refusal, else
--- with the value at the present key, or with a new key at the end
+-- the map t after an update of a key to a value, by the verdict on this update: unchanged if it is
+-- refused, with the value at the key if the map has the key, else with the key at the end
 abbrev pub updated : map.Verdict (List ℕ)
     → map.Table (List ℕ)
     → List ℕ

@@ -13,7 +13,7 @@ entries_of (Words keys) = keys.entries
 entries_of (Middle keys) = keys.entries
 entries_of (Long keys) = keys.entries
 
--- the bound of an index: each of its elements is less
+-- the bound of an index map: each element in it is less than this number
 abbrev pub bound_of : KeyIndex → ℕ
 bound_of (Words keys) = keys.bound
 bound_of (Middle keys) = keys.bound
@@ -31,9 +31,10 @@ TakesKeys (Long keys) size = size ≤ 512
 abbrev pub shown : Inside → KeyTable
 shown a = record { shape = a.shape; entries = entries_of a.index; kept = take a.kept a.spare.items }
 
--- each element less than `max_entries` is that of one key or is spare, and not both, so they are
--- `max_entries` together; at most all spare ones are kept apart. The list of spare elements has
--- room for all elements, and the keys have the size of the map's shape
+-- the elements are the numbers less than `max_entries`. Each belongs to one key or is once in the
+-- list of spare elements, not both. The number of elements kept apart is at most that of the spare
+-- ones. The list has room for all elements. All keys have the key size of the map's shape, and the
+-- index can have keys of this size
 pub record IsWellFormedHash (a : Inside) : Type 0 where
   pub kind : a.shape.kind ≡ Hash
   pub takes : TakesKeys a.index a.shape.key_size

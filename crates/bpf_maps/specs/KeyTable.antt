@@ -21,7 +21,8 @@ pub record KeyTable : Type 0 where
 abbrev pub table_of : KeyTable → Table ℕ
 table_of t = record { shape = t.shape; entries = t.entries; deleted = length t.kept }
 
--- the table of a new map; the element of an array's index is the index
+-- the table of a new map: an array has all its indices, each with itself for its element; a hash
+-- map has no keys
 abbrev pub new_keys : MapShape → KeyTable
 new_keys shape = record {
   shape = shape;
@@ -36,9 +37,10 @@ abbrev pub IsSized : ℕ → List (List ℕ × ℕ) → Type 0
 IsSized n [] = Unit {0}
 IsSized n (e ∷ es) = (length e.0 ≡ n) × IsSized n es
 
--- each element less than `max_entries` is in use at most once, and no other element is; being kept
--- apart is a use. So at most `max_entries` are in use. Each key has the map's key size, and an
--- array is as when it was new: it has all its indices, each with itself for its element
+-- each element less than `max_entries` belongs to at most one key or is kept apart once, not both;
+-- no other element belongs to a key or is kept apart. So these are at most `max_entries`. Each key
+-- has the map's key size. An array is as when it was new: it has all its indices, each with itself
+-- for its element
 pub record IsSound (t : KeyTable) : Type 0 where
   pub once : (p : ℕ)
       → occurrences p (values_of t.entries) + occurrences p t.kept
@@ -59,9 +61,10 @@ pub record IsFree (t : KeyTable) (p : ℕ) : Type 0 where
 abbrev pub with_entry : KeyTable → List ℕ → ℕ → KeyTable
 with_entry t key p = record { shape = t.shape; entries = with_key key p t.entries; kept = t.kept }
 
--- which result a claim of an element for a key may have, by the verdict on the update, with the
--- table before and after it. A refusal and a present key change nothing. A new key gets any element
--- that is not in use; its claim can't fail, since the verdict on a full map is `Refused`
+-- what a claim of an element for a key may return, and how the table changes, by the verdict on the
+-- update. A refusal returns its fault, a present key its element; both change nothing. A new key
+-- gets any element that is not in use; its claim can't fail, since the verdict on a full map is
+-- `Refused`
 abbrev pub Claims : Verdict ℕ → List ℕ → KeyTable → Result ℕ MapFault → KeyTable → Type 0
 Claims (Refused fault) key old answer new = (answer ≡ Err fault) × (new ≡ old)
 Claims (Present p) key old answer new = (answer ≡ Ok p) × (new ≡ old)
@@ -76,9 +79,9 @@ with_kept t key p = record {
   kept = t.kept ++ p ∷ [];
 }
 
--- the result of the deletion of a key, with the table before and after it, by what `removal` gives.
--- If that is a fault, the fault is returned and nothing changes; if it is the key's element p, the
--- key is removed, and p is kept apart
+-- which result the deletion of a key may have, by what `removal` gives, with the table before and
+-- after it. If `removal` gives a fault, this is the result and nothing changes. If it gives the
+-- key's element p, the key is removed, and p is kept apart
 abbrev pub Removes : Result ℕ MapFault
     → List ℕ
     → KeyTable
@@ -88,9 +91,9 @@ abbrev pub Removes : Result ℕ MapFault
 Removes (Err fault) key old answer new = (answer ≡ Err fault) × (new ≡ old)
 Removes (Ok p) key old answer new = (answer ≡ Ok tt) × (new ≡ with_kept old key p)
 
--- given the next key, the result of the request for it, with the bytes of the caller's buffer
--- before and after it: the key is written at the front. If no key follows (None), nothing is
--- written
+-- what a request for the next key does, given this key: it writes the key to the front of the
+-- caller's buffer, which has the bytes `old` before and `new` after. If no key follows (None), the
+-- error is NoEntry, and nothing is written
 abbrev pub GivesKey : Option (List ℕ) → List ℕ → Result (Unit {0}) MapFault → List ℕ → Type 0
 GivesKey None old answer new = (answer ≡ Err NoEntry) × (new ≡ old)
 GivesKey (Some key) old answer new = (answer ≡ Ok tt) × (new ≡ key ++ drop (length key) old)

@@ -11,8 +11,8 @@ use Rattle.bpf_maps.specs.Live.{LiveMaps, live_at, offset_at, SameAreas}
 
 -- ---- a table of keys
 
--- a new table of keys, a new key in it, a deletion and the end of a run are those of a map (`Table`
--- of `tagged_model`) of which the objects are elements
+-- a table of keys, as a map whose objects are elements (`table_of`), is new, gets a new key, loses
+-- a key and ends a run as `Table` of `tagged_model` defines it for maps
 pub record CallsAreThoseOfAMap : Type 0 where
   pub new : (shape : MapShape) → table_of (new_keys shape) ≡ map.new_table (λ i. i) shape
   pub update : (t : KeyTable) (key : List ℕ) (element : ℕ)
@@ -21,8 +21,9 @@ pub record CallsAreThoseOfAMap : Type 0 where
       → table_of (with_kept t key element) ≡ map.with_deleted (table_of t) key
   pub end : (t : KeyTable) → table_of (after_run t) ≡ map.after_run (table_of t)
 
--- if `bytes` become the value of the element of a key, the map of values has them as the object of
--- this key, and is otherwise unchanged. `value` gives the value of each element before
+-- if `bytes` become the value of a key's element, the map of values has them as the value of this
+-- key, and is otherwise unchanged. `value` gives the value of each element before; B is the type of
+-- values
 abbrev pub WritesRefineValues : Type 0 → Type 0
 WritesRefineValues B =
     (value : ℕ → B) (t : KeyTable) (key : List ℕ) (element : ℕ) (bytes : B)

@@ -34,7 +34,7 @@ live_at t k = slice_index_or t.maps k None
 abbrev pub free_handle : LiveMaps → Option ℕ
 free_handle t = position is_none t.maps
 
--- the shape of `no_live`, which is arbitrary, but of a hash map, so that `no_live` has no key
+-- the shape of `no_live`: that of a hash map, so that `no_live` has no key; its sizes are arbitrary
 abbrev pub no_shape : MapShape
 no_shape = record { kind = Hash; key_size = 1; value_size = 1; max_entries = 1; listed = refl }
 
@@ -85,7 +85,8 @@ abbrev pub value_address : ℕ → LiveMaps → ℕ → Option ℕ → ℕ
 value_address part t k None = 0
 value_address part t k (Some p) = (part + offset_at t k p) % 2 ^ 64
 
--- the bytes that element p's value has in the part, for the map of handle k, if the handle has one
+-- the bytes in the tenant's part (`part`) of the value of element p, in the map of handle k;
+-- arbitrary bytes if the handle has no map
 abbrev pub value_in : List ℕ → LiveMaps → ℕ → ℕ → List ℕ
 value_in part t k p = take (shape_at t k).value_size (drop (offset_at t k p) part)
 
@@ -148,7 +149,8 @@ KeepsMap k old bytes new later =
 abbrev pub KeepsMaps : LiveMaps → List ℕ → LiveMaps → List ℕ → Type 0
 KeepsMaps old bytes new later = (k : ℕ) → KeepsMap k old bytes new later
 
--- each map that was live, but that of handle k, still is, with the same keys and values
+-- each map that was live, but that of handle k, still is, with the same keys and values; `bytes`
+-- and `later` are the tenant's part before and after
 abbrev pub KeepsOthers : ℕ → LiveMaps → List ℕ → LiveMaps → List ℕ → Type 0
 KeepsOthers k old bytes new later = (other : ℕ) → other ≢ k → KeepsMap other old bytes new later
 
@@ -276,7 +278,8 @@ pub record MapWithoutArea : Type 0 where
 abbrev pub without_area : LiveMap → MapWithoutArea
 without_area l = record { keys = l.keys; holds = l.holds }
 
--- the live map of handle k without its area, if it has one
+-- the table of keys and the number of references of the live map of handle k; None if no live map
+-- has this handle
 abbrev pub held_at : LiveMaps → ℕ → Option MapWithoutArea
 held_at t k = option_map without_area (live_at t k)
 

@@ -27,8 +27,8 @@ total_same f (x ∷ xs) [] h =
 total_same f (x ∷ xs) (y ∷ ys) h =
     ap₂ (λ (m n : ℕ). m + n) (h 0) (total_same f xs ys (λ j. h (suc j)))
 
--- the sum over the first n + 1 options of a list is that over the first n, plus the number that f
--- gives at index n, 0 for None
+-- the sum of the numbers that f gives for the first n + 1 options of a list, 0 for None, is that
+-- for the first n, plus the number for the option at index n
 total_after : {A : Type 0} (f : A → ℕ) (n : ℕ) (xs : List (Option A))
     → n < length xs
     → total f (take (suc n) xs) ≡ total f (take n xs) + weight f (get_or xs n None)
@@ -54,8 +54,8 @@ record IsWithout {A : Type 0} (k : ℕ) (xs : List (Option A)) : Type 0 where
   fewer : total (λ x. 1) slots + 1 ≡ total (λ x. 1) xs
   others : (j : ℕ) → j ≢ k → get_or slots j None ≡ get_or xs j None
 
--- if a list of options has Some at index k, there is the list with None there, and no other change
--- (`IsWithout`); for the induction of `few_slots`
+-- makes of a list of options that has Some at index k the list that has None at this index, and no
+-- other change (`IsWithout`); for the induction of `few_slots`
 without_position : {A : Type 0} (k : ℕ) (xs : List (Option A))
     → IsSome (get_or xs k None)
     → IsWithout k xs
@@ -106,7 +106,7 @@ few_slots (suc m) at xs used apart =
     (λ i j lt less e. apart i j (omega arith) (omega arith) e) in
     omega arith
 
--- at most as many options of a list are Some as it is long
+-- the number of Some in a list of options is at most the length of the list
 slots_most : {A : Type 0} (xs : List (Option A)) → total (λ x. 1) xs ≤ length xs
 unfolding total
 slots_most [] = omega arith
@@ -223,7 +223,8 @@ laid_inside tenant laid k p live lt = by (live_at tenant k) refl live lt
 pub same_areas : (tenant : LiveMaps) → SameAreas tenant tenant
 same_areas tenant k l e = (l, e, refl, refl, refl)
 
--- if a change keeps all areas, a live map has the `Elements` after it that it had before
+-- if a change keeps all areas, a map that is live after it has the same `Elements`, a count and a
+-- distance, before and after it
 pub same_elements : (old new : LiveMaps) (k : ℕ)
     → SameAreas old new
     → IsSome (live_at new k)

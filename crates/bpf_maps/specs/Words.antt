@@ -5,7 +5,8 @@ use Rattle.words.specs.Bytes.{low_bytes}
 use Rattle.bpf_maps.specs.KeyLists.{SizedKeys, shown_by}
 use Rattle.bpf_maps.specs.declared.word_index.WordIndex.TheInside.{Inside}
 
--- the index as contracts see it: a number represents its low bytes, `size` of them, lowest first
+-- the keys of the index as contracts see them: a key is stored as a number, and shown as the `size`
+-- low bytes of this number, lowest first
 abbrev pub words_shown : Inside → SizedKeys
 words_shown w = record {
   size = w.size;
@@ -18,7 +19,8 @@ abbrev pub AreBelow : ℕ → List (ℕ × ℕ) → Type 0
 AreBelow bound [] = Unit {0}
 AreBelow bound (e ∷ es) = (e.0 < bound) × AreBelow bound es
 
--- a key has at most eight bytes, and its number fits in as many bytes as it has
+-- the keys have at most eight bytes each, and each number that is kept for a key fits in the bytes
+-- of a key
 pub record IsWellFormedWords (w : Inside) : Type 0 where
   pub short : w.size ≤ 8
   pub below : AreBelow (256 ^ w.size) w.map.entries

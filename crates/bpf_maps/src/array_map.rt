@@ -54,7 +54,7 @@ impl ArrayMap {
         self.shape
     }
 
-    /// How many keys the array has: all its indices, which are `max_entries`.
+    /// How many keys the array has: one for each index, so `max_entries`.
     pub(crate) fn key_count(&self) -> u32
         ensures { result ≡ length self.now.entries }
     {
@@ -179,7 +179,7 @@ impl ValueMap for ArrayMap {
         self.element_of(key)
     }
 
-    // No update needs a free element: a present index has its own, and an absent one is out of range.
+    // No update needs a free element: each index below `max_entries` has its own, and any other index is rejected (`element_for`).
     #[inline(always)]
     fn claim(&mut self, key: &[u8], flags: u64) -> Result<u32, MapFault> {
         self.keys_are_its_indices();
@@ -192,6 +192,7 @@ impl ValueMap for ArrayMap {
         Err(MapFault::Invalid)
     }
 
+    // The keys are the indices in ascending order. After an absent key, also one of another size, the index is 0 (`index_after`).
     fn key_after(&self, key: &[u8]) -> Option<KeyRef<'_>> {
         self.keys_are_its_indices();
         let index = self.index_after(key);
@@ -201,7 +202,7 @@ impl ValueMap for ArrayMap {
         Some(KeyRef::Short(ShortKey::of_word(u64::from(index), INDEX_SIZE)))
     }
 
-    // No key of an array is removed, so no element is kept apart.
+    // Changes nothing: no key of an array is removed, so no element is kept apart. The call is of a law, for the proof.
     fn end_run(&mut self) {
         self.keys_are_its_indices();
     }

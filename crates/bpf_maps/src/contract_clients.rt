@@ -42,8 +42,8 @@ fn update(
     Ok(())
 }
 
-/// Deletes a key outside a run, so the end of a run follows at once. The map has lost the key, and no other map changes; if the deletion
-/// is rejected, none does.
+/// Deletes a key outside a run. So `end_run` follows at once, and makes the key's element free. The map loses the key, and no other map
+/// changes. If the deletion is rejected, no map changes.
 fn delete(maps: &mut Maps, map: MapKey, key: &[u8], part: &[u8]) -> Result<(), MapFault>
     requires live { IsSome (live_at maps.old map) }
     requires key { length key.now ≡ (shape_at maps.old map).key_size }
@@ -84,7 +84,7 @@ fn make_first(alloc: Global, shape: MapShape, part: &mut [u8]) -> Result<MapKey,
 }
 
 /// Frees a map by its last release, and creates another of its shape: there is room for it, and its handle is that of the freed map or a
-/// lower one. The other maps are unchanged.
+/// lower one. The other maps are unchanged. The only error is `Memory`: out of memory for a hash map.
 fn make_again(maps: &mut Maps, map: MapKey, part: &mut [u8]) -> Result<MapKey, MapFault>
     requires live { IsSome (live_at maps.old map) }
     requires last { holds_at maps.old map ≤ 1 }

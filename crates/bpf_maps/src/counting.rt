@@ -52,8 +52,8 @@ impl Maps {
         sum
     }
 
-    /// How many hash maps are live, and the sum of their `max_entries`, for the creation of a map of this kind. By both numbers a new hash
-    /// map decides whether spare maps are freed (`SpareMaps`). An array takes no memory, so for it both are 0.
+    /// How many hash maps are live, and the sum of their `max_entries`, if a hash map is to be created: both numbers decide whether spare
+    /// maps are freed for it (`SpareMaps`). If an array is to be created, both are 0, since no spare map is freed for an array.
     pub(crate) fn live_hash_maps_for(&self, kind: MapKind) -> LiveHashMaps {
         match kind {
             MapKind::Array => NO_HASH_MAPS,

@@ -110,17 +110,18 @@ impl HashMap {
         self.index.get(key)
     }
 
-    /// The key after that of `element`, or the first key if no element is given, with the element of the key that is returned. `None` if
-    /// no key follows, or if no key has `element`.
+    /// The key that follows the key of `element` in the order of insertion, or the first key if `element` is `None`; and the element of the
+    /// returned key. `None` if no key follows, if no key has `element`, or if the map has no key.
     pub(crate) fn entry_after(&self, element: Option<u32>) -> Option<(KeyRef<'_>, u32)>
         ensures { option_map shown_entry result ≡ next_entry element self.now.entries }
     {
         self.index.entry_after(element)
     }
 
-    /// Adds an absent key at the end, and claims a free element for it, the last of the spare ones. `TooBig` if no element is free, since
-    /// each spare one is kept apart; then nothing has changed. The flags of the update are `ANY` or `NOEXIST`. For an absent key both have
-    /// the same verdict, so the contract has only 0 (`ANY`). Not inlined, though the rest of an update is: a present key doesn't need it.
+    /// Adds an absent key at the end, claims for it the last spare element, a free one, and returns this element. If no element is free,
+    /// since all spare ones are kept apart, `TooBig`, and nothing has changed. Its caller, `claim`, has checked the flags of the update:
+    /// both `ANY` and `NOEXIST` allow an absent key, so the contract has only `ANY` (0). Not inlined, unlike the rest of an update, as an
+    /// update of a present key does not call it.
     #[cold]
     #[inline(never)]
     #[tactic(auto, using(crate::proofs::Kept::sound))]
@@ -144,7 +145,7 @@ impl HashMap {
 impl ValueMap for HashMap {
     ghost keys = { λ m. m };
 
-    // A function of its own in the machine code, which ends in a jump to the `get` of the index in which the keys are (`KeyIndex`).
+    // Not inlined: its machine code selects the index that has the keys (`KeyIndex`), and ends in a jump to the `get` of this index.
     #[inline(never)]
     fn find(&self, key: &[u8]) -> Option<u32> {
         self.elements_are_distinct();

@@ -70,7 +70,7 @@ impl<const N: usize> Eq for InlineKey<N> {
     ghost laws = { nat_list_eq_equiv };
 }
 
-// All bytes go to the hasher in one write, of which it takes sixteen at a time.
+// Writes all bytes to the hasher by one call, since `SeededHasher` mixes sixteen bytes of a call at a time.
 impl<const N: usize> Hash for InlineKey<N> {
     ghost hash_input = { λ k. k ∷ [] };
 

@@ -26,8 +26,8 @@ pub enum KeyIndex {
 }
 
 impl KeyIndex {
-    /// Makes an index without keys, for keys of `key_size` bytes, in a shape at most `LONGEST_LONG`, and elements less than `bound`, the
-    /// map's `max_entries`. Allocates memory for `bound` keys, which are hashed with the seed. `AllocError`: out of memory.
+    /// Makes an index without keys, for keys of `key_size` bytes and elements less than `bound`, the map's `max_entries`. No shape has a
+    /// `key_size` above `LONGEST_LONG`. Allocates memory for `bound` keys, which are hashed with the seed. `AllocError`: out of memory.
     pub(crate) fn new(
         alloc: Global,
         key_size: usize,
@@ -48,7 +48,7 @@ impl KeyIndex {
         }
     }
 
-    /// The number of bytes in which a key of this size, in bytes, is kept: those of a number or of an array.
+    /// The size, in bytes, of the number or of the array in which an index keeps a key of `key_size` bytes (`KeyIndex`).
     pub(crate) fn room_of(key_size: usize) -> usize
         ensures { result ≤ LONGEST_LONG }
     {

@@ -5,7 +5,8 @@ ghost use Rattle.bpf_maps.specs.Laws.{SizesFitInParts, CallsAreThoseOfAMap, Writ
 ghost use Rattle.bpf_maps.specs.Laws.{ValuesAgree, ElementsAreWithin, AreasKeepElements, DeletesKeepElements};
 ghost use Rattle.bpf_maps.specs.InPart.{ValuesAreWritten, LiveMapsRefineValues};
 
-/// A table of keys follows the definition of a map: when it is new, after a new key, after a deletion, and at the end of a run.
+/// Read as a map whose objects are the elements (`table_of`), a new table of keys is a new map (`Table` of `tagged_model`), and a new key,
+/// a deletion and the end of a run change it as they change a map.
 pub fn calls_are_those_of_a_map()
     ensures { CallsAreThoseOfAMap }
 {}
@@ -24,7 +25,8 @@ pub fn values_agree()
     ensures within { ElementsAreWithin }
 {}
 
-/// If the areas are unchanged, the value of each element of a live map keeps its offset in the part.
+/// If each live map has the shape, the start of its area and the distance from value to value that it had before, the value of each of its
+/// elements keeps its offset in the part.
 pub fn areas_keep_elements()
     ensures { AreasKeepElements }
 {}
@@ -39,14 +41,14 @@ pub fn sizes_fit_in_parts()
     ensures { SizesFitInParts }
 {}
 
-/// Bytes that are written as the value of an element of a live map are its value, and that of the key that has the element, if one has. No
+/// Once bytes are written as the value of an element of a live map, they are the value of this element, and of its key if it has one. No
 /// other value of a live map changes, nor do the stack and the context.
 pub fn values_are_written()
     ensures { ValuesAreWritten }
 {}
 
-/// If a change keeps the areas, a live map with the bytes of its values changes as its table of keys does: by a deletion, at the end of a
-/// run, and by a claim followed by the write of the value.
+/// A law, the refinement of maps: if each live map had the same shape and area before a change, its map of values changes as its table of
+/// keys does: not at all, by a deletion, at the end of a run, or by a claim, after which the value is written.
 pub fn live_maps_refine_values()
     ensures { LiveMapsRefineValues }
 {

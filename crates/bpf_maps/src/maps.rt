@@ -138,14 +138,14 @@ impl Maps {
         stored.start + element as usize * stored.stride
     }
 
-    /// Creates a map with one reference and the lowest free handle. The map gets an area of its own in the tenant's part, `PART`
-    /// bytes, after the areas of the live maps. A hash map has no keys, and the values of an array are zero bytes. The maps that
-    /// were live are unchanged.
+    /// Creates a map with one reference and the lowest free handle. In `part`, the tenant's part of `PART` bytes, the map gets its own area
+    /// after the areas of the live maps. A hash map has no keys, and the values of an array are zero bytes. The maps that were live, and
+    /// their values, are unchanged.
     ///
     /// # Errors
     ///
-    /// `NoSpace` if no handle is free, or if the values of all maps, each rounded up to a multiple of eight bytes, would take
-    /// more than `LARGEST_SUM` bytes; else `Memory` if out of memory for a hash map, which `refused` then reports. Then no map has changed.
+    /// `NoSpace` if no handle is free, or if the areas of all live maps and the new one would take more than `LARGEST_SUM` bytes together;
+    /// else `Memory` if out of memory for a hash map: then `refused` is true. On an error no map and no byte of `part` has changed.
     pub fn create(&mut self, shape: MapShape, part: &mut [u8]) -> Result<MapKey, MapFault>
         requires { length part.old ≡ PART }
         ensures created { Creates (create_fault self.old shape) self.old shape result self.new }
@@ -194,8 +194,8 @@ impl Maps {
         Ok(MapKey { handle })
     }
 
-    /// Adds one reference to a live map, which has fewer than 2^32 - 1, so that their number fits in 32 bits: each of a tenant's 64
-    /// objects refers to a map at most once.
+    /// Adds one reference to a live map. The map has fewer than 2^32 - 1 references, so the sum fits in 32 bits; callers know this, since
+    /// each open object of a tenant refers to a map at most once.
     pub fn hold(&mut self, map: MapKey)
         requires live { IsSome (live_at self.old map) }
         requires few { holds_at self.old map < 2 ^ 32 - 1 }
@@ -283,8 +283,8 @@ impl Maps {
         self.stored(map).map.shape()
     }
 
-    /// The offset of the first value of a map in the tenant's part, in bytes, and its elements as one number (`Elements::word`); `None` if
-    /// the map is not live.
+    /// The offset of a map's first value in the tenant's part, and the map's `Elements`, a count and a distance, as one number
+    /// (`Elements::word`); `None` if the map is not live.
     #[inline(always)]
     pub fn first_and_elements(&self, map: MapKey) -> Option<(usize, u64)>
         ensures live { IsSome (live_at self.now map)
@@ -344,14 +344,14 @@ impl Maps {
         }
     }
 
-    /// Claims an element of a live map for a key, which has the size of the map's keys; the caller then writes the value there. A present
-    /// key keeps its element. A new key goes to the end, and gets any element that is not in use.
+    /// Claims an element of a live map for a key, which has the size of the map's keys, and returns it; the caller then writes the value
+    /// there. A present key keeps its element. A new key becomes the last of the map's entries, and gets any element that is not in use.
     ///
     /// # Errors
     ///
     /// Those of an update (bpf(2), BPF_MAP_UPDATE_ELEM): `Invalid` if `flags` is none of `ANY`, `NOEXIST` and `EXIST`, 0 to 2; for a
     /// present key, `Exists` if `flags` is `NOEXIST`; for an absent key of an array, `TooBig`; for an absent key of a hash map,
-    /// `NoEntry` if `flags` is `EXIST`, else `TooBig` if the map is full, counting the keys removed in this run. Then no map has
+    /// `NoEntry` if `flags` is `EXIST`, else `TooBig` if the map is full; elements that are kept apart count, too. Then no map has
     /// changed. Takes no memory.
     #[inline(always)]
     pub fn claim(&mut self, map: MapKey, key: &[u8], flags: u64) -> Result<u32, MapFault>

@@ -28,7 +28,7 @@ impl Model for SlabKeys {
 }
 
 impl SlabKeys {
-    /// No handle has a key.
+    /// The keys of a slab without maps: no handle has one.
     pub(crate) fn new() -> SlabKeys
         ensures { result ≡ replicate most_maps None }
     {
@@ -37,7 +37,7 @@ impl SlabKeys {
         }
     }
 
-    /// The slab's key of a handle; `None` if the handle has none, or is `MAPS` or more.
+    /// The key under which the slab has the map of a handle; `None` if the handle has no map, or is `MAPS` or more.
     #[inline(always)]
     pub(crate) fn get(&self, handle: usize) -> Option<usize>
         ensures { result ≡ slice_index_or self.now handle None }
@@ -58,14 +58,14 @@ impl SlabKeys {
         words[handle]
     }
 
-    /// The lowest handle without a key; `None` if each has one.
+    /// The lowest handle that has no key of the slab; `None` if each handle has one.
     pub(crate) fn free_handle(&self) -> Option<usize>
         ensures { result ≡ position is_none self.now }
     {
         first_without_key(&self.words)
     }
 
-    /// Gives a handle, 0 to 15, a key, which is not `NO_KEY`.
+    /// Sets the slab's key of a handle, which is less than `MAPS`. The key is not `NO_KEY`.
     pub(crate) fn put(&mut self, handle: usize, key: usize)
         requires handle { handle < most_maps }
         requires key { key < NO_KEY }
@@ -74,7 +74,7 @@ impl SlabKeys {
         self.words[handle] = key;
     }
 
-    /// Takes the key of a handle, 0 to 15, away.
+    /// Removes the slab's key of a handle, which is less than `MAPS`: the handle then has none.
     pub(crate) fn clear(&mut self, handle: usize)
         requires { handle < most_maps }
         ensures { self.new ≡ slice_set self.old handle None }
@@ -83,7 +83,7 @@ impl SlabKeys {
     }
 }
 
-/// The key in a word; `None` if the word is `NO_KEY`.
+/// The slab's key that a word of `words` has; `None` if the word is `NO_KEY`.
 #[inline(always)]
 fn key_of(word: usize) -> Option<usize>
     ensures { result ≡ key_in word }

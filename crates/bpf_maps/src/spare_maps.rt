@@ -57,7 +57,8 @@ impl SpareMaps {
         Ok(SpareMaps { maps })
     }
 
-    /// Keeps a hash map that is no longer live, for its memory; an array has none to keep. It takes no memory.
+    /// Keeps a hash map that is no longer live, so that a new one can reuse its memory. An array has no memory to keep, and is dropped. The
+    /// call allocates nothing.
     #[inline(always)]
     pub(crate) fn keep(&mut self, map: BpfMap) {
         if let BpfMap::Hash(map) = map {
@@ -65,8 +66,8 @@ impl SpareMaps {
         }
     }
 
-    /// Keeps a hash map, if the list has room for it, and else frees it. There always is room (`SpareMaps`), which is not proved. It is not
-    /// inlined, so that an array takes no call and no copy of the map's record.
+    /// Keeps a hash map, if the list has room for it, and else frees it. The list always has room (`SpareMaps`), which is not proved. This
+    /// function is not inlined, so that for an array `keep` neither makes a call nor copies the map's record.
     #[cold]
     #[inline(never)]
     fn keep_hash_map(&mut self, map: HashMap) {
@@ -75,9 +76,9 @@ impl SpareMaps {
         }
     }
 
-    /// Makes a hash map of this shape: of a spare map with the same key size and `max_entries`, if there is one, else of new memory, for
-    /// which spare maps are freed if they, the live hash maps (`live`) and the new one are too many (`has_room`). A new hash map is rare,
-    /// so it is made out of line. `AllocError`: out of memory.
+    /// Makes a hash map of this shape, in the memory of a spare map with the same key size and `max_entries`, if one exists. Else it frees
+    /// spare maps while they, the live hash maps (`live`) and the new one are too many (`has_room`), and allocates. It is not inlined,
+    /// since a new hash map is rare. `AllocError`: out of memory.
     #[cold]
     #[inline(never)]
     pub(crate) fn hash_map(
@@ -133,8 +134,8 @@ impl SpareMaps {
         entries.saturating_sub(MOST_ENTRIES_TOGETHER)
     }
 
-    /// Frees spare maps until those that are left, with the maps that `live` counts, the live ones and the new one, are few enough
-    /// (`has_room`). Each turn of the loop frees at most one map, and once a turn frees none, no later turn does.
+    /// Frees spare maps until those that are left, together with the live hash maps and the new one (`live` counts both), are few enough
+    /// (`has_room`), or none is left. Each turn of the loop frees at most one map, and once a turn frees none, no later turn does.
     fn make_room(&mut self, live: LiveHashMaps) {
         for _ in 0..self.maps.len() {
             if !self.maps.is_empty() && !self.has_room(live) {

@@ -32,14 +32,14 @@ pub trait ValueMap {
         ensures within { IfSome result (λ element. element < (keys self.now).shape.max_entries) }
         ensures sound { IsSound (keys self.now) };
 
-    /// Claims an element for a key, which has the size of the map's keys; the caller then writes the value there. A present key keeps its
-    /// element. A new key goes to the end, and gets any element that is not in use.
+    /// Claims an element for a key, which has the size of the map's keys, and returns it; the caller then writes the value there. A present
+    /// key keeps its element. A new key becomes the last of the map's entries, and gets any element that is not in use.
     ///
     /// # Errors
     ///
     /// Those of an update (bpf(2), BPF_MAP_UPDATE_ELEM): `Invalid` if `flags` is none of `ANY`, `NOEXIST` and `EXIST`, 0 to 2; for a
     /// present key, `Exists` if `flags` is `NOEXIST`; for an absent key of an array, `TooBig`; for an absent key of a hash map,
-    /// `NoEntry` if `flags` is `EXIST`, else `TooBig` if the map is full, counting the keys removed in this run. Then nothing has
+    /// `NoEntry` if `flags` is `EXIST`, else `TooBig` if the map is full; elements that are kept apart count, too. Then nothing has
     /// changed. Takes no memory.
     fn claim(&mut self, key: &[u8], flags: u64) -> Result<u32, MapFault>
         requires size { length key.now ≡ (keys self.old).shape.key_size }

@@ -86,8 +86,8 @@ impl WordIndex {
         Some((ShortKey::of_word(*word, self.size), element))
     }
 
-    /// Adds a key, which has the index's size, at the end. The caller has found the key absent, and gives it an element less than the
-    /// index's bound that no key has (`HashMap::add`). It allocates nothing: `new` made room for `bound` keys.
+    /// Adds a key, which has the size of this index's keys, at the end. The caller has found the key absent, and gives it an element less
+    /// than the index's bound that no key has (`HashMap::add`). It allocates nothing: `new` made room for `bound` keys.
     pub(crate) fn insert(&mut self, key: &[u8], element: u32)
         requires size { length key.now ≡ self.old.size }
         requires absent { found key.now self.old.entries ≡ None }
@@ -155,8 +155,8 @@ fn eight_bytes(key: &[u8]) -> u64
     ])
 }
 
-/// The number that the bytes of a key make, little-endian, if they are neither four nor eight: zeros fill them up to eight. Out of line,
-/// so that other keys take one load.
+/// The number that the bytes of a key make, little-endian: zeros fill them up to eight. `word_of` calls it for a key of neither four nor
+/// eight bytes. It is out of line, so that `word_of`, which is inlined, has one load for a key of four or eight bytes.
 #[cold]
 #[inline(never)]
 fn filled_word(key: &[u8]) -> u64

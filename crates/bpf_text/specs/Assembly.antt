@@ -25,7 +25,7 @@ line_slots (Some blank) = 0
 line_slots (Some (label n)) = 0
 line_slots (Some (code form n)) = form_slots form
 
--- the number of slots of all these lines
+-- the number of slots of all instructions on these lines
 unfoldable pub slots_on : List (Option Line) → ℕ
 slots_on [] = 0
 slots_on (line ∷ lines) = line_slots line + slots_on lines
@@ -57,13 +57,13 @@ is_known lines form name = not (names_label form) || is_some (label_line name li
 abbrev pub is_twice : List (Option Line) → ℕ → List ℕ → Bool
 is_twice lines i name = nat_lt (unwrap_or (label_line name lines) i) i
 
--- whether `slots` more slots go past the most that a program may have, and the `before` slots
--- before them do not: so at most one line of a text does this
+-- whether a program may have the first `before` slots, but with `slots` more it has too many: so
+-- this holds for at most one line of a text
 abbrev pub passes : ℕ → ℕ → Bool
 passes before slots = nat_le before most_slots && nat_lt most_slots (before + slots)
 
--- the fault of a line of `lines`, of the lowest kind, given its index i and the slots before it;
--- `None` if it has none, as a blank line
+-- the fault of a line that has index i in `lines` and `before` slots on the lines before it; of
+-- several faults the one with the lowest `kind_number`. `None` if it has none, as a blank line
 abbrev pub line_fault : List (Option Line) → ℕ → ℕ → Option Line → Option TextFaultKind
 line_fault lines i before None = Some Syntax
 line_fault lines i before (Some blank) = None
@@ -76,13 +76,14 @@ line_fault lines i before (Some (code form name)) =
     Some UnknownLabel) else
     Some Range
 
--- the fault of line i, counted from 0, given the line, or None if no line has this index; `None` if
--- there is no fault
+-- the fault of line i of `lines`, counted from 0, of the lowest kind; `None` if it has none. The
+-- last argument is what the list has at index i: None if it has no line i, which is no fault
 abbrev pub line_fault_of : List (Option Line) → ℕ → Option (Option Line) → Option TextFaultKind
 line_fault_of lines i None = None
 line_fault_of lines i (Some line) = line_fault lines i (slots_on (take i lines)) line
 
--- the fault of line i, counted from 0, of the lowest kind that it has; `None` if it has none
+-- the fault of line i, counted from 0: if it has several, the first in the order of
+-- `TextFaultKind`; `None` if it has none, or if no line has this index
 unfoldable pub fault_at : List (Option Line) → ℕ → Option TextFaultKind
 fault_at lines i = line_fault_of lines i (slice_get lines i)
 
@@ -92,9 +93,9 @@ fault_at lines i = line_fault_of lines i (slice_get lines i)
 abbrev pub distance : List (Option Line) → ℕ → List ℕ → ℤ
 distance lines slot name = pos (label_slot lines name) -ℤ pos (slot + 1)
 
--- the written forms of the lines, with `slot` slots before the first of them, and with labels
--- replaced by distances: `all` are all lines of the text, one of which defines the label. A line
--- without an instruction has no form.
+-- the forms of the instructions on these lines, in order; `slot` is the number of slots before
+-- them. In a form the label of a jump is replaced by its distance; `all` are all lines of the text,
+-- one of which defines the label
 unfoldable pub forms_from : List (Option Line) → ℕ → List (Option Line) → List Form
 forms_from all slot [] = []
 forms_from all slot (None ∷ lines) = forms_from all slot lines
@@ -103,7 +104,8 @@ forms_from all slot (Some (label n) ∷ lines) = forms_from all slot lines
 forms_from all slot (Some (code form n) ∷ lines) =
     resolved (distance all slot n) form ∷ forms_from all (slot + form_slots form) lines
 
--- the second list has one reading for each line of the first, in order
+-- the second list has, in order, the reading of each line of the first: the line as which its bytes
+-- are read, or None if they are read as no line (`ReadAs`)
 abbrev pub AreRead : List (List ℕ) → List (Option Line) → Type 0
 AreRead [] [] = Unit {0}
 AreRead (bytes ∷ more) (line ∷ lines) = ReadAs bytes line × AreRead more lines

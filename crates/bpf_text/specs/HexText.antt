@@ -32,9 +32,9 @@ hex_line line = hex_digits (stripped line)
 abbrev pub hex_bytes : List (List ℕ) → List ℕ
 hex_bytes lines = flat_map (λ line. unwrap_or (hex_line line) []) lines
 
--- the fault of a line with these bytes (`None` if it is neither blank nor a slot), after lines of
--- `before` bytes: it is too long if its bytes, and not those before, go past what a program may
--- have; `None` if it has no fault
+-- the fault of a line, after lines of `before` bytes, or `None`. It is Syntax without bytes of the
+-- line (`None`), which is then neither blank nor a slot. It is TooLong if the lines before have at
+-- most as many bytes as a program may have, but more together with this line
 abbrev pub hex_fault : ℕ → Option (List ℕ) → Option TextFaultKind
 hex_fault before None = Some Syntax
 hex_fault before (Some bytes) =

@@ -11,7 +11,8 @@ use Rattle.bpf_text.specs.Printed.{printed}
 abbrev pub OneProgram : Type 0
 OneProgram = (text : List ℕ) (a b : List Insn) → IsAssembled text a → IsAssembled text b → a ≡ b
 
--- a text with a program has no fault of its own, which is any but out of memory
+-- a text that is assembled to a program has no own fault (`IsOwnFault`); a refusal of memory is
+-- none
 abbrev pub ProgramHasNoFault : Type 0
 ProgramHasNoFault =
     (text : List ℕ) (insns : List Insn) (fault : TextFault)

@@ -111,9 +111,9 @@ fn definition_of_label(labels: &HashMap<&str, Definition>, name: &str) -> Option
     labels.get(name).copied()
 }
 
-/// The distance in slots from slot `slot + 1`, which is next after a jump at `slot`, to a label. So that it fits 16 bits, a label past
-/// `MAX_SLOTS` counts as one at that slot: its text has a line that is `TooLong`. `None` counts as a label at slot 0: no line defines it,
-/// which is a fault too, or the form names no label and does not use the distance.
+/// The distance in slots to a label from slot `slot + 1`, the next after a jump at `slot`. A label past slot `MAX_SLOTS` counts as one at
+/// slot `MAX_SLOTS`, so that the distance fits 16 bits: the text then has a `TooLong` line. `None` counts as a label at slot 0: either no
+/// line defines the label, which is a fault, or the form names no label, and the distance is not used.
 fn distance(label: Option<Definition>, slot: usize) -> i16
     requires { slot ≤ MAX_SLOTS }
     ensures { result ≡ kept_distance label slot }
@@ -125,10 +125,10 @@ fn distance(label: Option<Definition>, slot: usize) -> i16
     to as i16 - (slot as i16 + 1)
 }
 
-/// The instruction of a form, or the form's fault, of the lowest kind that it has: the kinds are tested from the lowest on. A line has this
-/// form, so `Form::insn` is `None` only if a number is out of range. `label` is the definition of the label that the form names, `None` if
-/// it names none or no line defines it; `slot` is the number of slots before the form, at most `MAX_SLOTS`, as no earlier line is
-/// `TooLong`.
+/// The instruction of a line's form, or the first fault that applies, in this order: `Range`, `UnknownLabel`, `TooLong`. As the form is
+/// that of a line, `Form::insn` is `None` only if a number is out of range. `label` is the definition of the label that the form names;
+/// `None` if the form names none, or no line defines it. `slot` is the number of slots before the form: at most `MAX_SLOTS`, as no earlier
+/// line is `TooLong`.
 fn resolve(form: &Form, label: Option<Definition>, slot: usize) -> Result<Insn, TextFaultKind>
     requires form { IsForm form.now }
     requires room { slot ≤ MAX_SLOTS }
@@ -149,9 +149,10 @@ fn resolve(form: &Form, label: Option<Definition>, slot: usize) -> Result<Insn, 
     Ok(insn)
 }
 
-/// The instruction on a line, or the line's fault: `Syntax` if the line has none of the forms (`None`). The result is `None` for a blank
-/// line, and for the first line that defines a label: later lines that define this label have the fault `LabelTwice`. `here` is the line's
-/// index and the slots before it, at most `MAX_SLOTS`, since no earlier line is `TooLong`.
+/// The instruction on a line, or the line's fault; `None` for a blank line, and for the first line that defines a label. The faults are
+/// `Syntax` if the line has none of the forms (`None`), `LabelTwice` if an earlier line defines its label, and those of `resolve`. `labels`
+/// has the first definition of each label. `here` is the line's index and the number of slots before it, at most `MAX_SLOTS`, since no
+/// earlier line is `TooLong`.
 fn instruction(
     labels: &HashMap<&str, Definition>,
     line: &Option<Line<'_>>,
@@ -229,7 +230,8 @@ fn program(alloc: Global, insns: &[Insn]) -> Result<Program, TextFault>
     }
 }
 
-/// Assembles a text for `assemble`. The contract of `assemble` adds that the text has no other program or fault.
+/// The program to which a text assembles, for `assemble`. The error is the text's own fault, that of its first line with one or `Empty`, or
+/// else `Memory`. The contract of `assemble` adds that the text has no other program and no other fault of its own.
 fn program_of(alloc: Global, text: &str) -> Result<Program, TextFault>
     ensures ok { IfOk result (λ program. IsAssembled text.now program) }
     ensures fault { IfErr result (λ e. (e ≡ memory_fault) ⊎ IsOwnFault text.now e) }

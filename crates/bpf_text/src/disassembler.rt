@@ -191,7 +191,7 @@ fn write_store(
     write_operand(text, true, src)
 }
 
-/// Appends the line of an atomic operation. Its address is register `dst` and an offset.
+/// Appends the line of the atomic operation `op` with register `src`, on `size` bytes at the address in register `dst` plus `off`.
 #[tactic(auto, unfolding(text_line::specs::Written::printed_insn))]
 fn write_atomic(
     text: &mut String,
@@ -222,7 +222,7 @@ fn write_map_fd(text: &mut String, dst: Reg, fd: i32) -> Result<(), AllocError>
     text.push_str(" ll")
 }
 
-/// Appends the line of a load of an address in a map's value: the map's descriptor, and the offset in the value.
+/// Appends the line of a load into `dst` of the address of the first value of the map with descriptor `fd`, plus `off` bytes.
 fn write_map_value(text: &mut String, dst: Reg, fd: i32, off: u32) -> Result<(), AllocError>
     ensures { OnOk result (string_bytes text.new ≡ string_bytes text.old
         ++ printed_insn (Insn.MapValue dst fd off)) }
@@ -296,8 +296,8 @@ pub fn write_insn(text: &mut String, insn: &Insn) -> Result<(), AllocError>
     }
 }
 
-/// The text of a program: an instruction on each line, numbers in decimal, jumps as numbers. The second slot of a wide instruction has
-/// no line.
+/// The text of a program: an instruction on each line, numbers in decimal. A jump names its target by a signed number of slots, not by a
+/// label. The second slot of a wide instruction has no line.
 ///
 /// # Errors
 ///

@@ -26,7 +26,7 @@ pub enum TextFaultKind {
 impl TextFaultKind {
     ghost use Rattle.bpf_text.specs.Fault.{kind_number};
 
-    /// The kind's number, from 1, the lowest, to 7.
+    /// The number of the kind, from 1 for the lowest kind, `Syntax`, to 7 for the highest, `Memory`.
     pub fn number(self) -> u16
         ensures { result ≡ kind_number self }
     {

@@ -73,7 +73,8 @@ pub fn from_hex_lines(alloc: Global, text: &str) -> Result<Vec<u8>, TextFault>
     Ok(bytes)
 }
 
-/// The bytes of the slots on the lines, in order, of which there may be none; or the fault of the first line that has one, or `Memory`.
+/// The bytes of the slots on the lines, in order; no bytes if no line has a slot. The error is the fault of the first line that has a
+/// fault, or `Memory` if out of memory.
 fn slots_on(alloc: Global, lines: &[&str]) -> Result<Vec<u8>, TextFault>
     ensures found { IfOk result (λ bytes. bytes.items
         ≡ hex_bytes (map (λ line. line.now) lines.now)) }
@@ -91,9 +92,9 @@ fn slots_on(alloc: Global, lines: &[&str]) -> Result<Vec<u8>, TextFault>
     Ok(bytes)
 }
 
-/// Appends the eight bytes of a line's slot to `bytes`, which has the slots of the lines before it: at most `MAX_SLOTS`, before the call
-/// and after it. A blank line has no slot, so nothing is appended. Or returns the fault, the first that applies: `Syntax` if the line is
-/// neither blank nor a slot, `TooLong` if `bytes` has `MAX_SLOTS` slots, `Memory` if out of memory. Then `bytes` is of no further use.
+/// Appends the eight bytes of a line's slot to `bytes`, which has the slots of the earlier lines. `bytes` has at most `MAX_SLOTS` slots,
+/// also after a call without a fault. For a blank line nothing is appended. The error is the first fault that applies: `Syntax` if the line
+/// is neither blank nor a slot, `TooLong` if `bytes` has `MAX_SLOTS` slots, `Memory` if out of memory. Then `bytes` is of no further use.
 fn append_slot(bytes: &mut Vec<u8>, line: &str) -> Result<(), TextFaultKind>
     requires { vec_len bytes.old ≤ 8 * MAX_SLOTS }
     ensures ok { OnOk result (bytes.new.items ≡ bytes.old.items

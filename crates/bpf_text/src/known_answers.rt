@@ -2,7 +2,7 @@
 
 use crate::TextFaultKind;
 
-/// The kinds of faults are numbered from 1, the lowest, to 7.
+/// The first kind of fault, `Syntax`, has the number 1, and the last, `Memory`, the number 7.
 fn kinds_of_faults() {
     let (first, last) = (
         TextFaultKind::Syntax.number(),

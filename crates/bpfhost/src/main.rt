@@ -26,7 +26,8 @@ fn run(rt: &HostRuntime) -> io::Result<u8> {
     ))
 }
 
-/// Ends the program with the exit status of `run`, or with that of arguments that could not be read.
+/// Ends the program with the exit status of `run`. If `run` could not read the arguments, `refuse_unread_words` reports this and determines
+/// the status.
 fn main(rt: HostRuntime) -> ExitCode {
     let status = match run(&rt) {
         Ok(status) => status,

@@ -12,8 +12,8 @@ use Rattle.bpfhost_c.specs.declared.codes.TheConstants.{ERR_TENANT_COUNT, ERR_BU
 use Rattle.bpfhost_c.specs.declared.session.Session.{Session}
 use Rattle.bpfhost_c.specs.Contexts.{contexts_code}
 
--- the host of a handle; for an empty handle one of no tenants, so that calls have a host before and
--- after them
+-- the state of the host of a handle; for an empty handle (None) that of a host without tenants, so
+-- that contracts can name the state before and after each call
 abbrev pub host_of : Option Session → HostState
 host_of None = new_host 0
 host_of (Some s) = s.host
@@ -23,17 +23,17 @@ abbrev pub states : Option Session → List TenantState
 states None = []
 states (Some s) = s.host.states
 
--- A reply lies at address `at`, with `length` bytes: it is the bytes of the vector of the session's
--- last reply, which begin there. The session owns them, and the handle owns the session. False for
--- an empty handle (None).
+-- The bytes `reply` are the session's last reply: all bytes of its vector, which begins at address
+-- `at` and has `length` bytes. The session owns the vector, and the handle owns the session. False
+-- for an empty handle (None).
 abbrev pub StandsAt : Option Session → List ℕ → Ptr → ℕ → Type 0
 StandsAt None reply at length = ⊥
 StandsAt (Some s) reply at length =
     (s.reply.items ≡ reply) × (at ≡ vec_ptr s.reply) × (length ≡ vec_len s.reply)
 
--- The frames of the part of a save that was made last lie at address `at`, with `length` bytes:
--- they are the bytes of the session's vector for them, which begin there. False for an empty handle
--- (None).
+-- The frames of the latest part of a save lie at address `at`, with `length` bytes: they are the
+-- bytes of the vector in which the session stores them (`saved`), and this vector begins at `at`.
+-- False for an empty handle (None).
 abbrev pub SavedAt : Option Session → List ℕ → Ptr → ℕ → Type 0
 SavedAt None frames at length = ⊥
 SavedAt (Some s) frames at length =
@@ -52,20 +52,20 @@ new_code before tenants =
 abbrev pub host_code : Option Session → ℤ
 host_code before = if is_none before then ERR_NO_HOST else DONE
 
--- the code of a call that needs a host and room for the longest reply: its handle has `before`, and
--- its room has `room` bytes, which are tested first
+-- the code of a call that needs a host and room for the longest reply; the room is tested first.
+-- `before` is what the handle has before the call, `room` the number of bytes of the room
 abbrev pub room_code : Option Session → ℕ → ℤ
 room_code before room = if nat_lt room longest_reply then ERR_BUFFER_TOO_SMALL else host_code before
 
--- the code of a call that saves a part, if its handle has `before`, unless it is out of memory; a
--- tenant that is not served has no part
+-- the code of a call for one part of a tenant's save, by its number, unless it is out of memory;
+-- `before` is what the handle has before the call. A tenant that is not served has no part
 abbrev pub save_code : Option Session → ℕ → ℕ → ℤ
 save_code before tenant part =
     if is_none before
     then ERR_NO_HOST
     else (if is_none (saved_part (host_of before) tenant part) then ERR_NO_PART else DONE)
 
--- the code of a call that runs packets, if its handle has `before`, unless it is out of memory;
--- `words` are those of all its contexts, of `size` words each
+-- the code of a call that runs packets, unless it is out of memory: ERR_NO_HOST if its handle is
+-- empty (`before` is None), else that of its contexts: `words`, with `size` words for each
 abbrev pub run_code : Option Session → ℕ → List ℕ → ℤ
 run_code before size words = if is_none before then ERR_NO_HOST else contexts_code size words

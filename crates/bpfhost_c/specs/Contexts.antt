@@ -16,15 +16,15 @@ fitted words =
 abbrev pub has_known_words : List ℕ → Bool
 has_known_words words = list_all (λ word. nat_eq word 0) (drop given_words words)
 
--- the first n contexts in `words`, n being the second argument, each of `size` words, as a run is
--- given them
+-- for each of the first n contexts in `words`, n being the second argument, each of `size` words:
+-- the words that a run is given of it (`fitted`)
 abbrev pub fitted_all : ℕ → ℕ → List ℕ → List (List ℕ)
 fitted_all size zero words = []
 fitted_all size (suc count) words =
     fitted (take size words) ∷ fitted_all size count (drop size words)
 
--- each of the first n contexts in `words`, n being the second argument, each of `size` words, has
--- only zeros after the words that a run is given
+-- `words` has contexts of `size` words each, one after another. In each of the first n, n being the
+-- second argument, every word after those that a run is given is zero
 abbrev pub have_known_words : ℕ → ℕ → List ℕ → Bool
 have_known_words size zero words = true
 have_known_words size (suc count) words =
@@ -36,7 +36,8 @@ abbrev pub contexts_of : ℕ → List ℕ → List (List ℕ)
 contexts_of size words = fitted_all size (length words / size) words
 
 -- the code of a call with contexts of `size` words, unless it is out of memory: ERR_SIZE if `size`
--- is 0 or the last context is cut off, ERR_TOO_BIG if a word that no run is given is not 0
+-- is 0 or the last context is cut off; else ERR_TOO_BIG if a context has a word other than 0 after
+-- those that a run is given; else DONE
 abbrev pub contexts_code : ℕ → List ℕ → ℤ
 contexts_code size words =
     if nat_eq size 0 || not (nat_eq (length words % size) 0) then ERR_SIZE

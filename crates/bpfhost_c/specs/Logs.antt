@@ -14,7 +14,8 @@ style_of n =
     (if n == 1 then Some Whole else (if n == 2 then Some Graph else None))
 
 -- `text` is the log of the slots in the style with this number, if descriptors name the objects
--- `named`, and `accepted` is whether their program is accepted; false if no style has the number
+-- `named`, and `accepted` is whether their program is accepted. If no style has the number, no text
+-- is a log
 abbrev pub Logs : ℕ → List ℕ → List Named → Bool → List ℕ → Type 0
 Logs number slots named accepted text =
     (style : LogStyle)

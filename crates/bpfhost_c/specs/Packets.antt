@@ -5,9 +5,10 @@ use Rattle.host_core.specs.TenantBatch.{packets_in, inputs_of, are_contexts}
 use Rattle.host_core.specs.State.{TenantState}
 
 -- A batch of the program at descriptor fd of a tenant, with its status. The packets lie one after
--- another in `bytes`, up to their `ends`; `before` and `after` are the states of all tenants. If
--- the status is 0, each packet was run, and the results at the front of `room` give `written`; else
--- none was run, and nothing has changed.
+-- another in `bytes`, up to their `ends`; `contexts` has the context words of each, or one list for
+-- all. `before` and `after` are the states of all tenants. If the status is 0, each packet was run,
+-- and `written` is the array `room` with the results at its front; else none was run, and neither
+-- the states nor the array have changed.
 pub record RunsPackets (tenant fd : ℕ) (contexts : List (List ℕ)) (bytes ends room written : List ℕ)
     (status : ℤ) (before after : List TenantState) : Type 0 where
   pub seen : status
@@ -21,7 +22,8 @@ pub record RunsPackets (tenant fd : ℕ) (contexts : List (List ℕ)) (bytes end
   pub others : ChangesTenant tenant before after
 
 -- the contexts of the first n of `packets` packets. If each packet has its own, these are the first
--- n contexts; else they are all: one for all packets, or a number for which the batch is rejected
+-- n contexts. Else all contexts are returned: one context is for all packets, and with any other
+-- number of contexts the batch is rejected
 abbrev pub front_contexts : ℕ → ℕ → List (List ℕ) → List (List ℕ)
 front_contexts packets n contexts = if length contexts == packets then take n contexts else contexts
 

@@ -24,7 +24,8 @@ use Rattle.bpfhost_c.specs.declared.session.Session.{Session}
 
 -- ---- the objects that descriptors are to name
 
--- the object of a map with this shape; None if MAP_CREATE would have an error
+-- the object of a new map, by its shape or the error that MAP_CREATE would return for it; None for
+-- an error
 abbrev pub map_of : Result MapShape Errno → Option Target
 map_of (Ok shape) = Some (target.Map shape)
 map_of (Err errno) = None
@@ -36,7 +37,7 @@ object_of d =
     if d.kind == 0 then Some target.Program
     else map_of (asked_shape (kind_of d.kind) d.key_size d.value_size d.max_entries 0)
 
--- each descriptor is given an object that there can be
+-- whether each of the descriptors has an object (`object_of`)
 abbrev pub are_objects : List Descriptor → Bool
 are_objects ds = list_all (λ d. is_some (object_of d)) ds
 
@@ -47,8 +48,9 @@ named_by ds =
 
 -- ---- preparing
 
--- the code of a call that prepares a program for these descriptors, unless it is out of memory;
--- `before` is what the handle has before it
+-- the code of a call that prepares a program for these descriptors, unless it is out of memory:
+-- ERR_HAS_PROGRAM if the handle has one before the call (`before`), ERR_DESCRIPTORS if there are
+-- too many descriptors or one has no object, else DONE, also if the program is rejected
 abbrev pub prepare_code : Option Accepted → List Descriptor → ℤ
 prepare_code before ds =
     if is_some before then ERR_HAS_PROGRAM
@@ -68,8 +70,8 @@ Prepares named slots None r =
 
 -- ---- installing
 
--- the code of a call that installs a program, if it fits the tenant; `session` and `program` are
--- what the two handles have, None if they are empty
+-- the code that a call returns that installs a program, if the program fits the tenant. `session`
+-- is what the handle of the host has, `program` what that of the program has; None if it is empty
 abbrev pub install_code : Option Session → Option Accepted → ℤ
 install_code session program =
     if is_none session then ERR_NO_HOST else (if is_none program then ERR_NO_PROGRAM else DONE)
@@ -80,8 +82,8 @@ abbrev pub FitsPrepared : Option Accepted → Option TenantState → Type 0
 FitsPrepared None s = ⊥
 FitsPrepared (Some a) s = FitsTenant a s
 
--- what a host does at the frame of a tenant that loads the program, whose reply has this status;
--- false without a program (None)
+-- what a host does at a tenant's frame that loads the program, if the reply to it has this status;
+-- false if the handle has no program (None)
 abbrev pub InstallsPrepared : ℕ → Option Accepted → ℤ → HostState → HostState → Type 0
 InstallsPrepared tenant None status before after = ⊥
 InstallsPrepared tenant (Some a) status before after = Installs tenant a.code status before after

@@ -14,8 +14,8 @@ use host_core::GIVEN_WORDS;
 use std::alloc::{AllocError, Global};
 use std::borrow::CowSlice;
 
-/// Contexts of `GIVEN_WORDS` words each, without a copy; `None` if the last one is cut off. All words of a context are given to a run, so
-/// none has to be 0 (`known`).
+/// `words` as contexts of `GIVEN_WORDS` words each, without a copy; `None` if the last one is cut off. Only a word that a run is not given
+/// has to be 0, and a run is given all words of such a context (`known`).
 #[tactic(auto, using(crate::proofs::Given::as_given, crate::proofs::Given::all_known))]
 fn as_given(words: &[u32]) -> Option<&[[u32; GIVEN_WORDS]]>
     ensures some { is_some result ≡ nat_eq (length words.now % given_words) 0 }
@@ -96,7 +96,8 @@ fn are_known(words: &[u32], size: usize, count: usize) -> bool
     true
 }
 
-/// Contexts of `size` words, one after another, as a run is given them, in memory of their own.
+/// Copies of the contexts in `words`, of `size` words each, one after another. A copy has the words that a run is given: the first
+/// `GIVEN_WORDS` of the context, and zeros for those that it does not have.
 ///
 /// `Err`: the code that C gets: `ERR_SIZE` if `size` is 0 or the last context is cut off, `ERR_TOO_BIG` if one has a word that no run is
 /// given and that is not 0, or `ERR_NO_MEMORY`.

@@ -71,7 +71,7 @@ impl Handle {
         }
     }
 
-    /// Puts a session in. A session that the handle had is dropped; in a call it has none, since `take` was called before.
+    /// Puts a session into the handle, and drops the one that it had. In a call of the library it had none, since `take` was used before.
     pub(crate) fn put(&mut self, session: Box<Session>)
         ensures { self.new.session ≡ Some session.value }
     {

@@ -71,7 +71,7 @@ impl Prepared {
         }
     }
 
-    /// Puts a program in. A program that the handle had is dropped; in a call it has none, since `take` was called before.
+    /// Puts a program in. A program that the handle had would be dropped; it has none, since each caller has called `take` before.
     pub(crate) fn put(&mut self, program: Box<Verified>)
         ensures { self.new.program ≡ Some program.value }
     {

@@ -66,7 +66,7 @@ fn object_of(descriptor: &Descriptor) -> Option<Target>
     }
 }
 
-/// Whether each descriptor is given an object that there can be: a program, or a map that MAP_CREATE can make.
+/// Whether each descriptor is to name a program, or a map that MAP_CREATE makes without an error (`object_of`).
 fn are_objects(descriptors: &[Descriptor]) -> bool
     ensures { result ≡ are_objects descriptors.now }
 {
@@ -78,8 +78,8 @@ fn are_objects(descriptors: &[Descriptor]) -> bool
     true
 }
 
-/// The descriptors with their objects. One without an object is left out; there is none after the test by `are_objects`. `AllocError`: out
-/// of memory.
+/// The descriptors with their objects; one without an object is left out. After the test by `are_objects` each has an object.
+/// `AllocError`: out of memory.
 fn named_by(alloc: Global, descriptors: &[Descriptor]) -> Result<Vec<Named>, AllocError>
     ensures { IfOk result (λ named. named.items ≡ named_by descriptors.now) }
 {

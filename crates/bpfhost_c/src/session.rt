@@ -180,9 +180,9 @@ impl Session {
         }
     }
 
-    /// How many packets at the front of a batch a `bound` on executed instructions allows; 0 is no bound, and allows all. The batch has
-    /// `contexts` contexts and `packets` packets, and runs the program at descriptor `fd`. If it has neither one context nor one for each
-    /// packet, it is not made shorter, since it is rejected as a whole.
+    /// How many packets at the front of a batch a `bound` on executed instructions allows; all if `bound` is 0. The batch has `contexts`
+    /// contexts and `packets` packets, and runs the program at descriptor `fd` of `tenant`. If it has neither one context nor one for each
+    /// packet, the result is `packets` too: such a batch is rejected as a whole.
     fn allowed_packets(
         &self,
         tenant: usize,
@@ -203,8 +203,8 @@ impl Session {
     }
 
     /// Runs the program at descriptor `fd` of a tenant on the packets at the front of a batch, as many as a `bound` on executed
-    /// instructions allows; 0 is no bound. Their results are written to the front of `results`. If the batch is rejected, `Ran` has the
-    /// status of the error; then no packet was run, and nothing has changed.
+    /// instructions allows; 0 is no bound. Their results are written to the front of `results`, and `Ran` has status 0 and the number of
+    /// these packets. If the batch is rejected, `Ran` has the status of the error and 0 packets; then nothing has changed.
     pub(crate) fn run_bounded(
         &mut self,
         tenant: usize,
@@ -232,8 +232,8 @@ impl Session {
         Ran { status, packets }
     }
 
-    /// Runs a batch like `run_bounded`, but with contexts of any size, which are brought to the words that a run is given: shorter ones get
-    /// zeros, and longer ones lose the rest, which has to be 0.
+    /// Runs a batch like `run_bounded`, but each context has `batch.size` words. If a run is given more words, the others are 0; if it is
+    /// given fewer, the rest of each context is left out, and has to be 0.
     ///
     /// `Err`: the code that C gets. `ERR_SIZE`: the size is 0 or the last context is cut off. `ERR_TOO_BIG`: a context has a word that no
     /// run is given and that is not 0. `ERR_NO_MEMORY`: out of memory. Then nothing is changed.

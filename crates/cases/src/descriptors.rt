@@ -39,7 +39,7 @@ fn named_map(alloc: Global, text: &str) -> Result<Named, CaseError> {
     })
 }
 
-/// A program at the descriptor with these decimal digits, any number of 32 bits; `Number` if they are none.
+/// The descriptor that the text has, any number of 32 bits, with a program. `Number` if the text is no such number.
 fn named_program(text: &str) -> Result<Named, CaseError> {
     Ok(Named {
         fd: text.parse()?,

@@ -27,8 +27,8 @@ fn append_output(alloc: Global, text: &mut String, output: &str) -> Result<(), A
     Ok(())
 }
 
-/// The text of how a program ended: its status, and below it the lines of `output` and, after `fault: `, those of `faults`, which the
-/// program wrote as its fault. `NoText` if `faults` are not UTF-8.
+/// The text of how a program ended: its status, then the lines of `output` as `append_output` writes them, then each line of `faults` with
+/// `fault: ` before it. `faults` is what the program wrote as its fault. `NoText` if `faults` are not UTF-8.
 pub fn outcome(
     alloc: Global,
     status: u8,

@@ -30,8 +30,8 @@ fn append_characters(bytes: &mut Vec<u8>, text: &str) -> Result<(), AllocError> 
     Ok(())
 }
 
-/// Appends the byte with the two hex digits at the front of `text`, which followed a `\x`, and the characters after them. `Notation` if
-/// there are no two characters, `Digits` if they are no hex digits.
+/// Appends the byte that the two hex digits at the front of `text` name, and the characters after them. In the line, `text` follows a `\x`.
+/// `Notation` if `text` can't be split after two bytes, `Digits` if these are no hex digits.
 fn append_escaped(bytes: &mut Vec<u8>, text: &str) -> Result<(), CaseError> {
     let (digits, rest) = text.split_at_checked(2).ok_or(CaseError::Notation)?;
     let byte = <[u8; 1] as FromHex>::from_hex(digits)?;
@@ -79,8 +79,8 @@ fn append_times(
     Ok(())
 }
 
-/// Appends the bytes of a repetition, given without its first brace, and of the text after it. `Notation` if the second brace, the `*` or
-/// the number of times is missing.
+/// Appends the bytes of a repetition and of the text after it; `text` begins after the `{` of the repetition. `Notation` if the `}` or the
+/// `*` is missing. It also fails as `times` and `append_text` do.
 fn append_repeated(alloc: Global, bytes: &mut Vec<u8>, text: &str) -> Result<(), CaseError> {
     let (repetition, rest) = text.split_once('}').ok_or(CaseError::Notation)?;
     let (digits, part) = repetition.split_once('*').ok_or(CaseError::Notation)?;
@@ -109,8 +109,8 @@ pub fn text_of(bytes: &[u8]) -> Result<&str, CaseError> {
     str::from_utf8(bytes).map_err(|_| CaseError::NoText)
 }
 
-/// The bytes of hex digits, which blanks may separate. The notation of texts is replaced first, so digits may be repeated. `Digits` if what
-/// is left is no hex digits, `NoText` if it is not UTF-8, and the errors of `written`.
+/// The bytes of hex digits, which blanks may separate. The digits are what `written` makes of `text`, so a repetition may give some.
+/// `Digits` if a character is no hex digit or the number of digits is odd, `NoText` if they are not UTF-8, and the errors of `written`.
 pub fn bytes_of(alloc: Global, text: &str) -> Result<Vec<u8>, CaseError> {
     let text = written(alloc, text)?;
     let digits = text_of(&text)?;
@@ -119,7 +119,7 @@ pub fn bytes_of(alloc: Global, text: &str) -> Result<Vec<u8>, CaseError> {
     Ok(bytes)
 }
 
-/// The bytes of hex digits, for a map's key or value. `Size` unless they are `size` bytes.
+/// The bytes of hex digits, for a map's key or value. The errors are those of `bytes_of`, and `Size` if the number of bytes is not `size`.
 pub fn bytes_of_size(alloc: Global, text: &str, size: u32) -> Result<Vec<u8>, CaseError>
     ensures { IfOk result (λ bytes. length bytes.items ≡ size) }
 {

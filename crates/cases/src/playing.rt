@@ -6,7 +6,8 @@ use std::io;
 
 /// Plays the lines of a file of cases in order. Its state is what earlier lines have made.
 pub trait Player {
-    /// Does what a line that is no remark asks for. Returns the lines to write below it, or the empty text; an error is written there too.
+    /// Does what a line that is no remark asks for. Returns the lines of its outcome, or the empty text, or an error; `play_lines` writes
+    /// these below the line.
     fn play(&mut self, line: &str) -> Result<String, CaseError>;
 }
 

@@ -5,7 +5,8 @@ use cases::{CaseError, bytes_of};
 use command_frames::{BadFrame, Command, GIVEN_WORDS, HEAD_LENGTH, head, parse};
 use std::alloc::{AllocError, Global};
 
-/// The tenant and the command number of a frame, given as hex digits; or that it is too short for a head.
+/// The tenant and the command number of a frame, as text, or `no head` if the frame is too short for a head. `digits` are the frame's bytes
+/// in hex. The errors are those of `bytes_of`, and out of memory.
 pub fn head_line(alloc: Global, digits: &str) -> Result<String, CaseError> {
     let frame = bytes_of(alloc, digits)?;
     let Some(head) = head(&frame) else {
@@ -64,7 +65,8 @@ fn command_text(alloc: Global, command: Command<'_>) -> Result<String, AllocErro
     }
 }
 
-/// The command of a frame, given as hex digits, with its fields, or why it has none. `parse` needs a frame with a head.
+/// The text of the command of a frame, given as hex digits, with the command's fields; or why `parse` rejects the frame. For a frame
+/// without a head, which `parse` does not take, the text is `no head`. Fails as `bytes_of` does, or if out of memory.
 pub fn parse_line(alloc: Global, digits: &str) -> Result<String, CaseError> {
     let frame = bytes_of(alloc, digits)?;
     if frame.len() < HEAD_LENGTH {

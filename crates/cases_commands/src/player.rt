@@ -43,7 +43,8 @@ impl CommandPlayer {
         Ok(shown(self.alloc, self.room.bytes())?)
     }
 
-    /// Opens the lowest free descriptor for a number, and returns it as text; if none is free, that the number is handed back.
+    /// Opens the lowest free descriptor for a number, and returns the descriptor as text. If none is free, the text says that the number is
+    /// handed back.
     fn place(&mut self, number: u32) -> Result<String, AllocError> {
         match self.numbers.place(number) {
             Ok(fd) => fd.to_string(self.alloc),

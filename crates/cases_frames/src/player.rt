@@ -37,8 +37,8 @@ const SOCKET_FILTER: u32 = 1;
 /// The length in bytes of the context words that a frame of PROG_TEST_RUN has: ten of the eleven, as the host writes the packet's length.
 const WORDS: usize = 40;
 
-/// A new host for this number of tenants, in decimal digits, with a seed that is always the same. `OutOfRange` if it is not from 1 to
-/// `MOST_TENANTS`.
+/// A new host, with a seed that is always the same, for as many tenants as the decimal digits of `tenants` say. `Number` if they are no
+/// number, `OutOfRange` if the number is not from 1 to `MOST_TENANTS`.
 pub fn new_host(alloc: Global, tenants: &str) -> Result<Host, CaseError> {
     let tenants: usize = tenants.parse()?;
     if tenants < 1 || tenants > MOST_TENANTS {
@@ -63,7 +63,7 @@ fn frame(
     Ok(frame)
 }
 
-/// The bytes of decimal numbers, four of each, as the body of a frame has them.
+/// The bytes of decimal numbers, four bytes for each number, as the body of a frame has them. `Number` if a word is no number of 32 bits.
 fn numbers(alloc: Global, words: &str) -> Result<Vec<u8>, CaseError> {
     let mut bytes = Vec::new(alloc);
     for word in words.split_whitespace() {
@@ -73,7 +73,7 @@ fn numbers(alloc: Global, words: &str) -> Result<Vec<u8>, CaseError> {
     Ok(bytes)
 }
 
-/// The bytes of `front`, and after them those of the hex digits.
+/// The bytes of `front`, and after them those of the hex digits, which `bytes_of` reads. It fails like `bytes_of`.
 fn before(alloc: Global, front: &[u8], digits: &str) -> Result<Vec<u8>, CaseError> {
     let rest = bytes_of(alloc, digits)?;
     let mut bytes = Vec::new(alloc);
@@ -120,7 +120,8 @@ impl HostPlayer {
         Ok(self.reply(&frame)?)
     }
 
-    /// The reply to a command. The tenant and the number with which its body begins are in decimal digits; `rest` is the rest of the body.
+    /// The reply to a command of `tenant`, as hex digits. The command's body is `number` and then `rest`. `tenant` and `number` are decimal
+    /// digits; `Number` if `tenant` is no number of 16 bits, or `number` none of 32 bits.
     fn command(
         &mut self,
         tenant: &str,
@@ -141,8 +142,8 @@ impl HostPlayer {
         self.command(tenant, command, descriptor, &bytes)
     }
 
-    /// The reply to MAP_CREATE, for the words of a line: a tenant, and the five numbers of the body: the kind of map, and in `sizes` the
-    /// sizes of a key and of a value, `max_entries`, and the flags.
+    /// The reply to MAP_CREATE, for the words of a line: a tenant, the kind of map, the sizes of a key and of a value, `max_entries`, and
+    /// the flags.
     fn create(&mut self, rest: &str) -> Result<String, CaseError> {
         let (tenant, rest) = first_word(rest);
         let (kind, sizes) = first_word(rest);
@@ -174,7 +175,7 @@ impl HostPlayer {
         Ok(self.load_slots(tenant, &slots)?)
     }
 
-    /// The reply to a load, for the words of a line: a tenant, and the bytes of the slots.
+    /// The reply to a load, for the words of a line: a tenant, and the bytes of the slots in hex digits (`bytes_of`).
     fn load_digits(&mut self, rest: &str) -> Result<String, CaseError> {
         let (tenant, digits) = first_word(rest);
         let tenant = tenant.parse()?;
@@ -191,7 +192,8 @@ impl HostPlayer {
         self.command(tenant, PROG_TEST_RUN, descriptor, &input)
     }
 
-    /// The reply to the frame that a line asks for, by its first word. `UnknownWord` if no such line begins with it.
+    /// The reply to the frame that a line asks for: `word` is the line's first word, `rest` the text after it. `UnknownWord` if a line with
+    /// this first word asks for no frame.
     fn reply_to_line(&mut self, word: &str, rest: &str) -> Result<String, CaseError> {
         match word {
             "frame" => self.reply_to_digits(rest),
@@ -238,8 +240,8 @@ impl HostPlayer {
         Ok(None)
     }
 
-    /// The replies to lines that are played a number of times, if they are the same each time; otherwise those of the first round that has
-    /// other replies than round 0.
+    /// Plays lines a number of times, but at least once, for the words of a line: the number, and the lines with `|` between them. Returns
+    /// the replies of round 0 if each round has the same; otherwise those of the first round that has other replies.
     fn rounds(&mut self, rest: &str) -> Result<String, CaseError> {
         let (count, lines) = first_word(rest);
         let count: u32 = count.parse()?;
@@ -250,7 +252,8 @@ impl HostPlayer {
         }
     }
 
-    /// Makes a new host, on which the lines that follow are played. Returns the empty text, so nothing is written below the line.
+    /// Makes a new host for a number of tenants, in decimal digits, for the lines that follow. Fails like `new_host`. Returns the empty
+    /// text, so nothing is written below the line.
     fn begin(&mut self, tenants: &str) -> Result<String, CaseError> {
         self.host = new_host(self.alloc, tenants)?;
         Ok(String::new(self.alloc))

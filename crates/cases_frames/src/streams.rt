@@ -29,8 +29,8 @@ fn ended(alloc: Global, end: Result<u32, ServeFault>, output: &[u8]) -> Result<S
     format!(in alloc; "{end}\n{output}")
 }
 
-/// How `serve` ends on these bytes, and below it what it wrote. It serves at most `limit` frames, a number in decimal digits; `OutOfRange`
-/// if that is above `MOST_FRAMES`.
+/// How `serve` ends on the bytes `input`, and below it the hex digits of what it wrote. It serves at most `limit` frames, a number in
+/// decimal digits. `Number` if `limit` is no number of 32 bits, `OutOfRange` if it is above `MOST_FRAMES`.
 fn served(alloc: Global, host: &mut Host, limit: &str, input: &[u8]) -> Result<String, CaseError> {
     let limit: u32 = limit.parse()?;
     if limit > MOST_FRAMES {
@@ -42,7 +42,8 @@ fn served(alloc: Global, host: &mut Host, limit: &str, input: &[u8]) -> Result<S
     Ok(ended(alloc, end, &writer.into_inner())?)
 }
 
-/// How `serve` ends in a new host, for the words of a line: a number of tenants, a limit of frames, and the stream's bytes.
+/// How `serve` ends in a new host, and below it what it wrote (`served`). The words of `line` are a number of tenants, a limit of frames,
+/// and the stream's bytes as hex digits. The errors are those of `new_host`, `bytes_of` and `served`.
 pub fn stream(alloc: Global, line: &str) -> Result<String, CaseError> {
     let (tenants, rest) = first_word(line);
     let (limit, digits) = first_word(rest);
@@ -58,8 +59,8 @@ fn front(alloc: Global, count: &str, digits: &str) -> Result<Vec<u8>, CaseError>
     Ok(input)
 }
 
-/// How `serve` ends on a stream that is cut short, for the words of a line: a number of tenants, a limit of frames, how many bytes are
-/// left, and the stream's bytes.
+/// How `serve` ends in a new host on the front of a stream, for the words of a line: a number of tenants, a limit of frames, how many bytes
+/// the front has, and the bytes of the whole stream.
 pub fn cut(alloc: Global, line: &str) -> Result<String, CaseError> {
     let (tenants, rest) = first_word(line);
     let (limit, rest) = first_word(rest);
@@ -69,8 +70,8 @@ pub fn cut(alloc: Global, line: &str) -> Result<String, CaseError> {
     served(alloc, &mut host, limit, &input)
 }
 
-/// How many bytes one call of a reader gives, into a buffer of `ROOM` bytes, how many of them one call of a writer takes, and what it has
-/// then; or which call fails.
+/// Reads the bytes of hex `digits` by one call of a reader, into a buffer of `ROOM` bytes, and writes those that it gives by one call of a
+/// writer. Returns how many bytes the writer took, how many the reader gave, and the writer's bytes in hex digits; or which call failed.
 pub fn relay(alloc: Global, digits: &str) -> Result<String, CaseError> {
     let input = bytes_of(alloc, digits)?;
     let mut reader = Counted::new(input.as_slice());
@@ -113,7 +114,8 @@ fn ran(alloc: Global, words: &[&str], input: &[u8]) -> Result<String, CaseError>
     outcome(alloc, status, &output, &faults)
 }
 
-/// How a run of the program ends, for its arguments and, after `<`, its input in hex digits.
+/// How a run of the program ends (`ran`). The line has the program's arguments and, after `<`, its input in hex digits; `Notation` if it
+/// has no `<`.
 pub fn program(alloc: Global, line: &str) -> Result<String, CaseError> {
     let (words, digits) = input_of(line)?;
     let words: Vec<&str> = words.split_whitespace().map(word_of).collect(alloc)?;

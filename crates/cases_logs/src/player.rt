@@ -21,8 +21,8 @@ impl LogPlayer {
         }
     }
 
-    /// The log of the program to which `text`, in the notation of `cases`, assembles. It is verified with the open descriptors, and has
-    /// a log if it is rejected too.
+    /// The log of the program to which `text`, in the notation of `cases`, assembles, verified with the open descriptors. A rejected
+    /// program has a log too. The errors are those of `written` and `text_of`, and `Text` if the text does not assemble.
     fn log(&self, text: &str, style: LogStyle) -> Result<String, CaseError> {
         let source = written(self.alloc, text)?;
         let program = assemble(self.alloc, text_of(&source)?)?;
@@ -34,7 +34,8 @@ impl LogPlayer {
         Ok(text)
     }
 
-    /// How the program `verifier_log` ends on the arguments and the input of a line, which are separated by `<`.
+    /// Runs the program `verifier_log` on the arguments and the input of a line, which are separated by `<`. Returns its exit status, its
+    /// output and its fault as a text (`outcome`).
     fn run(&self, case: &str) -> Result<String, CaseError> {
         let (arguments, text) = input_of(case)?;
         let arguments: Vec<&str> = arguments.split_whitespace().collect(self.alloc)?;
@@ -53,6 +54,8 @@ impl LogPlayer {
 }
 
 impl Player for LogPlayer {
+    /// `log`, `all` and `dot`, with a program after them, return its log in one of the styles of `LogStyle`. `run`, with arguments and an
+    /// input, returns how `verifier_log` ends on them. Any other line is played on the descriptors.
     fn play(&mut self, line: &str) -> Result<String, CaseError> {
         let (word, rest) = first_word(line);
         match word {

@@ -34,8 +34,8 @@ impl Model for LiveMapsPlayer {
     ghost invariant = { λ p. IsPartOf 0 p.arena };
 }
 
-/// Creates a map with its area in `part`, the tenant's part of the memory, and adds `holds` references to its first one. The fault of the
-/// creation, if it has one.
+/// Creates a map with its area in `part`, the tenant's part, and adds `holds` references to the one that it has. Returns its handle, or the
+/// fault of the creation.
 fn create_held(
     maps: &mut Maps,
     shape: MapShape,
@@ -69,7 +69,8 @@ impl LiveMapsPlayer {
         Ok(nothing(self.alloc))
     }
 
-    /// The handle of the live map with this number, in decimal digits; `NoMap` if no map has had the number yet, or the map is not live.
+    /// The handle of the live map whose number in the lines is `number`, in decimal digits: its index in `keys`. `NoMap` if `keys` has no
+    /// such index, or the map is not live; `Number` if the text is no number.
     fn live_map(&self, number: &str) -> Result<MapKey, CaseError>
         ensures { IfOk result (λ map. IsSome (live_at self.now map)) }
     {
@@ -80,8 +81,8 @@ impl LiveMapsPlayer {
         }
     }
 
-    /// The number of a map in the lines: the index of its handle in `keys`, to which a handle is appended that is not in it yet. The live
-    /// maps, all that contracts see, are unchanged.
+    /// The number by which lines of cases name a map: the index of its handle in `keys`. If `keys` does not have the handle, this function
+    /// appends it. The live maps, which are all that contracts see, are unchanged.
     fn number_of(&mut self, map: MapKey) -> Result<usize, AllocError>
         ensures { self.new ≡ self.old }
     {
@@ -92,8 +93,8 @@ impl LiveMapsPlayer {
         Ok(self.keys.len() - 1)
     }
 
-    /// A new map, for the words of a line: its shape, and the number of references that are added. Returns its number, and the offset of
-    /// its first value in the part, or the name of the fault of the creation, as text.
+    /// Makes a new map, for the words of a line: its shape, and the number of references that are added to its first one. Returns its
+    /// number and the offset of its first value in the part, or the name of the fault of the creation, as text.
     fn create(&mut self, rest: &str) -> Result<String, CaseError> {
         let (shape, holds) = first_word(rest);
         let shape = shape_of(self.alloc, shape)?;
@@ -123,7 +124,7 @@ impl LiveMapsPlayer {
         Ok(text.to_string(self.alloc)?)
     }
 
-    /// The shape of a map, as text.
+    /// The shape of the live map with this number, as text: kind, sizes, `max_entries`. `NoMap` if no live map has the number.
     fn shape(&self, number: &str) -> Result<String, CaseError> {
         let map = self.live_map(number)?;
         let shape = self.maps.shape(map);
@@ -146,7 +147,8 @@ impl LiveMapsPlayer {
         Ok(self.maps.value_at(map, element))
     }
 
-    /// The offset of an element's value in the part, as text, for the words of a line: the map and the element.
+    /// The offset of an element's value in the part, as text, for the words of a line: the number of the map, and the element. The errors
+    /// are those of `live_map`, `OutOfRange` if the map has no such element, and `Number` if the second word is no number.
     fn at(&self, rest: &str) -> Result<String, CaseError> {
         let (number, element) = first_word(rest);
         let map = self.live_map(number)?;
@@ -200,8 +202,8 @@ impl LiveMapsPlayer {
         Ok(done(self.alloc, self.maps.remove(map, &key), "removed")?)
     }
 
-    /// The key that follows a key, as hex digits, for the words of a line: the map, and the key, or nothing for the first key. `Size` if a
-    /// key is given that has not the size of the map's keys.
+    /// The hex digits of the key that follows a key of a map, or the name of the fault. The words of a line are the map's number and the
+    /// key; without a key, it is the map's first key. `NoMap` if the map is not live, `Size` if the key has not the size of the map's keys.
     fn next(&self, rest: &str) -> Result<String, CaseError> {
         let (number, digits) = first_word(rest);
         let map = self.live_map(number)?;
@@ -242,7 +244,8 @@ impl LiveMapsPlayer {
         }
     }
 
-    /// Plays the line of a call on live maps: the call's name, and the words after it.
+    /// Plays the line of a call on live maps, the call's name and the words after it, and returns the line's output. `UnknownWord` if no
+    /// call has this name.
     pub fn play(&mut self, call: &str, rest: &str) -> Result<String, CaseError> {
         match call {
             "new" => self.begin(),

@@ -14,7 +14,8 @@ const MOST_PARTS: usize = 16;
 /// The most bytes of a part, few enough for `Arena::new`, which takes up to 2^28 bytes in all.
 const LARGEST_PART: usize = 4096;
 
-/// An address: a number, or after `+` its distance from the first address. `OutOfRange` if that is 2^64 or more.
+/// The address in a text: a number, or `+` and a distance from the first address (`BASE`). `Number` if the number or the distance does not
+/// parse, `OutOfRange` if the sum is 2^64 or more.
 fn address(text: &str) -> Result<u64, CaseError> {
     match text.strip_prefix('+') {
         Some(offset) => BASE
@@ -68,7 +69,8 @@ impl MemoryPlayer {
         Ok(nothing(self.alloc))
     }
 
-    /// A load, for the words of a line: the address and the size. `outside` if the memory does not have all these bytes.
+    /// The number that a load reads, in decimal digits, for the words of a line: the address and the size. `outside` if the memory does not
+    /// have all these bytes.
     fn load(&self, rest: &str) -> Result<String, CaseError> {
         let (at, size) = first_word(rest);
         match self
@@ -89,8 +91,8 @@ impl MemoryPlayer {
         Ok(done_inside(self.alloc, outcome, "stored")?)
     }
 
-    /// A copy, for the words of a line: the addresses of the target and of the source, and the length, which `Arena::copy` requires to be
-    /// at least 1. `outside` if the memory does not have all these bytes.
+    /// Copies bytes. `rest` has the address of the target, that of the source, and the length. Returns the text `copied`, or `outside` if
+    /// the memory does not have all these bytes. `OutOfRange` if the length is 0: `Arena::copy` requires at least 1.
     fn copy(&mut self, rest: &str) -> Result<String, CaseError> {
         let (to, rest) = first_word(rest);
         let (from, length) = first_word(rest);
@@ -102,8 +104,9 @@ impl MemoryPlayer {
         Ok(done_inside(self.alloc, outcome, "copied")?)
     }
 
-    /// The bytes from an address on as decimal numbers, each loaded by itself, for the words of a line: the address, and how many, at most
-    /// 255. `outside` if the memory does not have one of them.
+    /// Loads bytes one by one from an address on, and returns them as decimal numbers. `rest` has the words of the line: the address, and
+    /// how many bytes, at most 255. The text `outside` if the memory does not have one of them. `Number` if a word is no such number,
+    /// `OutOfRange` if the address of a byte is 2^64 or more.
     fn bytes(&self, rest: &str) -> Result<String, CaseError> {
         let (from, count) = first_word(rest);
         let from = address(from)?;
@@ -124,7 +127,8 @@ impl MemoryPlayer {
         Ok(text)
     }
 
-    /// Plays the line of a call on the memory: the call's name, and the words after it.
+    /// Plays the line of a call on the memory: the call's name, and the words after it. Returns the call's result as text. `UnknownWord` if
+    /// no call has this name.
     pub fn play(&mut self, call: &str, rest: &str) -> Result<String, CaseError> {
         match call {
             "new" => self.begin(rest),

@@ -8,8 +8,8 @@ use cases::{CaseError, bytes_of, bytes_of_size, first_word, shape_of};
 use seeded_hash::HashSeed;
 use std::alloc::Global;
 
-/// The number of the element of a key, given as hex digits, as text; `absent` if the map does not have the key. `size` is the size of the
-/// map's keys.
+/// Finds a key, given as hex digits, in a map. Returns the text `element` with the number of its element, or `absent` if the map does not
+/// have the key. `size` is the size of the map's keys; fails if `digits` are not the hex digits of so many bytes.
 fn find<M: ValueMap>(alloc: Global, map: &M, size: u32, digits: &str) -> Result<String, CaseError>
     requires { size ≡ (M.keys map.now).shape.key_size }
 {
@@ -36,7 +36,8 @@ fn claim<M: ValueMap>(
     Ok(done(alloc, map.claim(&key, flags), "claimed")?)
 }
 
-/// Removes a key, given as hex digits. `size` is the size of the map's keys. Returns `removed`, or the name of the map's fault.
+/// Removes a key, given as hex digits. Returns `removed`, or the name of the map's fault. `size` is the size of the map's keys; `Size` for
+/// a key of another size.
 fn remove<M: ValueMap>(
     alloc: Global,
     map: &mut M,
@@ -49,8 +50,8 @@ fn remove<M: ValueMap>(
     Ok(done(alloc, map.remove(&key), "removed")?)
 }
 
-/// The key that follows the key of these hex digits, or the first key if there are none. `size` is the size of the map's keys; `Size` for a
-/// key of another size.
+/// The key that follows the key of these hex digits, as hex digits too, or the name of the fault if no key follows. If there are no digits,
+/// or the map does not have the key, it is the first key. `size` is the size of the map's keys; `Size` for a key of another size.
 fn next<M: ValueMap>(alloc: Global, map: &M, size: u32, digits: &str) -> Result<String, CaseError>
     requires { size ≡ (M.keys map.now).shape.key_size }
 {
@@ -107,7 +108,8 @@ impl OneMapPlayer {
         Ok(nothing(self.alloc))
     }
 
-    /// Plays the line of a call on the map: the call's name, and the words after it. `NoMap` before the first `map new`.
+    /// Plays a line: `new` and a shape, or a call on the map and the words after its name. Returns what the call returns, as text, and for
+    /// `new` the empty text. `NoMap` for a call before the first `map new`.
     pub fn play(&mut self, call: &str, rest: &str) -> Result<String, CaseError> {
         if call == "new" {
             return self.begin(rest);

@@ -19,6 +19,7 @@ use verifier::{Verified, laws, verify};
 const DESCRIPTOR: u32 = 3;
 
 /// The program of a text in the notation of cases, accepted with a map of this shape at `DESCRIPTOR`. Each map that it loads has the shape.
+/// `Text` if the text does not assemble, `Refused` if the program is rejected, `NoText` if the text is not UTF-8, the errors of `written`.
 fn accepted(alloc: Global, text: &str, shape: MapShape) -> Result<Verified, CaseError>
     ensures { IfOk result (λ program. (i : ℕ) → i < length (maps_of program.code)
         → shapes_in program (slice_index (maps_of program.code) i) ≡ Some shape) }
@@ -35,9 +36,9 @@ fn accepted(alloc: Global, text: &str, shape: MapShape) -> Result<Verified, Case
     Ok(verified)
 }
 
-/// The result of a program, given as text, on this packet and zeros as the other words of the context. `map` is live, and the program has
-/// to load it, by `DESCRIPTOR`: `NoMap` if it loads none. `OutOfRange` if the packet is too long. The run before is ended first on the map,
-/// since a map that is bound to a run may have no element that is kept apart. The values are in part 0 of the memory.
+/// Runs a program, given as text, on this packet, with zeros as the other words of the context, and returns its result. `map` is live, and
+/// the program has to load it, by `DESCRIPTOR`: `NoMap` if it loads none. `OutOfRange` if the packet is too long. First the last run on the
+/// map is ended, since no element of a map may be kept apart when a run begins. The map's values are in part 0 of the arena.
 pub fn run_text(
     alloc: Global,
     text: &str,

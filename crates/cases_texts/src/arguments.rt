@@ -4,8 +4,9 @@ use cases::{CaseError, input_of, outcome, text_of, written};
 use host::{HashSeed, read_shape, run_words};
 use std::alloc::Global;
 
-/// `program`: how the program ends on the arguments and the input of `case`, which are separated by `<`. Any seed will do for its hash
-/// maps.
+/// A line `program`: the text of how `run_words` of `host` ends (`outcome`) on the arguments before the first `<` of `case` and the input
+/// after it. The seed of the hash maps is fixed. `Notation` if there is no `<`, the errors of `written` for the input, and `NoText` if what
+/// `run_words` writes is not UTF-8.
 pub fn ran(alloc: Global, case: &str) -> Result<String, CaseError> {
     let (arguments, text) = input_of(case)?;
     let arguments: Vec<&str> = arguments.split_whitespace().collect(alloc)?;

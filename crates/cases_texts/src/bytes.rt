@@ -33,7 +33,7 @@ pub fn decoded(alloc: Global, text: &str) -> Result<String, CaseError> {
     }
 }
 
-/// `dis`: the text of the program.
+/// `dis`: the text, on one line (`shown`), of the program that the bytes spell; their fault as an error if they spell none.
 pub fn disassembled(alloc: Global, text: &str) -> Result<String, CaseError> {
     let bytes = bytes_of(alloc, text)?;
     let program = read_program(alloc, &bytes)?;
@@ -64,8 +64,8 @@ fn append_place(text: &mut String, program: &Program, slot: usize) -> Result<(),
     }
 }
 
-/// `places`: which instruction begins at each slot of a program, given as hex digits, and after its last slot, or none. This is read from a
-/// clone of a program that is made of the instructions, so that `Program::new` and `clone` are played too.
+/// `places`: for each slot of a program, given as hex digits, and for the slot after its last one, the instruction that begins there, or
+/// `none`. They are read from a clone of a program that is made of the instructions, so that `Program::new` and `clone` are played too.
 pub fn places(alloc: Global, text: &str) -> Result<String, CaseError> {
     let bytes = bytes_of(alloc, text)?;
     let program = read_program(alloc, &bytes)?;
@@ -88,7 +88,8 @@ pub fn made_of_exits(alloc: Global, digits: &str) -> Result<String, CaseError> {
     Ok(answer)
 }
 
-/// Whether the opcode is an instruction's: two slots of zeros but for this opcode either are decoded, or have a fault other than `Opcode`.
+/// Whether an instruction has this opcode: from two slots, zero except for the opcode, `decode` returns an instruction, or a fault other
+/// than `Opcode`.
 fn is_known(opcode: u8) -> bool {
     let mut bytes = [0; 16];
     bytes[0] = opcode;

@@ -13,7 +13,7 @@ fn program_of(alloc: Global, text: &str) -> Result<Program, CaseError> {
     Ok(program)
 }
 
-/// `asm`: the hex lines of the program.
+/// `asm`: the hex lines of the program whose text is given in the notation of cases, on one line (`shown`).
 pub fn assembled(alloc: Global, text: &str) -> Result<String, CaseError> {
     let program = program_of(alloc, text)?;
     let lines = hex_lines(alloc, &program)?;
@@ -21,7 +21,8 @@ pub fn assembled(alloc: Global, text: &str) -> Result<String, CaseError> {
     Ok(answer)
 }
 
-/// `round`: the printed text of the program, if it is read again as the same program, compared by its slots; else that it is another.
+/// `round`: the text to which the program is disassembled. This text is assembled again: if that gives other slots, the result is
+/// `another program`. An error if one of the two texts does not assemble.
 pub fn printed(alloc: Global, text: &str) -> Result<String, CaseError> {
     let program = program_of(alloc, text)?;
     let text = disassemble(alloc, &program)?;

@@ -58,8 +58,8 @@ fn kind_of(text: &str) -> Result<Kind, CaseError> {
     }
 }
 
-/// The facts at program entry with one change. The text `bytes` and a mask changes the lowest stack slot: of its bytes those of the mask
-/// are written. Any other text is a `Kind`: register 0 has it, and if it is a pointer, the lowest stack slot is a spill of it.
+/// The facts at program entry, changed by a text. `bytes` and a mask: of the lowest stack slot exactly the bytes of the mask are written.
+/// Any other text is a kind (`kind_of`): register 0 has it, and if it is a pointer, the lowest stack slot is a spill of it.
 fn facts_of(text: &str) -> Result<Facts, CaseError> {
     let mut facts = Facts::at_entry();
     let (word, rest) = first_word(text);
@@ -75,8 +75,8 @@ fn facts_of(text: &str) -> Result<Facts, CaseError> {
     Ok(facts)
 }
 
-/// What the join of the facts of two texts, with a `|` between them, has for register 0 and for the lowest stack slot; or that `join` and
-/// `join_into` make different facts. `Notation` without a `|`.
+/// Joins the facts of two texts (`facts_of`), which a `|` separates. Returns the kind of register 0 and the lowest stack slot of the join,
+/// as text, or `join and join_into differ` if these two make different facts. `Notation` if the text has no `|`.
 pub fn joined(alloc: Global, text: &str) -> Result<String, CaseError> {
     let (one, other) = text.split_once('|').ok_or(CaseError::Notation)?;
     let (one, other) = (facts_of(one.trim())?, facts_of(other.trim())?);

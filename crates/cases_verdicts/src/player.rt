@@ -23,7 +23,8 @@ impl VerdictPlayer {
         }
     }
 
-    /// The program of a text in the notation of cases, accepted with the open descriptors; `Refused` if it is rejected.
+    /// The verified program to which `text`, in the notation of cases, assembles. `Text` if it does not assemble, `Refused` if it is
+    /// rejected with the open descriptors, and the errors of `written` and `text_of`.
     fn accepted(&self, text: &str) -> Result<Verified, CaseError> {
         let text = written(self.alloc, text)?;
         let program = assemble(self.alloc, text_of(&text)?)?;
@@ -42,14 +43,15 @@ impl VerdictPlayer {
         self.verdict(whole.as_str())
     }
 
-    /// The verdict on the program of `jumping`, for the words of a line: by how many slots each jump goes ahead, and the last instruction.
+    /// The verdict on a program with a jump in every second slot (`jumping`), for the words of a line: by how many slots each jump goes
+    /// ahead at most, and the last instruction.
     fn verdict_of_jumps(&self, text: &str) -> Result<String, CaseError> {
         let (ahead, end) = first_word(text);
         let whole = jumping(self.alloc, ahead.parse()?, end)?;
         self.verdict(whole.as_str())
     }
 
-    /// The maps that an accepted program loads, and its number of slots.
+    /// The descriptors of the maps that the program loads, and its number of slots, as text. It fails like `accepted`.
     fn maps(&self, text: &str) -> Result<String, CaseError> {
         let verified = self.accepted(text)?;
         let maps = verified.maps();
@@ -67,7 +69,7 @@ impl Player for VerdictPlayer {
             "jumps" => self.verdict_of_jumps(rest),
             "maps" => self.maps(rest),
             "join" => joined(self.alloc, rest),
-            // A line that opens a descriptor, `new`, or no line of cases.
+            // Opens a descriptor, or closes all for the word `new`. `UnknownWord` for any other word.
             _ => self.descriptors.play(line),
         }
     }

@@ -120,8 +120,8 @@ fn prog_load(body: &[u8]) -> Result<Command<'_>, BadFrame>
     })
 }
 
-/// Reads the words of the context that a frame has from the front of `bytes`, in order. There are `GIVEN_WORDS`: all words of a context but
-/// the first, the packet's length. The caller has tested that the bytes are there.
+/// Reads the words of a context from the front of `bytes`, in order. A frame has `GIVEN_WORDS` of them: all but the first, the packet's
+/// length. The caller has tested that `bytes` is long enough.
 fn given_words(bytes: &[u8]) -> [u32; GIVEN_WORDS]
     requires { context_length ≤ length bytes.now }
     ensures { result ≡ words given_words bytes.now }

@@ -25,7 +25,8 @@ pub fn encoding_inverts_parsing()
     ensures { EncodingInvertsParsing }
 {}
 
-/// A law: the owner of the frame of a command to a tenant, the number in its first two bytes, is this tenant, if its number is below 2^16.
+/// A law: a tenant whose number is below 2^16 is the owner of each frame of a command to it. The owner of such a frame is the number in
+/// its first two bytes.
 pub fn frames_have_owners()
     ensures { FramesHaveOwners }
 {}

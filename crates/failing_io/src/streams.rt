@@ -117,7 +117,8 @@ struct Stream<'a> {
     write_failures: u64,
 }
 
-/// Serves the stream, and asserts that it ends as it has to, with only the expected bytes written. `case` and `number` are the message.
+/// Serves the stream on a new host of two tenants. Asserts that the result and the numbers of failed calls are those that the stream names,
+/// and that exactly the expected bytes are written. `case` and `number` are the message.
 fn assert_ends(rt: &impl Abort, alloc: Global, case: &str, number: usize, stream: Stream<'_>) {
     let Stream {
         input,
@@ -141,8 +142,8 @@ fn assert_ends(rt: &impl Abort, alloc: Global, case: &str, number: usize, stream
     assert!(rt; found == end && is_written && is_counted, "{case} {number}");
 }
 
-/// A stream of these bytes, all read in one call if there is room, after which the reader does as `then` says; `expected` are the replies.
-/// As made here it has to end after two frames, with no call failed; a case changes the fields in which it differs.
+/// A stream whose reader gives `bytes`, all in one call if the buffer has room, and then does what `then` says; its writer takes all bytes,
+/// and expects `expected`. It has to end after two frames, without a failed call; a case changes the fields in which it differs.
 fn stream_of<'a>(bytes: &'a [u8], then: Then, expected: &'a [u8]) -> Stream<'a> {
     Stream {
         input: Input {
@@ -177,7 +178,8 @@ fn end_of_cut(length: usize) -> (Result<u32, ServeFault>, usize) {
     }
 }
 
-/// Streams that are cut, of which a reader, a writer or a flush fails, that are read or written in pieces, or that have too many frames.
+/// `serve_new_host` ends as expected, and writes the expected bytes, on streams that are cut, that are read or written in pieces, or that
+/// have too many frames, and if a read, a write or a flush fails.
 #[test]
 fn streams_end_and_fail(rt: HostRuntime) {
     let alloc = rt.alloc();

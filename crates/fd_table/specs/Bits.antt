@@ -3,8 +3,8 @@ use Rattle.std.specs.Prelude.{◌≡◌, ℕ, ◌<◌, is_none, List, Option, No
 use Rattle.std.specs.Int.{bit_at}
 use Rattle.fd_table.specs.Table.{most}
 
--- for each index below `most`, the bit of the word there is 0 if the list has None at this index,
--- so that its descriptor is free, and else 1
+-- for each index below `most`, the bit of `word` at this index is 0 if `entries` has None there, so
+-- that the descriptor is free, and else 1
 abbrev pub MarksTaken : {A : Type 0} → ℕ → List (Option A) → Type 0
 MarksTaken word entries =
     (index : ℕ)

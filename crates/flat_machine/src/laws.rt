@@ -27,8 +27,8 @@ pub(crate) fn bytes_fit(bytes: &[u8])
     let _ = bytes.len();
 }
 
-/// A law: if there is a next instruction with these maps and this memory (`HasNext`), there is one with only the maps known, one with only
-/// the memory known, and one with neither. So each arm of `dispatch` requires no more than its step reads.
+/// A law: if the slots begin with an instruction that has a step with these maps and this memory (`HasNext`), then they also do if only the
+/// maps are known, only the memory, or neither. So each arm of `dispatch` requires no more than its step reads.
 #[inline(always)]
 pub(crate) fn has_some_next(maps: BoundMaps, rest: &[RawSlot], registers: &Registers, arena: &Arena)
     requires { HasNext rest.now registers.now
@@ -59,8 +59,8 @@ fn steps_stay_inside()
     bpf_helpers::laws::stores_keep_simulation();
 }
 
-/// The premises of a run's proof: the laws of its steps and of loads of packet bytes, of its start and its end, of maps that are not bound,
-/// and of the maps that a program names.
+/// The premises of a run's proof: the laws of its steps and of loads of packet bytes, of its start and its end; that maps that are not
+/// bound keep their values; that a program's maps are listed; and that elements keep their offsets if the areas are unchanged.
 pub(crate) fn run_premises()
     ensures { RunLaws }
 {

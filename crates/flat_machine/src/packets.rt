@@ -53,7 +53,7 @@ impl<'a> Model for Packets<'a> {
         ≡ None };
 }
 
-/// Whether so many arrays of context words (`contexts`) are one for all packets, or one for each.
+/// Whether `contexts`, a number of arrays of context words, is 1, one array for all packets, or `packets`, one for each.
 #[inline(always)]
 fn are_enough(contexts: usize, packets: usize) -> bool
     ensures { result ≡ are_contexts contexts packets }
@@ -61,10 +61,10 @@ fn are_enough(contexts: usize, packets: usize) -> bool
     contexts == 1 || contexts == packets
 }
 
-/// Whether it is seen at once that packets with these ends are in order, in `many` bytes, and shorter than `LONGEST_PACKET`: the bits of
-/// all lengths and of all ends are collected, without a test for each packet. `LONGEST_PACKET` is a power of two, so all lengths are below
-/// it exactly if the number with all their bits is. A negative length has the highest bit. If the result is `false`, the packets may still
-/// be accepted.
+/// A quick test of all packets at once: if `true`, packets with these ends are in order, in `many` bytes, and shorter than
+/// `LONGEST_PACKET`; if `false`, they may still be accepted, after a test of each. `lengths` has the bits of all lengths, `reach` those of
+/// all ends. `LONGEST_PACKET` is a power of two, so all lengths are below it exactly if `lengths` is. If no end has the highest bit, each
+/// negative length has it.
 #[inline(always)]
 fn are_plain(many: usize, ends: &[usize]) -> bool
     ensures { result ≡ true → packets_fault many 0 ends.now ≡ None }
@@ -100,8 +100,8 @@ fn first_fault(many: usize, ends: &[usize]) -> Option<PacketFault>
     None
 }
 
-/// Why packets with these ends, in `many` bytes, are refused; `None` if they are not. Most are accepted at once (`are_plain`), but not
-/// those with a packet of just `LONGEST_PACKET` bytes: they are tested in turn.
+/// Why packets with these ends, in `many` bytes, are refused; `None` if they are not. If `are_plain` is false for them, `first_fault`
+/// tests each packet. It is also false if a packet has exactly `LONGEST_PACKET` bytes, which is no fault.
 #[inline(always)]
 fn fault_of(many: usize, ends: &[usize]) -> Option<PacketFault>
     ensures { result ≡ packets_fault many 0 ends.now }

@@ -19,8 +19,9 @@ RunsFor fd None inputs room written after = ⊥
 RunsFor fd (Some s) inputs room written after =
     (last : TenantState) × RunsBatch fd s inputs room written last × (after ≡ Some last)
 
--- why a batch is rejected: its tenant is not served, or the tenant's own error; None if it is run.
--- It has `contexts` contexts, `many` bytes of packets with these ends, and room for `room` results
+-- why a batch of the program at descriptor fd is rejected: its tenant is not served (None), or the
+-- tenant's own error; None if the batch is run. The batch has `contexts` contexts, packets that end
+-- at `ends` in `many` bytes, and room for `room` results
 abbrev pub refusal_for : Option TenantState → ℕ → ℕ → ℕ → List ℕ → ℕ → Option Errno
 refusal_for None fd contexts many ends room = Some NotPermitted
 refusal_for (Some s) fd contexts many ends room =

@@ -32,7 +32,8 @@ abbrev pub states_after : List TenantState → List Turn → List TenantState
 states_after before [] = before
 states_after before (turn ∷ turns) = states_after turn.states turns
 
--- turns one after another, from the states before the first to those after the last
+-- the frames of the turns are handled in order (`Handles`), each with the reply and the next states
+-- of its turn: they lead from the states `before` to the states `after`
 abbrev pub HandlesInOrder : List TenantState → List Turn → List TenantState → Type 0
 HandlesInOrder before [] after = after ≡ before
 HandlesInOrder before (turn ∷ turns) after =

@@ -117,8 +117,8 @@ stream_result limit many rest =
     else Err (record { kind = Truncated; frames = many })))
 
 -- No content of a frame ends a stream: if the bytes of the reader are known, no call of the reader
--- or the writer fails, and there is memory for the buffers, the end of a call depends only on the
--- number of frames, and on whether bytes follow them.
+-- or the writer fails, and there is memory for the buffers, the result of `serve` depends only on
+-- `limit`, on the number of frames, and on whether bytes follow them (`stream_result`).
 abbrev pub NoContentEndsAStream : Type 0
 NoContentEndsAStream =
     (limit : ℕ) (result : Result ℕ ServeFault) (old new : StreamState) (bytes : List ℕ)

@@ -71,8 +71,9 @@ abbrev pub AreParts : HostState → ℕ → List (List ℕ) → Type 0
 AreParts host tenant saved = (part : ℕ) → saved_part host tenant part ≡ slice_get saved part
 
 -- All parts of a save of a tenant, one after another, are frames of this tenant, each with its
--- length before it. They restore it: a new tenant that gets them replies as it does. This holds for
--- each tenant with a number of 16 bits, since a frame has no more for it.
+-- length before it. These frames restore the tenant: a new tenant that has handled them replies as
+-- the saved one does (`IsRestoredBy`). Only tenants with a number of 16 bits are meant: a frame has
+-- 16 bits for the number.
 abbrev pub AreRestored : HostState → Type 0
 AreRestored host =
     (tenant : ℕ) (s : TenantState) → tenant < 2 ^ 16 → slice_get host.states tenant ≡ Some s

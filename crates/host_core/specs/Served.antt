@@ -115,8 +115,8 @@ abbrev pub ServesToEnd : StreamState → StreamState → ℕ → Type 0
 ServesToEnd old new count =
     AnswersFrames old new count [] × IsAtEnd new.input × NoCallFailed old new
 
--- the end of a call with a fault, after `count` replies were written whole; at TooManyFrames one
--- more byte was read, and at Memory nothing was done
+-- `old` and `new` are before and after a call that ends with this fault, after `count` replies were
+-- written whole; at TooManyFrames one more byte was read, and at Memory nothing was done
 abbrev pub StopsWithFault : StreamState → StreamState → ServeFaultKind → ℕ → Type 0
 StopsWithFault old new Read count =
     (rest : List ℕ)
@@ -136,8 +136,8 @@ StopsWithFault old new TooManyFrames count =
     (byte : ℕ) × AnswersFrames old new count (byte ∷ []) × NoCallFailed old new
 StopsWithFault old new Memory count = (count ≡ 0) × (new ≡ old)
 
--- at any fault but Write, which cuts a reply, `ServesAlone` holds of the frames before it, as of
--- those of a whole stream
+-- at a fault other than Write, `ServesAlone` holds of the `count` frames before it and some
+-- rest; at Write, which cuts a reply, this claims nothing
 abbrev pub StopsAlone : StreamState → StreamState → ServeFaultKind → ℕ → Type 0
 StopsAlone old new kind count = kind ≢ Write → (rest : List ℕ) × ServesAlone old new count rest
 
@@ -146,11 +146,12 @@ StopsAlone old new kind count = kind ≢ Write → (rest : List ℕ) × ServesAl
 pub record IsFlushedAgain (old new : StreamState) : Type 0 where
   pub again : old.flushed ≡ true → new.flushed ≡ true
 
--- A call of `serve` that allows `limit` frames, from the state before it to the state after it.
--- With Ok, `done` and `alone`: the input is at its end. With a fault, `fault` and `alone_before`:
--- what happened until then. `alone` and `alone_before` are about the tenants to which no memory was
--- refused. If everything was flushed before the call, then at each end but a fault of the writer
--- all replies are flushed; so they are before anything more is read.
+-- A call of `serve` that allows `limit` frames leads from the state `old` to the state `new`. With
+-- Ok, the input is at its end (`done`). With a fault, `fault` says what was read and written before
+-- it. `alone` and `alone_before` are about the tenants to which no memory was refused. At most
+-- `limit` frames got replies: fewer if the input ends inside a frame, exactly `limit` at
+-- TooManyFrames. If everything was flushed before the call, everything is flushed after it, unless
+-- the fault is one of the writer.
 pub record ServesStream (limit : ℕ) (result : Result ℕ ServeFault)
     (old new : StreamState) : Type 0 where
   pub done : IfOk result (λ count. ServesToEnd old new count)

@@ -16,7 +16,7 @@ abbrev pub read_failures : {E : Type 0} → Result ℕ E → ℕ
 read_failures (Ok n) = 0
 read_failures (Err e) = 1
 
--- 1 if a write failed, else 0; one that takes none of at least one byte counts as failed too
+-- 1 if a write failed, else 0; a write of one or more bytes that takes none counts as failed too
 abbrev pub write_failures : {E : Type 0} → Result ℕ E → List ℕ → ℕ
 write_failures (Ok n) bytes = if n == 0 && not (length bytes == 0) then 1 else 0
 write_failures (Err e) bytes = 1

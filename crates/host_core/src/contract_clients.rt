@@ -38,7 +38,8 @@ fn serve_from_the_beginning<R: Source, W: Sink>(
     serve_new_host(alloc, tenants, HashSeed::new(0, 0), reader, writer, 100).ok()
 }
 
-/// Whatever streams a host served, the saved parts of each of its tenants restore this tenant.
+/// A host in any state serves a stream, to its end or to a fault. Then all parts of a save of each tenant, one after another, restore this
+/// tenant.
 fn serve_and_save<R: Source, W: Sink>(
     alloc: Global,
     host: &mut Host,
@@ -53,9 +54,9 @@ fn serve_and_save<R: Source, W: Sink>(
     host.tenants_are_restored();
 }
 
-/// Two frames are handled: `refused`, to which memory may be refused, and `next`, whose reply `reply` has at the end. Unless the status of
-/// this reply is `NoMemory`, it is exactly the reply of its tenant's own machine from the state between the two frames, even if memory was
-/// refused to the tenant by then.
+/// Handles two frames: `refused`, for which memory may be refused, and `next`. At the end `reply` has the reply to `next`. Unless its
+/// status is `NoMemory`, it is exactly the reply of the tenant's own machine from the state between the two frames, even if memory was
+/// refused to the tenant before.
 fn handle_after_a_refusal(host: &mut Host, refused: &[u8], next: &[u8], reply: &mut ReplyBuf)
     ensures { (first : List ℕ) × (between : List TenantState)
         × Handles host.old.states refused.now first between
@@ -74,7 +75,7 @@ fn tenants_of_the_largest_host() -> usize
     MOST_TENANTS
 }
 
-/// The limit on the frames of a call in the code is that of the definitions, `most_frames`.
+/// The limit on the frames of a call of `serve` is the same in the code and in the definitions (`most_frames`).
 fn frames_of_the_longest_call() -> u32
     ensures { result ≡ most_frames }
 {

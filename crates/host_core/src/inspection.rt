@@ -15,7 +15,8 @@ use tagged_model::Named;
 use tenant::{Cost, Counts, Described};
 
 impl Host {
-    /// The tenant of this number; `None` if it is not served. Its state is made of it and of `part`, the bytes of its part of the arena.
+    /// The stored tenant of this number; `None` if the number is not served. With the bytes of the tenant's part of the arena (`part`), it
+    /// represents the tenant's state.
     fn kept(&self, tenant: usize) -> Option<&SavableTenant>
         ensures { (part : List ℕ) × (slice_get self.now.states tenant
             ≡ option_map (λ kept. tenant_state part kept.now) result) }
@@ -45,8 +46,8 @@ impl Host {
         }
     }
 
-    /// The cost of the program that the descriptor `fd` of `tenant` names: the most instructions, and the most calls, on a path through it.
-    /// `None` if `fd` names no program, and for a number that is not served.
+    /// The cost of the program that the descriptor `fd` of `tenant` names: the most instructions, and the most calls of helpers, on a path
+    /// through it. `None` if `fd` names no program, or if the tenant is not served.
     pub fn program_cost(&self, tenant: usize, fd: u32) -> Option<Cost>
         ensures { HasCostAt (slice_get self.now.states tenant) fd result }
     {
@@ -56,10 +57,10 @@ impl Host {
         }
     }
 
-    /// How many of the `packets` of a batch a bound allows. Each run of the program at the descriptor `fd` of `tenant` counts for its most
-    /// instructions, and `CALL_WEIGHT` (of the crate `tenant`) more for each call of a helper. As many packets are allowed as count for at
-    /// most `bound` together, but at least one, if there is one. All are allowed if `bound` is 0, and if the tenant is not served or the
-    /// descriptor names no program: such a batch is rejected as a whole.
+    /// How many of the `packets` of a batch a bound allows. A run of the program at the descriptor `fd` of `tenant` has a weight: the most
+    /// instructions that it executes, plus `CALL_WEIGHT` (of the crate `tenant`) times the most calls of helpers that it makes. The result
+    /// is `bound` divided by the weight, but at least 1, and at most `packets`. It is `packets` if `bound` is 0; also if the tenant is not
+    /// served or the descriptor names no program, since such a batch is rejected as a whole.
     #[tactic(auto, using(crate::proofs::Allowed::no_bound_allows_all))]
     pub fn allowed_packets(&self, tenant: usize, fd: u32, bound: u64, packets: usize) -> usize
         ensures allowed { IsAllowedFor (slice_get self.now.states tenant) fd bound packets result }

@@ -5,8 +5,9 @@ ghost use Rattle.host_core.specs.Saving.{TenantsAreRestored};
 ghost use Rattle.host_core.specs.Laws.{UnrefusedAreServedAlone, CallsAreServedAlone, EachIsServedAloneUntilRefused};
 ghost use Rattle.host_core.specs.Laws.{EachStretchIsServedAlone, SameFramesSameReplies, SameFramesSameOutput, NoContentEndsAStream};
 
-/// A law, for a stream whose contract allows refused memory (`done`, `fault` of `serve`): each tenant to which no memory was refused gets
-/// exactly the replies of its own machine, whatever was refused to others.
+/// A law, for a caller of `serve`, whose contract allows refusals of memory (`done`, `fault` of `ServesStream`). If each tenant gets
+/// replies that its own machine may give with refusals, then each tenant to which no memory was refused gets exactly those that its machine
+/// gives without refusals, whatever was refused to others.
 pub fn unrefused_are_served_alone()
     ensures { UnrefusedAreServedAlone }
 {
@@ -22,8 +23,8 @@ pub fn calls_are_served_alone()
     unrefused_are_served_alone();
 }
 
-/// A law, by which a later refusal changes nothing in earlier replies. After each number of calls of `Host::handle`, each tenant to which
-/// no memory was refused until then got exactly the replies of its own machine, whatever is refused to it later, and to others.
+/// A law, by which a later refusal changes nothing in earlier replies. After any number of calls of `Host::handle`, each tenant to which
+/// no memory has been refused so far has got exactly the replies of its own machine, whatever is refused to others, or later to it.
 pub fn each_is_served_alone_until_refused()
     ensures { EachIsServedAloneUntilRefused }
 {

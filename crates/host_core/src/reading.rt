@@ -181,9 +181,9 @@ fn read_body<S: Source>(
     }
 }
 
-/// Reads a length and then a frame to the front of `buffer`, and returns how many bytes of the buffer have to be handled: those of the
-/// frame. If it is longer than the buffer, the whole buffer has to be handled, and only its first four bytes, the head, are sure to be the
-/// frame's. `None` if the input ends before a frame. `Truncated` if it ends inside one, `Read` if a call of the reader failed.
+/// Reads a length and then a frame to the front of `buffer`, and returns the frame's length. If the frame is longer than the buffer, only
+/// its head, four bytes, is kept; later bytes of the buffer may be any. The result is then the buffer's length, too long for a valid frame.
+/// `None` if the input ends before a frame. `Truncated` if it ends inside one, `Read` if a call of the reader failed.
 pub(crate) fn read_frame<S: Source>(
     reader: &mut S,
     buffer: &mut [u8],

@@ -120,8 +120,8 @@ impl<W: Write> Sink for Counted<W> {
 
     ghost failures = { λ c. c.failures };
 
-    /// Writes to the writer of std, and counts the call as failed if it returns an error, or takes no byte although `bytes` has some: both
-    /// end a stream. After the call not everything counts as flushed, even if it failed.
+    /// Writes to the writer of std and returns its outcome. The call counts as failed if the outcome is an error, or 0 although `bytes` is
+    /// not empty: both end a stream. After each call, a failed one too, the output counts as not flushed.
     fn write(&mut self, bytes: &[u8]) -> io::Result<usize> {
         self.is_flushed = false;
         let outcome = self.inner.write(bytes);

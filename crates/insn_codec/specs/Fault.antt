@@ -8,7 +8,7 @@ use Rattle.insn_set.specs.declared.insn.Insn.{Insn}
 use Rattle.insn_set.specs.Slot.{slot_bytes}
 use Rattle.insn_set.specs.Spelling.{first, spelling, IsInsn, IsInsnUpTo, Begins}
 
--- the first byte is that of an instruction
+-- the first byte is the opcode of an instruction
 abbrev pub HasOpcode : List ℕ → Type 0
 HasOpcode bytes = (i : Insn) × IsInsn i × (slice_index bytes 0 ≡ slice_index (spelling i) 0)
 

@@ -48,8 +48,8 @@ pub(crate) fn check_fields(is_listed: bool, slot: &RawSlot) -> Result<(), FaultK
 
 /// Reads an operation on two operands, of 64 bits (`wide`) or 32, into `entry`; it has no second slot (`None`). `op` is the operator that
 /// the opcode has at offset 0. Another offset makes a division or a remainder signed; of a move it is the number of bits from which the
-/// sign is extended, 8, 16 or 32: `check_fields` lets no other pass, so `_` is 32. `source` says which field has the second operand. The
-/// faults are those of that call: `Reserved`, `Register`.
+/// sign is extended, 8, 16 or 32: `check_fields` rejects any other, so `_` is 32. `source` says which field has the second operand. The
+/// faults are those of `check_fields`: `Reserved`, `Register`.
 #[inline(always)]
 fn read_operation(
     wide: bool,
@@ -289,8 +289,8 @@ fn read_exit(entry: &mut Insn, slot: &RawSlot) -> Result<Option<RawSlot>, FaultK
 
 /// Reads an unconditional jump (code 0, the upper four bits of the opcode), a call (code 8) or the exit (code 9) into `entry`; it has no
 /// second slot (`None`). `wide` is true of class JMP, which has all three, false of JMP32, which has only the jump. No condition has the
-/// opcode's code (precondition `code`). So an opcode without an arm here is no instruction's, and the fault is `Opcode`; the other fault is
-/// `Reserved`.
+/// opcode's code (precondition `code`), so no instruction has an opcode without an arm here, and the fault is `Opcode`. The fault is
+/// `Reserved` if a field that the instruction does not use is not 0.
 fn read_unconditional(
     wide: bool,
     entry: &mut Insn,

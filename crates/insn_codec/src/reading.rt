@@ -58,8 +58,8 @@ fn read_wide(entry: &mut Insn, slot: &RawSlot, dst: Reg, rest: &[u8]) -> Result<
 }
 
 /// Reads an instruction of class LD into `entry`: a wide load, whose opcode is 0x18. `slot` is its first slot, and `rest` the bytes after
-/// that. Returns its second slot, never `None`. The fault of any other opcode is `Opcode`; the others are `Reserved` and `Register`, by
-/// `check_fields`, and `SecondSlot`.
+/// that. Returns its second slot, never `None`. The fault is `Opcode` if the opcode is another, else that of `check_fields` (`Reserved` or
+/// `Register`), else that of `read_wide` (`SecondSlot`).
 #[tactic(auto, unfolding(crate::specs::inside::Form::form_at))]
 fn read_class_ld(
     entry: &mut Insn,
@@ -142,8 +142,8 @@ fn read_front(entry: &mut Insn, bytes: &[u8]) -> Result<(), FaultKind>
 ///
 /// # Errors
 ///
-/// Always at slot 0: `Ragged` if there are fewer than eight bytes, else the lowest of `Opcode`, `Reserved`, `Register` and
-/// `SecondSlot` that applies (RFC 9669, section 3: unused fields are zero).
+/// Always at slot 0: `Ragged` if there are fewer than eight bytes, else the first that applies, in this order, of `Opcode`, `Reserved`,
+/// `Register` and `SecondSlot` (RFC 9669, section 3: unused fields are zero).
 pub fn decode(bytes: &[u8]) -> Result<(Insn, usize), CodecFault>
     // The bytes begin with the spelling of the instruction that is returned.
     ensures found { IfOk result (λ found. IsInsn found.0 × Begins found.0 bytes.now

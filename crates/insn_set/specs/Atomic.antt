@@ -12,8 +12,8 @@ use Rattle.insn_set.specs.declared.atomic.AtomicSize.TheVariants as size
 use Rattle.insn_set.specs.declared.atomic.AtomicOp.{AtomicOp}
 use Rattle.insn_set.specs.declared.atomic.AtomicOp.TheVariants as atomic
 
--- the immediate that names an atomic operation: 16 times the code of the operator on registers, as
--- in an opcode
+-- the immediate that names an atomic operation: its bits 4 to 7 are those of the opcode of the same
+-- operator on registers, the others are 0
 abbrev pub atomic_number : AtomicOp → ℕ
 atomic_number atomic.Add = 0x00
 atomic_number atomic.Or = 0x40

@@ -72,9 +72,9 @@ jump_target i at = target_by (profile i).successors at
 
 -- ---- what it writes and names
 
--- the register that an instruction writes; None if it writes none, as an atomic operation (those
--- that fetch are no instructions here), and for a call, whose effect on registers 0 to 5 is not in
--- its row
+-- the register that an instruction writes; None if it writes none, as an atomic operation does (one
+-- that fetches is no instruction here). A call has None too: its profile does not have the
+-- registers that it changes, 0 to 5
 abbrev pub written_register : Insn → Option ℕ
 written_register i = (profile i).written
 

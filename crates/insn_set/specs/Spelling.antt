@@ -22,7 +22,8 @@ abbrev pub source_bit : Operand → ℕ
 source_bit (Imm n) = 0
 source_bit (Reg r) = 1
 
--- the source register's field of an operand: the register, or 0 with a constant (section 3.1)
+-- the source field of a slot with this operand: the number of the register, or 0 for a constant
+-- (section 3.1)
 abbrev pub src_field : Operand → ℕ
 src_field (Imm n) = 0
 src_field (Reg r) = r

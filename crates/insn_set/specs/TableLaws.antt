@@ -22,7 +22,8 @@ found_number test (row ∷ rows) n v all e =
       | false ↦ λ _ e. found_number test rows n v more e
     ] refl e
 
--- if each row has its value's number, the value that is found by a number has this number
+-- if the number in each row is `number` of the row's value, then a value that is found by n has the
+-- number n
 pub number_of : {A : Type 0} (number : A → ℕ) (rows : List (Row A)) (n : ℕ) (v : A)
     → list_all (λ row. eqb (number row.0) row.1) rows ≡ true
     → by_number rows n ≡ Some v
@@ -58,7 +59,7 @@ pub symbol_of : {A : Type 0} (symbol : A → List ℕ) (rows : List (Row A)) (s 
 symbol_of symbol rows s v all e =
     is_eq (symbol v) s (found_symbol (λ v s. bytes_eq (symbol v) s) rows s v all e)
 
--- if each row's name and value pass a test, so does a value that is found by its name
+-- if each row's name and value pass a test, so do a name and the value that is found by it
 pub found_named : {A : Type 0} (test : List ℕ → A → Bool) (table : List (List ℕ × A)) (n : List ℕ)
     (v : A)
     → list_all (λ row. test row.0 row.1) table ≡ true
@@ -74,7 +75,8 @@ found_named test (row ∷ table) n v all e =
       | false ↦ λ _ e. found_named test table n v more e
     ] refl e
 
--- if each row has its value's name, the value that is found by a name has this name
+-- if the name in each row is `name` of the row's value, then a value that is found by n has the
+-- name n
 pub name_of : {A : Type 0} (name : A → List ℕ) (table : List (List ℕ × A)) (n : List ℕ) (v : A)
     → list_all (λ row. bytes_eq (name row.1) row.0) table ≡ true
     → named table n ≡ Some v

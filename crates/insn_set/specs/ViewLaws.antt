@@ -13,7 +13,8 @@ pub profile_slots : (i : Insn) → (profile i).slots ≡ length (slots i)
 profile_slots (Alu wide op dst src) = refl
 profile_slots _ = refl
 
--- if an instruction's numbers are in range, a number that it loads has 64 bits (`IsView`)
+-- if the numbers of an instruction fit their fields (`IsInsn`), the 64-bit number that its view
+-- loads, if it loads one, is less than 2 ^ 64 (`IsView`)
 pub view_is : (i : Insn) → IsInsn i → IsView (view i)
 view_is (Const dst value) h = h.1
 view_is _ h = tt

@@ -183,8 +183,8 @@ impl Insn {
         self.profile().slots
     }
 
-    /// A law, for proofs that have an instruction of the code: its numbers lie in the ranges of its fields. Each arm only names these
-    /// numbers, which their types bound, or calls a function whose contract bounds them. It does nothing when it runs.
+    /// A law: the numbers of an `Insn` lie in the ranges of its fields (`IsInsn`). Each arm only names these numbers, which their types
+    /// bound, or calls a function whose contract bounds them. It does nothing when it runs.
     pub fn in_range(&self)
         ensures { IsInsn self.now }
     {

@@ -29,7 +29,7 @@ pub fn load_by_opcode(opcode: u8) -> Option<(bool, AccessSize)>
     by_number(&LOADS, u32::from(opcode))
 }
 
-/// By a size's name in a line of text: whether the access extends the sign, and the size. `None` if no load has the name.
+/// The load that has this name of a size in a line of text: whether it extends the sign, and its size. `None` if no load has the name.
 pub fn size_by_name(name: &str) -> Option<(bool, AccessSize)>
     ensures value { result ≡ size_by_name name.now }
     ensures inverse { IfSome result (λ l. size_name l.0 l.1 ≡ name.now) }

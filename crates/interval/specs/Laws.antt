@@ -13,7 +13,8 @@ use Rattle.interval.specs.Refine.{RangePair, refined, IsPairOn}
 abbrev pub IsOfWords : Range → Type 0
 IsOfWords r = r.hi < 2 ^ 64
 
--- the result on n bits of two members is a member of the range that the table (`range_of`) gives
+-- the result of an operator on n bits for members x and y of two ranges of words is a member of the
+-- range that the table (`range_of`) gives for these ranges
 abbrev pub ResultsAreMembers : ℕ → Type 0
 ResultsAreMembers n =
     (op : Operator) (a b : Range) (x y : ℕ)
@@ -45,7 +46,7 @@ abbrev pub IsPairOfWords : Option RangePair → Type 0
 IsPairOfWords None = Unit {0}
 IsPairOfWords (Some p) = IsOfWords p.0 × IsOfWords p.1
 
--- the ranges on both edges of a comparison on n bits of ranges of words are ranges of words
+-- a comparison on n bits refines two ranges of words to ranges of words, on each of its edges
 abbrev pub EdgesAreWords : ℕ → Type 0
 EdgesAreWords n =
     (condition : Condition) (a b : Range)

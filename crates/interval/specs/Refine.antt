@@ -13,7 +13,8 @@ use Rattle.interval.specs.Ranges.{span, is_constant, IsMember}
 abbrev pub RangePair : Type 0
 RangePair = Range × Range
 
--- the ranges on an edge with the operands swapped: a below b is b above a
+-- the ranges of an edge in the other order, since a below b is refined as b above a; None if the
+-- edge can't be taken
 abbrev pub swapped : Option RangePair → Option RangePair
 swapped None = None
 swapped (Some p) = Some (p.1, p.0)
@@ -36,8 +37,8 @@ if_equal a b =
     let hi = min a.hi b.hi in
     if nat_le lo hi then Some (span lo hi, span lo hi) else None
 
--- the edge on which the operands differ: if one range has only one member, the other loses this
--- number at its ends; None if it is the only member of both
+-- the ranges on the edge on which the operands differ: if one range has only one member, and this
+-- is an end of the other range, the other loses it; None if it is the only member of both
 abbrev pub if_different : Range → Range → Option RangePair
 if_different a b =
     if is_constant b then option_map (λ r. (r, b)) (except a b.lo) else

@@ -76,14 +76,15 @@ scaled_range n a k =
 abbrev pub shift_left_range : ℕ → Range → Range → Range
 shift_left_range n a b = if is_constant b then scaled_range n a (b.lo % n) else full n
 
--- the range of the members of a shifted right by members of b, with zeros from the left; from 0 to
--- the greatest member of a if b is not one number, as a shift by 0 leaves a member as it is
+-- the range of the members of a shifted right by members of b, modulo n, with zeros from the left;
+-- from 0 to the greatest member of a if b is not one number, as a shift by 0 changes no member
 abbrev pub shift_right_range : ℕ → Range → Range → Range
 shift_right_range n a b =
     if is_constant b then span (a.lo / 2 ^ (b.lo % n)) (a.hi / 2 ^ (b.lo % n)) else span 0 a.hi
 
--- the range of the members of a shifted right by members of b, with the sign bit copied: all
--- numbers if the sign bit of a member may be 1, else as for a shift with zeros
+-- the range of the members of a shifted right by members of b, as words of n bits, with the sign
+-- bit copied: all numbers of n bits if the sign bit of a member may be 1, else as for a shift with
+-- zeros
 abbrev pub signed_shift_right_range : ℕ → Range → Range → Range
 signed_shift_right_range n a b =
     if nat_lt a.hi (2 ^ (n - 1)) then shift_right_range n a b else full n
@@ -111,8 +112,9 @@ alu_range n Xor a b = xor_range a b
 alu_range n Mov a b = b
 alu_range n SignedShiftRight a b = signed_shift_right_range n a b
 
--- the range of the results of an operator on n bits, by the ends of its operands' ranges; a change
--- of sign may give all numbers of n bits, a byte-order conversion all of the bits that it keeps
+-- the range of the results of an operator on n bits, by the ends of its operands' ranges: for a
+-- change of sign all numbers of n bits, for a byte-order conversion all numbers of as many bits as
+-- it keeps
 abbrev pub general_range : ℕ → Operator → Range → Range → Range
 general_range n (Binary op) a b = alu_range n op a b
 general_range n Neg a b = full n
@@ -135,8 +137,9 @@ are_constants Neg a b = is_constant a
 are_constants (SignExtend from) a b = is_constant b
 are_constants (End how kept) a b = is_constant a
 
--- the range of the results on n bits, for operands of as many bits as the operator reads: one
--- number, the result, if each operand that it reads is one number, else by the ends of the ranges
+-- the range of the results on n bits, for operands in a and b, which have as many bits as the
+-- operator reads. If each operand that it reads is one number, it has only their result; else it is
+-- computed from the ends of a and b (`general_range`)
 abbrev pub result_range : ℕ → Operator → Range → Range → Range
 result_range n op a b =
     if are_constants op a b then constant (combined n op a.lo b.lo) else general_range n op a b

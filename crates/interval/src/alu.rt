@@ -26,8 +26,9 @@ pub fn alu64(op: Operator, a: Range, b: Range) -> Range
     }
 }
 
-/// The range of the results of an operator of two operands on 64 bits: one number if each operand that `op` reads is one, else that of
-/// `alu_range`. Most operators are such: with a function of their own, one test, in `alu64`, separates them from those of one operand.
+/// The range of the results of an operator of two operands on 64 bits: one number if the range of each operand that `op` reads has only one
+/// number, else that of `alu_range`. Most operators have two operands. They have this function of their own, so that `alu64` separates them
+/// by one test from those of one operand.
 fn binary64(op: AluOp, a: Range, b: Range) -> Range
     ensures exact { result ≡ range_of 64 (Binary op) a b }
     ensures sound { (x y : ℕ) → IsMember x a → IsMember y b
@@ -98,7 +99,8 @@ fn are_constants(op: Operator, a: Range, b: Range) -> bool
     }
 }
 
-/// Whether the range of each operand that `op`, an operator of two operands, reads has only one member: a move only reads the second.
+/// Whether all operands that `op` reads are constants: their ranges, `a` and `b`, have one member each. A move reads only the second
+/// operand.
 fn are_alu_constants(op: AluOp, a: Range, b: Range) -> bool
     ensures { result ≡ are_alu_constants op a b }
 {

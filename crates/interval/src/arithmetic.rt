@@ -41,8 +41,8 @@ pub(crate) fn difference(wide: bool, a: Range, b: Range) -> Range
     }
 }
 
-/// The range of the products of members, numbers of 64 bits (`wide`) or 32, modulo 2^64 or 2^32: all numbers if the greatest wraps, which
-/// is so if it has more than 64 bits (`checked_mul`) or is above the greatest number of the width.
+/// The range of the products of a member of `a` and one of `b`, modulo 2^64 (`wide`) or 2^32. It is all numbers of this width if the
+/// greatest product is above the greatest of them. `checked_mul` gives `None` for a product of more than 64 bits.
 pub(crate) fn product(wide: bool, a: Range, b: Range) -> Range
     requires first { a.hi < 2 ^ width wide }
     requires second { b.hi < 2 ^ width wide }

@@ -42,7 +42,8 @@ pub fn refine(condition: Condition, wide: bool, a: Range, b: Range) -> (Edge, Ed
     }
 }
 
-/// The edge with the ranges of its operands swapped, as `a` below `b` is refined as `b` above `a`; `None` if the edge is.
+/// The edge with the ranges of its two operands swapped; `None` if `edge` is `None`. `refine` uses it to refine `a` below `b` as `b` above
+/// `a`.
 fn swapped(edge: Edge) -> Edge
     ensures { result ≡ swapped edge }
 {
@@ -110,8 +111,8 @@ fn if_above(a: Range, b: Range) -> Edge
     Some((above, below))
 }
 
-/// The edge on which the first operand is at most the second: the first is at most the greatest member of `b`, the second at least the
-/// least of `a`. `None` if all members of `a` are above those of `b`.
+/// The ranges of the operands on the edge on which the first, of range `a`, is at most the second, of range `b`: the first is also at most
+/// the greatest member of `b`, the second at least the least of `a`. `None` if all members of `a` are above those of `b`.
 fn if_at_most(a: Range, b: Range) -> Edge
     ensures { result ≡ if_at_most a b }
 {

@@ -3,22 +3,22 @@
 ghost use Rattle.interval.specs.Laws.{ResultsAreMembers, ResultsAreWords, EdgesKeepMembers};
 ghost use Rattle.interval.specs.Laws.{EdgesAreWords, HullHoldsBoth, HullIsLeast, HullCommutes, HullAssociates};
 
-/// A law, for the soundness of a transfer function: the result of two members, on 64 bits (`wide`) or 32 (`narrow`), is a member of the
-/// range that the table of ranges (`range_of`) gives.
+/// A law, for the soundness of a transfer function: the result of an operator, on 64 bits (`wide`) or 32 (`narrow`), on members of two
+/// ranges of words is a member of the range that the table of ranges (`range_of`) gives for these ranges.
 pub fn results_are_members()
     ensures wide { ResultsAreMembers 64 }
     ensures narrow { ResultsAreMembers 32 }
 {}
 
-/// A law, so that facts have only ranges of words: the range that the table of ranges (`range_of`) gives for ranges of words is a range of
-/// words, on 64 bits (`wide`) and on 32 (`narrow`).
+/// A law, so that facts have only ranges of words, of 64 bits: for two ranges of words the table of ranges (`range_of`) gives a range of
+/// words, for operators on 64 bits (`wide`) and on 32 (`narrow`).
 pub fn results_are_words()
     ensures wide { ResultsAreWords 64 }
     ensures narrow { ResultsAreWords 32 }
 {}
 
-/// A law, for the soundness of a transfer function: two members that take an edge of a comparison, on 64 bits (`wide`) or 32 (`narrow`),
-/// are members of the ranges on it.
+/// A law, for the soundness of a transfer function: if a member of each of two ranges of words takes an edge of a comparison, on 64 bits
+/// (`wide`) or 32 (`narrow`), each is a member of its range as refined on that edge.
 pub fn edges_keep_members()
     ensures wide { EdgesKeepMembers 64 }
     ensures narrow { EdgesKeepMembers 32 }

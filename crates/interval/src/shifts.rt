@@ -16,8 +16,8 @@ fn places(wide: bool, by: u64) -> u64
     if wide { by % 64 } else { by % 32 }
 }
 
-/// The range of the members of `a`, numbers of 64 bits (`wide`) or 32, shifted left by `places` bits, which the function of that name has
-/// reduced modulo the width; all numbers if the greatest member loses a bit, that is, no longer fits the width.
+/// The range of the members of `a`, numbers of 64 bits (`wide`) or 32, shifted left by `places` bits; all numbers of that width if the
+/// shifted greatest member does not fit it. `shift_left` gets `places` from the function of this name, so it is below the width.
 fn scaled(wide: bool, a: Range, places: u64) -> Range
     requires first { a.hi < 2 ^ width wide }
     requires bound { places < 64 }
@@ -30,8 +30,8 @@ fn scaled(wide: bool, a: Range, places: u64) -> Range
     }
 }
 
-/// The range of the members of `a`, numbers of 64 bits (`wide`) or 32, shifted left by members of `b`: all numbers of the width unless `b`
-/// is a constant and no member loses a bit.
+/// The range of the members of `a`, numbers of 64 bits (`wide`) or 32, shifted left by members of `b` modulo that width. It is all numbers
+/// of the width if `b` is no constant, or if a shifted member does not fit the width.
 pub(crate) fn shift_left(wide: bool, a: Range, b: Range) -> Range
     requires { a.hi < 2 ^ width wide }
     ensures { result ≡ shift_left_range (width wide) a b }
@@ -68,8 +68,8 @@ pub(crate) fn signed_shift_right(wide: bool, a: Range, b: Range) -> Range
     }
 }
 
-/// The range of the members of `b` extended by the sign of their low `from` bits to 64 bits (`wide`) or 32: the members themselves if all
-/// fit into these bits with sign bit 0 (at most `positive`), else all numbers of the width.
+/// The range of the members of `b` after their low `from` bits are sign-extended to 64 bits (`wide`) or 32. It is `b` if all members are at
+/// most `positive`, the greatest number of these bits with sign bit 0; else it has all numbers of the width.
 pub(crate) fn sign_extend(wide: bool, from: ExtendedBits, b: Range) -> Range
     ensures { result ≡ sign_extend_range (width wide) (extended_bits from) b }
 {

@@ -24,8 +24,9 @@ abbrev pub SaysNoProgram : CodecFault → Bool → List ℕ → Type 0
 SaysNoProgram fault accepted text =
     (accepted ≡ false) × (text ≡ refusal_text (refusal_of_slots fault) ++ 10 ∷ [])
 
--- `slots` are the bytes of a program, and this is its log; or they have a fault of the codec, and
--- `text` is the line of their refusal
+-- `slots` are the bytes of a program, whose verdict and log are `accepted` and `text` as by
+-- `IsLogOfProgram`; or they have a fault of the codec, `accepted` is false, and `text` is the line
+-- of their refusal
 abbrev pub IsLogOfSlots : List ℕ → List Named → LogStyle → Bool → List ℕ → Type 0
 IsLogOfSlots slots named style accepted text =
     ((code : List Insn)

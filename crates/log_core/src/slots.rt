@@ -30,8 +30,8 @@ fn refused(alloc: Global, fault: CodecFault) -> Result<SlotsLog, AllocError>
     })
 }
 
-/// The log of the program that slots spell, if descriptors name the objects of `named`: that of `log_of`, without its facts. The error is
-/// out of memory.
+/// The log of a program, if descriptors name the objects of `named`, as lines or as a graph (`style`): that of `log_of`, without its facts.
+/// The error is out of memory.
 fn logged(
     alloc: Global,
     program: &Program,
@@ -50,7 +50,7 @@ fn logged(
 }
 
 /// The log of the program that the bytes of slots spell, if descriptors name the objects of `named`. If the bytes spell no program, the log
-/// is the line of their refusal. The fault `Memory` is none of the bytes, so it is returned as an error.
+/// is the line of their refusal. If decoding them runs out of memory (the fault `Memory`), that is an error, no refusal.
 ///
 /// # Errors
 ///

@@ -48,15 +48,16 @@ abbrev pub IsRefusedWith : List Insn → List Named → List KnownFacts → Veri
 IsRefusedWith code named known fault =
     IsMisshapen code named known fault ⊎ IsUnsafe code named known fault
 
--- the verdict is that of the program, its cost or the fault for which it is rejected, and `known`
--- has the facts that go with it
+-- this is the verdict on the program: its cost, or the fault for which it is rejected. `known` has
+-- the facts before all slots that a run may reach; for a fault of safety those up to its slot, and
+-- none for a fault of the shape
 abbrev pub IsJudged : List Insn → List Named → List KnownFacts → Result Cost VerifyFault → Type 0
 IsJudged code named known (Ok cost) = IsAcceptedWith code named known × IsCostOf cost code
 IsJudged code named known (Err fault) = IsRefusedWith code named known fault
 
--- the Boolean, which a log has, is whether the program is accepted, and `known` has the facts that
--- go with this verdict; of a rejected program those that go with its fault, which the log does not
--- have
+-- the Boolean is whether the program is accepted, and `known` has the facts that go with this
+-- verdict. For a rejected program these are the facts for its fault (`IsRefusedWith`), which is not
+-- named, since a log does not have it
 abbrev pub IsLogged : List Insn → List Named → Bool → List KnownFacts → Type 0
 IsLogged code named true known = IsAcceptedWith code named known
 IsLogged code named false known = (fault : VerifyFault) × IsRefusedWith code named known fault

@@ -19,8 +19,8 @@ pub struct Edges {
     pub jumping: Facts,
 }
 
-/// Sets `ranges`, those of both operands of a comparison, that of `dst` first, in the facts on one of its edges, and returns `true`. With
-/// `None` no run takes the edge: then the facts are unchanged, and it returns `false`.
+/// Refines the facts on one edge of a comparison: sets the range of `dst` to the first of `ranges`, and that of `src`, if it is a register,
+/// to the second, and returns `true`. If `ranges` is `None`, no run takes the edge: the facts are unchanged, and it returns `false`.
 fn refine(facts: &mut Facts, dst: Reg, src: &Operand, ranges: Option<(Range, Range)>) -> bool {
     match ranges {
         Some(ranges) => {
@@ -42,9 +42,9 @@ impl Edges {
         }
     }
 
-    /// Sets which edges out of an instruction a run may take, by `flow`, the result of its transfer function, and refines the facts on
-    /// them: by a comparison the ranges of its operands, by a null test the result of its look-up, null on one edge and not on the other.
-    /// Before this, `falling` and `jumping` both are the facts after the instruction that hold on both edges.
+    /// Sets which edges out of an instruction a run may take, and refines the facts on them. `flow` is the result of its transfer function.
+    /// A comparison sets the ranges of its operands on each edge. A null test settles its look-up: the result is null on one edge, and not
+    /// on the other. Before this, `falling` and `jumping` both have the facts after the instruction, without this refinement.
     fn take(&mut self, flow: &Flow) {
         (self.falls, self.jumps) = match *flow {
             Flow::Ends => (false, false),

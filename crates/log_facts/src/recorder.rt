@@ -57,7 +57,8 @@ pub struct Judged {
     pub verdict: Result<Cost, VerifyFault>,
 }
 
-/// Verifies a program, if descriptors name the objects of `named`, and keeps what is known before each instruction that the pass reaches.
+/// Verifies a program, and keeps what is known before each instruction that the pass reaches. `named` has the open descriptors, each with
+/// the object that it names.
 ///
 /// # Errors
 ///

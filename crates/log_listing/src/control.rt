@@ -45,7 +45,7 @@ fn ends_block(insn: &Insn) -> bool {
     insn.profile().successors != Successors::Next
 }
 
-/// Sets the flag of a slot. Does nothing for a slot past the end, as after the last instruction.
+/// Sets the flag of a slot. Does nothing if the slot is past the end, as the one after the last instruction is.
 fn mark(flags: &mut [bool], slot: usize) {
     if let Some(flag) = flags.get_mut(slot) {
         *flag = true;

@@ -28,8 +28,8 @@ enum Edge<'a> {
     Dead,
 }
 
-/// What is known of an edge: `seen` is the text of what is new on it, `None` if no run takes it, as far as the pass went, or if there was
-/// no pass.
+/// What is known of an edge: `seen` is the text of what is new on it, `None` if the pass found no run that takes it, or if there was no
+/// pass (`has_pass` of `story`).
 fn edge_of<'a>(story: &ListingInput<'_>, seen: Option<&'a String>) -> Edge<'a> {
     match seen {
         Some(text) => Edge::Taken(text.as_str()),
@@ -60,7 +60,8 @@ fn write_style(text: &mut String, name: &str, edge: Edge<'_>) -> Result<(), Allo
     }
 }
 
-/// Writes the edge between the blocks whose first slots are `from` and `to`, with its style and its label, which begins with `name`.
+/// Writes the edge from the block with the first slot `from` to that with the first slot `to`. `edge`, what is known of it, determines its
+/// style or its label, which begins with `name` (`write_style`).
 fn write_edge(
     text: &mut String,
     from: usize,
@@ -145,7 +146,8 @@ impl<'a> Graph<'a> {
         Some(step)
     }
 
-    /// Writes the beginning of the block at `slot`, up to its label, and makes it the block that is being written.
+    /// Writes the beginning of the block at `slot`, up to the quote that opens its label, and makes it the block that is being written.
+    /// `is_reached`: whether a run may reach it.
     fn begin(
         &mut self,
         text: &mut String,
@@ -230,9 +232,9 @@ fn write_blocks(text: &mut String, mut graph: Graph<'_>) -> Result<(), AllocErro
     Ok(())
 }
 
-/// The graph of a program: its basic blocks with their instructions, and the edges between them with what is new on each. Blocks and edges
-/// that no run reaches, as far as the pass went, are dashed; the block with the rejected instruction is red, with the verdict and `why` in
-/// it. `AllocError`: out of memory.
+/// The graph of the program of `story`: its basic blocks with their instructions, and the edges between them with what is new on each. If
+/// there was a pass, the blocks and edges that it did not reach are dashed. The block with the rejected instruction (`fault`) is red, and
+/// has the verdict with `why`, the fault in words. `AllocError`: out of memory.
 pub(crate) fn graph_of(
     alloc: Global,
     story: &ListingInput<'_>,

@@ -11,8 +11,7 @@ use std::alloc::AllocError;
 use std::fmt::Write;
 use words::{REGISTERS, STACK_SLOTS};
 
-/// Writes the semicolon between a note and the one before it. The first note has none: no text is yet after the offset `start`, at which
-/// notes begin.
+/// Writes the semicolon before a note, unless the note is the first: then the text ends at the offset `start`, at which notes begin.
 pub(crate) fn part(text: &mut String, start: usize) -> Result<(), AllocError> {
     if text.len() > start {
         text.push_str("; ")
@@ -66,8 +65,8 @@ fn write_lost_registers(
     }
 }
 
-/// The mask of the bytes of a stack slot that are newly written; bit 0 is the lowest. Of an overwritten spill these are all that are
-/// written; 0 if there is a spill now, since a new spill has a note of its own (`write_spills`).
+/// The mask of the bytes of a stack slot that are written in `new` and were not in `old`; bit 0 is the lowest byte. If only `old` is a
+/// spill, all written bytes of `new` count. 0 if `new` is a spill, since a new spill has a note of its own (`write_spills`).
 fn written(old: Slot, new: Slot) -> u8 {
     match (old, new) {
         (Slot::Bytes(before), Slot::Bytes(after)) => after & !before,
@@ -105,7 +104,8 @@ struct Row {
 }
 
 impl Row {
-    /// Writes a note with the bytes and `what` is new of them, `written` or `lost`. Writes nothing if there is no byte.
+    /// Writes a note with the offsets of the first and the last byte, and the word `what`, which is `written` or `lost`. Writes nothing if
+    /// the row has no byte.
     fn write(&self, text: &mut String, what: &str) -> Result<(), AllocError> {
         if self.first == self.end {
             return Ok(());
@@ -150,8 +150,8 @@ impl Row {
     }
 }
 
-/// Writes the stack bytes that are newly written, or if `are_lost`, those that are not readable any more, with a note for each row of
-/// consecutive bytes. Notes begin at offset `start` of the text.
+/// Writes a note for each row of consecutive stack bytes that are newly written (`written`) from `old` to `new`, or if `are_lost`, that are
+/// not readable any more (`lost`). Notes begin at offset `start` of the text.
 fn write_stack_bytes(
     text: &mut String,
     start: usize,
@@ -179,8 +179,8 @@ fn write_stack_bytes(
     row.write(text, what)
 }
 
-/// Writes each spill of `new` that `old` does not have in this stack slot, with the kind of its pointer, as a note of its own. Notes begin
-/// at offset `start` of the text.
+/// Writes a note for each stack slot that has a spill in `new`, unless it has the same spill in `old`: the slot's bytes, and the kind of
+/// what is spilled. Notes begin at offset `start` of the text.
 fn write_spills(
     text: &mut String,
     start: usize,
@@ -202,7 +202,8 @@ fn write_spills(
     Ok(())
 }
 
-/// Writes what is known in `new` and was not in `old`, and what is not known any more, as notes. Notes begin at offset `start` of the text.
+/// Appends what is known in `new` and was not in `old`, and what is not known any more, as notes. `start` is the offset in the text at
+/// which the first note begins; each other note has a semicolon before it (`part`).
 pub(crate) fn write_known(
     text: &mut String,
     start: usize,

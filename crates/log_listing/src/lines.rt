@@ -164,7 +164,8 @@ fn write_notes(
     }
 }
 
-/// Writes the line of the instruction at `slot`, with its notes.
+/// Writes the line of the instruction `insn` at `slot`, with its notes. `cursor` has what this line needs, and afterwards what the next one
+/// needs.
 fn write_line(
     text: &mut String,
     story: &ListingInput<'_>,
@@ -183,7 +184,7 @@ fn write_line(
 }
 
 /// Writes the lines of the instructions from slot 0 to slot `last`, or to the end if `last` is past it. The second slot of a wide
-/// instruction has no line. `text` ends with a whole line before, or is empty, as `lines_of` passes it.
+/// instruction has no line. `text`, as `lines_of` passes it, is empty or ends with a line feed.
 pub(crate) fn write_lines(
     text: &mut String,
     story: &ListingInput<'_>,

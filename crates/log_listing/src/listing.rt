@@ -13,8 +13,8 @@ use std::alloc::{AllocError, Global};
 use tagged_model::Named;
 use verifier::{Cost, VerifyFault};
 
-/// The lines of a program's instructions, up to the rejected one if there is one; then the verdict, and after a rejection `why`.
-/// `AllocError`: out of memory.
+/// The lines of a program's instructions, after a rejection only to the rejected one, with its own line; then the verdict, and after a
+/// rejection `why`, its reason in words. `AllocError`: out of memory.
 fn lines_of(
     alloc: Global,
     story: &ListingInput<'_>,
@@ -30,9 +30,9 @@ fn lines_of(
     Ok(text)
 }
 
-/// The listing of a program with the verdict of `judged`, or its graph, if descriptors name the objects of `named`. `why` has the reason of
-/// a rejection in words and a line feed, and is empty for an accepted program. Lines end with the verdict and `why`; in a graph both are in
-/// the block of the rejected instruction.
+/// The listing of a program, verified with the objects of `named` and the result `judged`: lines or, if `style` is `Graph`, a graph. `why`
+/// has the reason of a rejection in words and a line feed, and is empty for an accepted program. Lines end with the verdict and `why`; a
+/// graph has both only after a rejection, in the block of the rejected instruction.
 ///
 /// # Errors
 ///

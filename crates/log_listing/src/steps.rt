@@ -46,7 +46,8 @@ impl StepMaker<'_> {
         }
     }
 
-    /// Adds to `step` what is new on the edges of a conditional jump `insn`, before which these are the facts. A rejected one has no edges.
+    /// Adds to `step` what is new on each edge of the conditional jump `insn` against `facts`, the facts before it. An edge that no run
+    /// takes gets `None`; if the jump is rejected, both edges do.
     fn branch(&mut self, step: &mut Step, insn: &Insn, facts: &Facts) -> Result<(), AllocError> {
         self.edges.leave(facts, self.named, step.slot, insn);
         let Edges {
@@ -60,8 +61,9 @@ impl StepMaker<'_> {
         Ok(())
     }
 
-    /// Adds to `step` the edges out of its instruction; an exit has none. Only an edge of a conditional jump has a text of what is new on
-    /// it. Another edge has the empty text, also if the instruction is rejected: what the instruction changes is new before the next one.
+    /// Adds to `step` the edges out of its instruction `insn`, before which these are the facts; an exit has none. An edge of a conditional
+    /// jump has the text of what is new on it; a conditional jump that is rejected has no edges (`branch`). Any other instruction has one
+    /// edge with the empty text, also if it is rejected: what it changes is new before the next instruction.
     fn leave(&mut self, step: &mut Step, insn: &Insn, facts: &Facts) -> Result<(), AllocError> {
         match insn.profile().successors {
             Successors::Next => step.falling = Some(String::new(self.alloc)),
@@ -72,8 +74,8 @@ impl StepMaker<'_> {
         Ok(())
     }
 
-    /// The step of the instruction before which `known` has the facts, with what is new in them against `shown`: the facts of the step
-    /// before, or those in which nothing is known. There is an instruction at each slot with facts.
+    /// The step of the instruction at the slot of `known`. It has what is new in the facts of `known` against `shown`, which are the facts
+    /// of the step before, or those in which nothing is known. At each slot with facts an instruction begins.
     fn step(&mut self, shown: &Facts, known: &KnownFacts) -> Result<Step, AllocError> {
         let KnownFacts { slot, facts } = known;
         let mut step = Step {

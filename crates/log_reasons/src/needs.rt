@@ -26,9 +26,9 @@ pub(crate) struct RefusedProgram<'a> {
     pub facts: &'a Facts,
 }
 
-/// Writes what was known at the rejected instruction `insn`, against what it needs. Faults of the shape and unreadable registers come
-/// first, since instructions of many kinds can have them. The last arm has the accesses to memory; the other instructions that come to it,
-/// as a jump without a condition, break no rule of safety.
+/// Writes what was known at the rejected instruction `insn`, and what is required. Faults of the shape and unreadable registers are tested
+/// first, since instructions of many kinds can have them. The last arm is for accesses to memory. It also takes instructions that break no
+/// other rule, for example a jump without a condition.
 fn write_need(
     text: &mut String,
     refusal: &RefusedProgram<'_>,
@@ -57,8 +57,8 @@ fn write_need(
     }
 }
 
-/// The line on a rejection: the reason in words, and after `between` what is known and what is required. Each line has all of it, since a
-/// fault is at a slot at which an instruction begins.
+/// The line on a rejection: the reason in words, then `between`, then what is known and what is required. Each fault is at a slot at which
+/// an instruction begins, so the line always has these three. `AllocError`: out of memory.
 fn reason_line(refusal: &RefusedProgram<'_>, between: &str) -> Result<String, AllocError> {
     let mut line = String::from_str(refusal.alloc, reason_words(refusal.fault.reason))?;
     if let Some(insn) = refusal.program.get(refusal.fault.slot) {
@@ -69,8 +69,8 @@ fn reason_line(refusal: &RefusedProgram<'_>, between: &str) -> Result<String, Al
     Ok(line)
 }
 
-/// The facts before the last instruction that the pass reached. If it reached none, as of a program that is rejected for its shape, they
-/// are those in which nothing is known.
+/// The facts before the last instruction that the pass reached. If it reached none, for example because the shape of the program has a
+/// fault, they are those in which nothing is known.
 fn last_facts(known: &[KnownFacts]) -> Facts {
     match known.last() {
         Some(last) => last.facts,
@@ -78,8 +78,8 @@ fn last_facts(known: &[KnownFacts]) -> Facts {
     }
 }
 
-/// Why a program with this verdict is rejected, if descriptors name these objects: a line with the reason in words, and then what was
-/// known and what is required, with `between` between the two. Empty if the program is accepted.
+/// Why a program is rejected by the verdict in `judged`, if descriptors name these objects: the reason in words, then `between`, then what
+/// was known and what is required, and a line feed. Empty if the program is accepted.
 ///
 /// # Errors
 ///

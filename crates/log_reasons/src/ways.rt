@@ -19,8 +19,8 @@ pub(crate) enum Wanted {
     Stack { first: i64, last: i64 },
 }
 
-/// Whether a byte of the stack is written on each path, by its offset from the upper end; each byte of a spill is. False outside the stack.
-/// In the mask of a stack slot, bit 0 is the lowest byte.
+/// Whether the stack byte at the offset `byte` is written on each path; each byte of a spill is. False outside the stack. In the mask of a
+/// stack slot, bit 0 is the lowest byte.
 pub(crate) fn is_written(facts: &Facts, byte: i64) -> bool {
     let Ok(byte_index) = usize::try_from(byte.saturating_add(8 * STACK_SLOTS as i64)) else {
         return false;
@@ -88,7 +88,8 @@ struct Finder<'a> {
 
 impl Finder<'_> {
     /// Why the value is missing before the instruction at `slot`, before which these are the facts; `None` if it is present. If it is
-    /// missing on some edges only, the first of these is the cause; if on all, the cause of the first; if on none (last arm), their join.
+    /// missing on some edges to the slot, but not on all, the cause is the first edge without it. If it is missing on all, the cause is why
+    /// it is missing on the first edge. If it is missing on none (last arm), the join of the edges loses it.
     fn cause_at(&self, slot: usize, facts: &Facts) -> Option<Cause> {
         if self.wanted.is_in(facts) {
             return None;
@@ -110,9 +111,9 @@ impl Finder<'_> {
         }
     }
 
-    /// Notes whether the value is present on the edge between two slots, on which these are the facts. If it is missing there, the cause is
-    /// why it is missing before the instruction at `from`, or, if it is present before this instruction, that the instruction destroys it.
-    /// Of the edges to a slot without the value, the first one noted is kept.
+    /// Notes whether the value is present on the edge from slot `from` to slot `to`, which has these facts. If it is missing, `from` and a
+    /// cause are stored, unless they are stored for an earlier edge to `to`. The cause is why the value is missing before the instruction
+    /// at `from` or, if it is present there, that this instruction destroys it.
     fn arrive(&mut self, from: usize, to: usize, facts: &Facts) {
         let is_there = self.wanted.is_in(facts);
         let cause = self.cause.unwrap_or(Cause::Destroyed(from));
@@ -141,8 +142,8 @@ impl Finder<'_> {
         }
     }
 
-    /// Follows the value through the instruction at `slot`, before which these are the facts. An instruction begins at each slot with
-    /// facts.
+    /// Records why the value that is needed is missing before the instruction at `slot` (`cause`), and on which edges out of it this value
+    /// is present (`arrivals`). `facts` are those before it. At each slot with facts an instruction begins, so the `if` always holds.
     fn follow(&mut self, slot: usize, facts: &Facts) {
         self.cause = self.cause_at(slot, facts);
         if let Some(insn) = self.program.get(slot) {
@@ -151,8 +152,8 @@ impl Finder<'_> {
     }
 }
 
-/// The arrivals before the pass, by slot: no edge is known yet, and the value is missing at program entry. The slot 0 in this lack is never
-/// used: no edge leads to slot 0.
+/// The arrivals before any edge is followed, by slot. Only slot 0, the program entry, has a lack: the value was never written. This lack
+/// names slot 0 as the slot from which its edge leads, but there is no such edge, and the number is never used.
 fn first_arrivals(alloc: Global, slots: usize) -> Result<Vec<Arrival>, AllocError> {
     let nothing = Arrival {
         is_there: false,
@@ -205,8 +206,8 @@ fn verbs_of(wanted: Wanted) -> Verbs {
     }
 }
 
-/// Writes why a register or stack bytes may not be read before the rejected instruction, as a sentence without its subject. The value is
-/// missing there, so a cause is found, and the default is never written.
+/// Writes why the value `wanted` is missing before the rejected instruction, as a sentence without its subject, the register or the stack
+/// bytes. The caller knows that it is missing, so `cause_of` finds a cause, and `unwrap_or` does not use its default.
 pub(crate) fn write_way(
     text: &mut String,
     refusal: &RefusedProgram<'_>,

@@ -109,8 +109,7 @@ fn begins_with_hex(input: &[u8]) -> bool {
     true
 }
 
-/// How the program of the input is written: as an option says, or else as its first line that is not blank shows, hex lines if this has hex
-/// digits only, else text.
+/// How the program of the input is written: as an option says; without one, as hex lines if `begins_with_hex`, else as text.
 pub(crate) fn form_of(matches: &ArgMatches<'_>, input: &[u8]) -> ProgramForm {
     if matches.get_flag("hex") {
         ProgramForm::Hex

@@ -32,8 +32,8 @@ impl Output {
     }
 }
 
-/// The output for an input: the log of its program, or the refusal of the slots on hex lines if they are no program. A `Failure`, and so no
-/// output, is a fault of a map argument or of a line, an input that can't be read or is too long, and refused memory.
+/// The output for an input, by the parsed arguments `matches`: the log of its program, or why the slots on its hex lines are no program.
+/// Fails if a map argument or a line has a fault, if the input can't be read or is too long, and if out of memory.
 fn log_output<I: Read + Drop>(
     alloc: Global,
     matches: &ArgMatches<'_>,
@@ -61,8 +61,8 @@ fn log_output<I: Read + Drop>(
     }
 }
 
-/// The output for the arguments: the log, or help, or the version. Other arguments that clap rejects are a `Failure`, as are those of
-/// `log_output`.
+/// The output for the arguments: the log, or the text of the help or of the version if they ask for it. `Failure` if clap rejects them, if
+/// `log_output` fails, or if out of memory.
 fn output_of<I: Read + Drop>(
     alloc: Global,
     arguments: &[&str],

@@ -11,7 +11,8 @@ abbrev pub occurrences : ℕ → List ℕ → ℕ
 occurrences p [] = 0
 occurrences p (x ∷ xs) = (if nat_eq p x then 1 else 0) + occurrences p xs
 
--- elements less than a bound, in order
+-- an `ElementOrder` as contracts see it: its elements, the first one first, and the bound, which is
+-- greater than each of them
 pub record Order : Type 0 where
   pub bound : ℕ
   pub elements : List ℕ

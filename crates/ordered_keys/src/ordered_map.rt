@@ -151,8 +151,8 @@ impl<K: Eq + Hash + Copy, S: BuildHasher> OrderedMap<K, S> {
     }
 }
 
-/// Whether a key of the table has this element: the entry at the index that `indices` has for it. An element out of range has no index, so
-/// index 0 is taken; in an `OrderedMap` the element of the entry there is in range, so the result is then false.
+/// Whether the entry at the index that `indices` has for an element has this element; in an `OrderedMap`, whether a key has the element.
+/// For an element out of range index 0 is taken. In an `OrderedMap` the entry at 0 has an element in range, so the result is then false.
 fn has_element<K: Eq + Hash, S: BuildHasher>(
     table: &IndexMap<K, u32, S>,
     indices: &[u32],
@@ -281,8 +281,8 @@ fn take_at<K: Eq + Hash + Copy, S: BuildHasher>(
 }
 
 /// Takes out the entry at an index, and returns it; the last entry gets the index. The table loses no room: the second half of its entries
-/// is taken out, which gives it its full room again, and put back without the entry. They are moved through `rows`, which is empty before
-/// and after. The steps grow with the number of entries; but this is rare, and so out of line.
+/// is copied to `rows`, removed from the table, and put back without the entry. `rows` is empty before and after. A call takes more steps
+/// the more entries there are, but is rare, so the function is out of line.
 #[cold]
 #[inline(never)]
 fn rebuild_without<K: Eq + Hash + Copy, S: BuildHasher>(

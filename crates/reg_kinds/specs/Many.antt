@@ -13,8 +13,8 @@ use Rattle.reg_kinds.specs.declared.reason.Reason.TheVariants.{OutsideStack, Unw
 use Rattle.reg_kinds.specs.Kinds.{kind_at, slot_at, with_registers, with_slots}
 use Rattle.reg_kinds.specs.Stack.{bytes_over}
 
--- the mask of those of n bytes from byte index p on that lie in stack slot i; 0 if none does. A
--- difference of natural numbers is 0 if the second is greater
+-- the mask of the bytes of stack slot i that are among the n bytes from byte index p on; 0 if none
+-- is. A difference of natural numbers is 0 if the second is greater
 abbrev pub bits_in : ℕ → ℕ → ℕ → ℕ
 bits_in p n i = (2 ^ (min 8 (p + n - 8 * i) - (p - 8 * i)) - 1) * 2 ^ (p - 8 * i)
 
@@ -44,9 +44,9 @@ stack_input f x n =
     (if any_below stack_slots
     (λ i. lacks (slot_at f i) (bits_in (byte_index x) n i)) then Err UnwrittenStack else Ok tt))
 
--- the facts after a write of lo to hi bytes at offset x from the stack's upper end: the first lo
--- bytes count as written, and a spill that hi bytes touch is lost, so its other bytes do not. If lo
--- is above hi, no write has such a length, and the facts describe no run
+-- the facts after a write of at least lo and at most hi bytes at offset x from the stack's upper
+-- end. The first lo bytes become written. A spill that the first hi bytes touch is lost: only those
+-- of its bytes that are among the first lo count as written. If lo is above hi, no write is such
 abbrev pub filled : Facts → ℤ → ℕ → ℕ → Facts
 filled f x lo hi =
     with_slots f

@@ -29,9 +29,8 @@ touched offset size =
 
 -- ---- loads
 
--- the kind of a load of bytes that are no spill: any number of this size, or any 64-bit number if
--- the load extends the sign (true). As words the negative numbers are the greatest, so the least
--- range with them and 0 has all
+-- the kind of a load of bytes that are no spill: any number of this size; if the load extends the
+-- sign (true), any 64-bit number, since negative numbers are the greatest words
 abbrev pub loaded : AccessSize → Bool → Kind
 loaded size true = Scalar (full 64)
 loaded size false = Scalar (full (8 * bytes_of size))
@@ -56,17 +55,17 @@ abbrev pub bytes_over : Slot → ℕ → Slot
 bytes_over (Bytes mask) bits = Bytes (bit_or mask bits)
 bytes_over (Spill k) bits = Bytes bits
 
--- slot s after a store of a value of kind k to its bytes of mask `bits`: a pointer is spilled
--- whole, or the store is rejected; a number makes these bytes written. An unreadable value is
--- rejected before, by `stack_write`
+-- slot s after a store of a value of kind k to its bytes of mask `bits`: a number makes these bytes
+-- written; a pointer or a map is spilled, or PartOfSpill if fewer than eight bytes are stored.
+-- `stack_write` rejects an unreadable value before
 abbrev pub slot_written : Slot → ℕ → AccessSize → Kind → Result Slot Reason
 slot_written s bits size k =
     if is_pointer k
     then (if is_double size then Ok (Spill k) else Err PartOfSpill)
     else Ok (bytes_over s bits)
 
--- the facts after a store of a value of kind k to slot t.0, to the bytes of mask t.1 there; or the
--- reason of `slot_written` against it
+-- the facts after a store of a value of kind k to the bytes of mask t.1 of stack slot t.0; or the
+-- reason for which `slot_written` rejects the store
 abbrev pub facts_written : Facts → AccessSize → Kind → ℕ × ℕ → Result Facts Reason
 facts_written f size k t =
     and_then_ok (slot_written (slot_at f t.0) t.1 size k) (λ s. Ok (with_slot f t.0 s))

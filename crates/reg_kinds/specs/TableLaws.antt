@@ -54,8 +54,8 @@ set-at P xs i x d here past =
     subst P (sym (get_or_past (set xs i x) i d (let l = length-set xs i x in omega arith))) past)
     (cases_lt i (length xs))
 
--- if the element at each k is related to g k, and both x and the default d, which is read past the
--- end, to y, then the elements are related to the values of g also once x and y are written at i
+-- Suppose that P relates the element at each k to g k, with d for those past the end, and relates x
+-- and d to y. Then P relates them also after x is written at i of the list, and y at i of g
 pub in_written : {X Y : Type 0} (P : X → Y → Type 0) (xs : List X) (g : ℕ → Y) (i : ℕ) (x d : X)
     (y : Y)
     → P x y

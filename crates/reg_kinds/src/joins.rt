@@ -233,8 +233,8 @@ fn join_slot(known: &mut Slot, edge: &Slot) -> bool
     }
 }
 
-/// Joins the stack slot `edge` into `known`, a spill that the join may change. A program can force two such joins in many slots: of offsets
-/// into values of one map, and of a spill with bytes. These two are done here, the others out of line.
+/// Joins the stack slot `edge` into `known`, a spill that the join may change. A program can force joins of two kinds in many slots: of
+/// offsets into values of one map, and of a spill with bytes. This function does these, and `join_any_slots`, out of line, the others.
 #[inline(never)]
 fn join_other_slots(known: &mut Slot, edge: &Slot)
     ensures { known.new ≡ slot_join known.old edge.now }

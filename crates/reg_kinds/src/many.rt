@@ -79,8 +79,8 @@ fn lacks(slot: Slot, bits: u8) -> bool
     }
 }
 
-/// `count` bytes of the stack from byte index `start` on touch no stack slot from this number on: it is that of the first slot that begins
-/// at their end or after it, or `STACK_SLOTS` if none does.
+/// The number of the first stack slot that begins at or after the end of the `count` stack bytes from byte index `start` on; `STACK_SLOTS`
+/// if no slot does. The bytes touch neither this slot nor a higher one.
 fn past_touched(start: usize, count: usize) -> usize
     requires { start + count ≤ stack_size }
     ensures bytes { start + count ≤ 8 * result }

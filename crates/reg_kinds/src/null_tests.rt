@@ -114,8 +114,9 @@ fn settle_both_stacks(facts: &mut Facts, taken: &mut Facts, site: usize, null: b
     }
 }
 
-/// Settles a register's kind for both edges of a null test of the look-up at slot `site`. If it is that of the look-up's result, `taken`,
-/// its copy, is settled for null exactly if `null`, and `kind` for the opposite. Any other kind is unchanged in both.
+/// Settles a register's kind for both edges of a null test of the look-up at slot `site`: `kind` for the falling edge, and its copy `taken`
+/// for the jumping one. The kind of the look-up's result is settled in `taken` for null exactly if `null`, and in `kind` for the opposite.
+/// Any other kind is unchanged in both.
 #[inline(always)]
 fn settle_both_kinds(kind: &mut Kind, taken: &mut Kind, site: usize, null: bool)
     requires { taken.now ≡ kind.now }
@@ -131,8 +132,9 @@ fn settle_both_kinds(kind: &mut Kind, taken: &mut Kind, site: usize, null: bool)
     }
 }
 
-/// Settles a stack slot for both edges of a null test of the look-up at slot `site`. If it has the look-up's result, `taken`, its copy, is
-/// settled for null exactly if `null`, and `slot` for the opposite. Any other slot is unchanged in both.
+/// Settles a stack slot for both edges of a null test of the look-up at slot `site`: `slot` for the falling edge, and `taken`, a copy of
+/// it, for the jumping edge. If the slot has the look-up's result, this is null in `taken` if `null`, else in `slot`, and a value in the
+/// other. Any other slot is unchanged in both.
 #[inline(always)]
 fn settle_both_slots(slot: &mut Slot, taken: &mut Slot, site: usize, null: bool)
     requires { taken.now ≡ slot.now }

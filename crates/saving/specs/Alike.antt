@@ -51,8 +51,8 @@ pub record IsAlikeAnswer (a b : Answer) : Type 0 where
 
 -- ---- the invariant of the machine's states
 
--- the list of objects has all descriptors, `most`, and that of maps all handles, `most_maps`; and
--- exactly the maps that an open object names are live
+-- the list of objects has a position for each of the `most` descriptors, and that of maps one for
+-- each of the `most_maps` handles; and exactly the maps that an open object names are live
 pub record HoldsItsMaps (s : TenantState) : Type 0 where
   pub descriptors : length s.objects ≡ most
   pub handles : length s.maps ≡ most_maps

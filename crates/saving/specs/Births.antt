@@ -46,8 +46,8 @@ abbrev pub IsMapBorn : TenantState → List Birth → ℕ → Type 0
 IsMapBorn s older handle = IsSome (live s handle) × (list_any (is_of_map handle) older ≡ false)
 
 -- what the birth of a program requires: descriptor fd names the program, and each of its maps, m,
--- has another descriptor, m.0, at which the latest older birth is that of this map. So if objects
--- are created in this order, a load finds the maps of its program
+-- has a descriptor m.0 other than fd, at which the latest older birth is that of the map. So if
+-- objects are created in the order of their births, a load finds its maps
 abbrev pub IsProgramBorn : TenantState → List Birth → ℕ → Type 0
 IsProgramBorn s older fd =
     (l : LoadedProgram) × (named s.objects fd ≡ Some (object.Program l))
@@ -58,9 +58,9 @@ abbrev pub IsBorn : TenantState → List Birth → Birth → Type 0
 IsBorn s older (OfMap handle fd) = IsMapBorn s older handle
 IsBorn s older (OfProgram fd) = IsProgramBorn s older fd
 
--- a list of births in order: each has a descriptor of 3 to 66, at which no older birth is of a
--- program, since a closed program has no birth; and what it requires holds (`IsBorn`): its object
--- is live, and the births of a program's maps are older than its own
+-- births, the latest first, are in order. Each has a descriptor of the table, and no older birth
+-- of a program has the same one, since a closed program has no birth. What each birth requires
+-- holds (`IsBorn`): its object is live, and the births of a program's maps are older than its own
 abbrev pub AreInOrder : TenantState → List Birth → Type 0
 AreInOrder s [] = Unit {0}
 AreInOrder s (b ∷ older) =

@@ -41,9 +41,9 @@ pub record IsWholeMap (t : Map) : Type 0 where
   pub values : AllByRecursion (λ e. length e.1 ≡ t.shape.value_size) t.entries
   pub ended : t.deleted ≡ 0
 
--- `maps` are those of a program, pairs of a descriptor and a handle. For each of the n descriptors
--- from fd on to which they give the handle of a live map: the descriptor with the map's shape in s,
--- as the verifier reads the maps of a program
+-- descriptors with the shapes of their maps in s, as the verifier reads the maps of a program.
+-- `maps` has pairs of a descriptor and a handle. Of the n descriptors from fd on, the list has
+-- those to which `maps` gives the handle of a live map
 unfoldable pub shapes_from : TenantState → List (ℕ × ℕ) → ℕ → ℕ → List Named
 shapes_from s maps fd zero = []
 shapes_from s maps fd (suc n) =
@@ -51,9 +51,9 @@ shapes_from s maps fd (suc n) =
     (option_map (λ t. target.Map t.shape) (and_then (lookup (λ m. m == fd) maps) (live s)))
     ++ shapes_from s maps (fd + 1) n
 
--- a program can be loaded again: it was accepted when descriptors named the objects `named`; of
--- these, l.named are those that it loads (`picked`), and they are its maps with their shapes in s
--- (`shaped`); and it has a handle for each map that it loads (`bound`)
+-- a program can be loaded again: it was accepted when descriptors named the objects `named`;
+-- l.named has the objects of the descriptors by which it loads maps (`picked`), with the shapes of
+-- its maps in s (`shaped`), and it has a handle for each of these descriptors (`bound`)
 pub record IsWholeProgram (s : TenantState) (l : LoadedProgram) : Type 0 where
   pub program : IsProgram l.insns
   pub named : List Named

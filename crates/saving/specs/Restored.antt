@@ -50,14 +50,14 @@ made s (OfProgram fd) = made_program (named s.objects fd)
 
 -- ---- the walk
 
--- n loads of the filler, a program that returns 0: in a new tenant they open n descriptors. After
--- `most` loads none is free, so the next object gets the descriptor that is closed before it
+-- n loads of the filler, a program that returns 0: in a new tenant they open n descriptors. `most`
+-- loads open all: if one is closed then, the next object gets it
 unfoldable pub filled : ℕ → List Command
 filled zero = []
 filled (suc n) = load_of filler ∷ filled n
 
--- for each birth, the oldest first, its descriptor is closed and its object created there, since
--- no other is free; the list of births has the latest first
+-- the commands that create the objects of these births, the oldest first; the list of births has
+-- the latest first. Before each object its descriptor is closed, so that it is the only free one
 abbrev pub born : TenantState → List Birth → List Command
 born s [] = []
 born s (b ∷ older) = born s older ++ (close (number b) ∷ made s b)

@@ -92,7 +92,8 @@ impl Births {
         }
     }
 
-    /// Removes the births of objects that are no longer live, after a close. `tenant` is the tenant after it.
+    /// Removes, after a close, the births of maps that are no longer live and of programs that are no longer open. `tenant` is the tenant
+    /// after the close.
     pub(crate) fn keep_living(&mut self, tenant: &Tenant)
         ensures { (part : List ℕ)
             → self.new ≡ filter (lives_in (state_in part tenant.now)) self.old }

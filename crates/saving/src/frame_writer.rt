@@ -197,9 +197,9 @@ impl FrameWriter {
         Ok(())
     }
 
-    /// Appends the frames that put keys of `map`, with their values, into the map at descriptor `fd`. These are the keys that follow the
-    /// key of element `before` in the order of `map`, or all keys if it is `None`; if they are more than `KEYS_OF_PART`, only the first of
-    /// them, so many, are put. `part` has the tenant's `PART` bytes of the arena. `AllocError`: out of memory.
+    /// Appends the frames that put keys of `map`, with their values, into the map at descriptor `fd`: at most `KEYS_OF_PART` keys, in the
+    /// order of `map`, from the one after the key of element `before` on, or from the first one on if `before` is `None`. `part` has the
+    /// tenant's `PART` bytes of the arena. `AllocError`: out of memory.
     fn append_updates_after(
         &mut self,
         tenant: &Tenant,

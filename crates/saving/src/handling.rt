@@ -20,7 +20,7 @@ use arena::{Arena, laws};
 use command_frames::{BadFrame, Command, Head, ReplyBuf, parse};
 use tenant::{Errno, Tenant, WorkingMemory, write_answer};
 
-/// The error for a frame that carries no command. It is never EFAULT (`BadAddress`), the error of a run that faults, which none does.
+/// The error for a frame that carries no command, by the frame's fault. It is never EFAULT (`BadAddress`), the error of a run that faults.
 fn frame_error(fault: BadFrame) -> Errno
     ensures errno { result ≡ frame_errno fault }
     ensures no_fault { result ≢ BadAddress }

@@ -5,8 +5,8 @@ ghost use Rattle.saving.specs.SaveParts.{PartsAreWhole};
 ghost use Rattle.saving.specs.Laws.{MapsAreHeld, AlikeIsBisimulation, AlikeStatesReplyAlike, BirthsAreKept, RestorableIsKept};
 ghost use Rattle.saving.specs.Laws.{RestoredIsAlike, TestRunsHaveFrames, RestoredByFrames, HistoriesAreRestored};
 
-/// A law, one half of the invariant of `SavableTenant`: exactly the maps that an open object names are live, in a new tenant and after
-/// each command.
+/// A law, one half of the invariant of `SavableTenant`: in a new tenant and after each command, exactly those maps are live that are open
+/// or belong to an open program.
 pub fn maps_are_held()
     ensures { MapsAreHeld }
 {}
@@ -27,8 +27,9 @@ pub fn alike_states_reply_alike()
     alike_is_bisimulation();
 }
 
-/// A law, the other half of the invariant of `SavableTenant`: a new tenant has no births; after each command they are those of its live
-/// maps and open programs; and there are at most `MOST_BIRTHS`, so the room that `Births::new` allocates is enough.
+/// A law, the half of the invariant of `SavableTenant` about births; `maps_are_held` is the other. A new tenant has no births, and after
+/// each command they are those of its live maps and open programs. They are at most `MOST_BIRTHS`, so the room that `Births::new` allocates
+/// is enough.
 pub fn births_are_kept()
     ensures { BirthsAreKept }
 {
@@ -44,8 +45,8 @@ pub fn restorable_is_kept()
     verifier::laws::loaded_maps_have_shapes();
 }
 
-/// A law: a new tenant to which no memory is refused succeeds at each of the commands that restore a state, and its state is then alike to
-/// the restored one.
+/// A law: if a state can be restored (`IsRestorable`), a new tenant to which no memory is refused succeeds at each of the commands that
+/// restore it, and the state after them is alike to it (`IsAlike`).
 pub fn restored_is_alike()
     ensures { RestoredIsAlike }
 {

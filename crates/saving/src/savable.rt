@@ -97,9 +97,10 @@ impl SavableTenant {
         Ok(Some(writer.frames))
     }
 
-    /// How many of the `packets` of a batch a bound allows. Each run of the program at the descriptor counts for its most instructions, and
-    /// more for each call of a helper (`Tenant::allowed_packets`). As many packets are allowed as count for at most `bound` together, but
-    /// at least one, if there is one. All are allowed if `bound` is 0, or if the descriptor names no program: such a batch is rejected.
+    /// How many of the `packets` of a batch a bound allows. Each packet counts for the most instructions that a run of the program at the
+    /// descriptor executes, and `CALL_WEIGHT` of `tenant` for each of the most calls of helpers that it makes. As many packets are allowed
+    /// as count for at most `bound` together, but at least one, if there is one. All are allowed if `bound` is 0; also if the descriptor
+    /// names no program, since then the batch is rejected.
     pub fn allowed_packets(&self, fd: u32, bound: u64, packets: usize) -> usize
         ensures allowed { IsAllowed (named self.now.kept.objects fd) bound packets result }
         ensures few { result ≤ packets }
@@ -108,7 +109,7 @@ impl SavableTenant {
     }
 
     /// Runs the program at a descriptor on the packets of a batch, one after another, and writes the results to the front of `results`,
-    /// whose rest is unchanged. `tenant` is the number of the tenant's part in the arena, which the host has made for it.
+    /// whose rest is unchanged. `tenant` is the number of this tenant's part in `arena`, in which each part has `PART` bytes.
     ///
     /// # Errors
     ///

@@ -47,8 +47,8 @@ short_word bs =
     (shifted (slice_index bs (n - 1)) 16)
     else 0)
 
--- the state after one product that mixes in two words, the eight bytes at i and the eight at j: by
--- exclusive or, the first is joined to the state before, the second to the factor of the seed
+-- the state after two words are mixed in, the eight bytes at i and those at j: the folded product
+-- of the first word xor the state before and the second word xor the factor of the seed
 abbrev pub mixed : ℕ → List ℕ → ℕ → ℕ → ℕ → ℕ
 mixed factor bs state i j =
     folded_product (bit_xor (word_at bs i) state) (bit_xor (word_at bs j) factor)
@@ -59,9 +59,10 @@ blocks_mixed factor bs state zero = state
 blocks_mixed factor bs state (suc n) =
     mixed factor bs (blocks_mixed factor bs state n) (16 * n) (16 * n + 8)
 
--- the hasher after a write of bytes, whose number is added to the state first. At most eight take
--- one product. More take one for each block of sixteen that does not reach the last byte, one for
--- the last sixteen (of fewer, for the first eight and the last eight), and one more by the factor
+-- the hasher after a write of bytes, whose number is added to the state first. One product mixes in
+-- up to eight bytes. For more, one product mixes in each block of sixteen that does not reach the
+-- last byte, one the last sixteen (the first eight and the last eight if there are fewer than
+-- sixteen), and one more is by the factor
 unfoldable pub written : SeededHasher → List ℕ → SeededHasher
 written h bs =
     let n = length bs in

@@ -2,7 +2,7 @@
 
 use crate::HashSeed;
 
-/// Each of sixteen bytes has its own position in the two words of their seed, the lowest first.
+/// In the seed of these sixteen bytes the first eight are the word `state` and the last eight the word `factor`, both little-endian.
 fn words_of_a_seed() {
     let seed = HashSeed::from_bytes([1, 2, 3, 4, 5, 6, 7, 8, 9, 10, 11, 12, 13, 14, 15, 16]);
     let state = seed.state;

@@ -41,8 +41,9 @@ widened size false n = n
 abbrev pub number_from : AccessSize → Bool → Option (List ℕ) → Option Tagged
 number_from size signed o = option_map (λ bs. Scalar (widened size signed (number_of bs))) o
 
--- the value of a load at byte j of a cell; None for fewer than all bytes of a value kept whole, or
--- an absent byte. An aligned double word is the whole cell
+-- the value of a load at byte j of a cell, a number sign-extended if `signed`. A double word of a
+-- value kept whole is this value, since j is 0 in an aligned load. None for fewer bytes of such a
+-- value, or if a byte is absent
 abbrev pub read_cell : Cell → ℕ → AccessSize → Bool → Option Tagged
 read_cell (holds v) j Double signed = Some v
 read_cell (holds v) j _ signed = None
@@ -62,8 +63,9 @@ write_cell c j size (Scalar n) = Some (written_over c j (low_bytes (bytes_of siz
 write_cell c j Double v = Some (holds v)
 write_cell c j _ v = None
 
--- cell c, stack slot i, after these bytes are written at byte index p of the stack; if they touch
--- it, a value kept whole is lost, and its other bytes are absent
+-- cell c of stack slot i, after these bytes are written from byte index p of the stack on. If they
+-- touch a value kept whole, it is lost, and the other bytes of the cell are absent; else the other
+-- bytes of the cell do not change
 abbrev pub cell_over : ℕ → Cell → ℕ → List ℕ → Cell
 cell_over i c p bs =
     if touches p (length bs) i

@@ -69,9 +69,9 @@ EntryAfterCall None None = Unit {0}
 EntryAfterCall (Some t) (Some u) = MapAfterCall t u
 EntryAfterCall _ _ = ⊥
 
--- t can be the state after a call that begins in state s: it has the context words of s, and each
--- map is one that a call may leave of the map in s (`MapAfterCall`). Registers, stack and packet
--- may be any
+-- t can be the state after a call that begins in state s: it has the context words of s, and for
+-- each descriptor with a map in s a map that a call may make of that one, for each other descriptor
+-- no map (`EntryAfterCall`). Registers, stack and packet may be any
 pub record IsAfterCall (s t : RunState) : Type 0 where
   pub words : t.words ≡ s.words
   pub maps : (m : ℕ) → EntryAfterCall (s.maps m) (t.maps m)
@@ -93,8 +93,9 @@ entry_same (Some t) = unchanged
 state_same : (s : RunState) → IsAfterCall s s
 state_same s = record { words = refl; maps = λ m. entry_same (s.maps m) }
 
--- if the map t of descriptor m is replaced by u, which a call may leave of t, then the map of each
--- descriptor k is one that a call may leave
+-- if u replaces t, the map of descriptor m, and a call may leave u of t (`MapAfterCall`), then each
+-- descriptor k has no map before and after, or its map after is one that a call may leave of its
+-- map before
 entry_set : (s : RunState) (m : ℕ) (t u : RunMap)
     → s.maps m ≡ Some t
     → MapAfterCall t u
@@ -107,8 +108,8 @@ entry_set s m t u there change k =
     (sym (ap s.maps (eqb-true k m b) ∙ there)) change)
     (λ _. entry_same (s.maps k))
 
--- s with the map t of descriptor m replaced by u, which a call may leave of t, can be the state
--- after a call that begins in s
+-- if s has the map t at descriptor m, and a call may leave the map u of t (`MapAfterCall`), then s
+-- with u at m can be the state after a call that begins in s
 map_changed : (s : RunState) (m : ℕ) (t u : RunMap)
     → s.maps m ≡ Some t
     → MapAfterCall t u
@@ -120,9 +121,9 @@ map_changed s m t u there change = record { words = refl; maps = entry_set s m t
 returned : (s t : RunState) (v : Tagged) → IsAfterCall s t → IsAfterCall s (returns t v)
 returned s t v h = record { words = h.words; maps = h.maps }
 
--- s with the map t of descriptor m replaced by that of the reply, which a call may leave of t, with
--- the reply's result in register 0 and registers 1 to 5 empty can be the state after a call that
--- begins in s
+-- if descriptor m has the map t in s, and a call may leave the reply's map of t (`MapAfterCall`),
+-- `replies s m reply` can be the state after a call that begins in s: s with the reply's map for m,
+-- the reply's result in register 0, and registers 1 to 5 empty
 replied : (s : RunState) (m : ℕ) (t : RunMap) (reply : MapReply)
     → s.maps m ≡ Some t
     → MapAfterCall t reply.map
@@ -141,8 +142,8 @@ then_leaves : {A : Type 0} (s : RunState) (o : Option A) (f : A → Option RunSt
 then_leaves s None f h = tt
 then_leaves s (Some x) f h = h x refl
 
--- if `LeavesAfterCall` permits the result of a computation, it also permits the result after v is
--- then put into register 0 and registers 1 to 5 are emptied
+-- if `LeavesAfterCall` permits the result of a computation, it also permits this result with v in
+-- register 0 and registers 1 to 5 empty
 return_leaves : (s : RunState) (o : Option RunState) (v : Tagged)
     → LeavesAfterCall s o
     → LeavesAfterCall s (and_then o (λ t. Some (returns t v)))
@@ -180,7 +181,7 @@ abbrev HasLength : ℕ → Option (List ℕ) → Type 0
 HasLength n None = Unit {0}
 HasLength n (Some bs) = length bs ≡ n
 
--- the bytes that are gathered from index p on are n, or None if one of them is absent
+-- if `gathered` returns a list of the n bytes from index p on, the list has length n
 gathered_long : (byte : ℕ → Option ℕ) (p n : ℕ) → HasLength n (gathered byte p n)
 unfolding gathered
 gathered_long byte p zero = refl
@@ -200,8 +201,8 @@ value_long value (pos y) n =
     (λ fits. length-bytes_at value y n (leb-true (y + n) (length value) fits)) (λ _. tt)
 value_long value (negsuc y) n = tt
 
--- a read of n bytes at offset y of object `number` gives n bytes, or faults, as it does if there is
--- no map (o is None)
+-- a read of n bytes at offset y of object `number` of the map o gives n bytes, or faults; without a
+-- map (o is None) it faults
 object_long : (o : Option RunMap) (number : ℕ) (y : ℤ) (n : ℕ)
     → HasLength n (and_then o (λ t. value_bytes (t.values number) y n))
 object_long None number y n = tt
@@ -230,8 +231,9 @@ bytes_leave s r n f h = by (s.registers r)
     by None = tt
     by (Some p) = read (input s p n) (input_long s p n)
 
--- writing bytes at p in state s gives a state that can be the one after a call that begins in s
--- (`IsAfterCall`), or faults, as it does if p is no pointer into the stack or a value
+-- if a helper's write of bytes at p in state s is no fault, the state after it can be the one after
+-- a call that begins in s (`IsAfterCall`). If p is no pointer into the stack or a value, it is a
+-- fault
 output_leaves : (s : RunState) (p : Tagged) (bs : List ℕ) → LeavesAfterCall s (output s p bs)
 output_leaves s (Pointer object.Stack x) bs =
     cond_both (is_in_stack x (length bs))
@@ -249,8 +251,8 @@ output_leaves s p bs = tt
 
 -- ---- the calls
 
--- a call of any helper that begins in state s ends in a state that has the context words of s and
--- maps that a call may leave of those of s (`IsAfterCall`), or faults
+-- a call of any helper in state s faults, or leads to a state that has the context words of s, and
+-- the maps of s as a call may change them (`IsAfterCall`)
 pub call_leaves : (helper : Helper) (s : RunState) → LeavesAfterCall s (called helper s)
 call_leaves LookUp s =
     map_leaves s 1 _

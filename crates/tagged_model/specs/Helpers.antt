@@ -74,8 +74,8 @@ abbrev pub looked_up : ℕ → Option ℕ → Tagged
 looked_up m None = Scalar 0
 looked_up m (Some number) = Pointer (object.Value m number) (pos 0)
 
--- the map with a new key, whose object has as its number how many objects the map has had
--- (`count`), and as its bytes `value`
+-- the map with a new key and its new object, which has the bytes `value`; the object's number is
+-- the `count` of the objects that the map had until then
 abbrev pub with_object : RunMap → List ℕ → List ℕ → RunMap
 with_object t key value = record {
   table = with_new t.table key t.count;
@@ -87,14 +87,15 @@ with_object t key value = record {
 abbrev pub without_key : RunMap → List ℕ → RunMap
 without_key t key = record t { table = with_deleted t.table key }
 
--- the reply of an update with this verdict: the value of a present key is written in place, a new
--- key gets a new object
+-- the reply of an update with this verdict: a refused update fails, the value of a present key is
+-- written in place, a new key gets a new object
 abbrev pub put : RunMap → List ℕ → List ℕ → Verdict ℕ → MapReply
 put t key value (Refused fault) = fails_by fault t
 put t key value (Present number) = succeeds (with_value t number value)
 put t key value New = succeeds (with_object t key value)
 
--- the reply of an update of a map
+-- the reply of an update of map t with a key, a value and flags: the result for register 0, and the
+-- map after the update, which is t if the update fails
 abbrev pub updated : RunMap → List ℕ → List ℕ → ℕ → MapReply
 updated t key value flags = put t key value (verdict t.table key flags)
 
@@ -115,7 +116,8 @@ abbrev pub is_in_packet : List ℕ → ℕ → ℕ → Bool
 is_in_packet packet offset n =
     nat_le (offset % 2 ^ 32) (2 ^ 31 - 1) && nat_le (offset % 2 ^ 32 + n) (length packet)
 
--- the bytes that a load of n bytes writes: those of the packet, or zeros if it fails
+-- the bytes that a load of n bytes at an offset of the packet writes: those of the packet, or zeros
+-- if they don't all lie in it (`is_in_packet`)
 abbrev pub packet_bytes : List ℕ → ℕ → ℕ → List ℕ
 packet_bytes packet offset n =
     if is_in_packet packet offset n then bytes_at packet (offset % 2 ^ 32) n else replicate n 0
@@ -170,11 +172,12 @@ map_argument s r =
 abbrev pub after_call : (ℕ → Option Tagged) → Tagged → ℕ → Option Tagged
 after_call registers v r = if r == 0 then Some v else (if nat_le r 5 then None else registers r)
 
--- the state after a call with result v: registers 0 to 5 change
+-- the state after a call with result v: register 0 has v, and registers 1 to 5 are empty
 abbrev pub returns : RunState → Tagged → RunState
 returns s v = record s { registers = after_call s.registers v }
 
--- the state after a call of map m: it has the map of the reply, and register 0 its result
+-- the state after a call of a helper on map m with this reply: map m is the reply's map, and
+-- register 0 has its result
 abbrev pub replies : RunState → ℕ → MapReply → RunState
 replies s m reply = returns (with_map s m reply.map) (Scalar reply.answer)
 

@@ -6,9 +6,9 @@ use Rattle.tagged_model.specs.declared.shape.MapShape.{MapShape}
 use Rattle.tagged_model.specs.declared.fault.MapFault.TheVariants.{Memory}
 use Rattle.tagged_model.specs.Table as map
 
--- a map of objects refines the map that has, instead of each object, the value that it represents
--- (`with_values`): each call gives the same result on both, but for values instead of objects, and
--- changes both alike. `value` gives the value that an object represents, such as its element or its
+-- a map of objects of A refines the map that has `value x` instead of each object x
+-- (`with_values`): each call gives the same result on both, with `value x` instead of x, and
+-- changes both alike. `value` is any function from A to B, such as that from an element to its
 -- bytes
 pub record CallsRefineValues (A B : Type 0) : Type 0 where
   pub new : (value : A → B) (object : ℕ → A) (shape : MapShape)

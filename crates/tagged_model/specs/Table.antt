@@ -14,8 +14,8 @@ use Rattle.tagged_model.specs.declared.shape.MapShape.{MapShape}
 use Rattle.tagged_model.specs.declared.fault.MapFault.{MapFault}
 use Rattle.tagged_model.specs.declared.fault.MapFault.TheVariants.{NoEntry, TooBig, Exists, Invalid}
 
--- a map: its shape, its keys with their objects in order, and the number of objects deleted in this
--- run
+-- a map: its shape, its keys in order, each with its object, and the number of objects deleted in
+-- this run; an object is of the type A, which represents a value
 pub record Table (A : Type 0) : Type 0 where
   pub shape : MapShape
   pub entries : List (List ℕ × A)
@@ -179,7 +179,8 @@ abbrev pub is_array : MapKind → Bool
 is_array Array = true
 is_array Hash = false
 
--- whether a map of this shape has a direct value, and the offset, in bytes, lies in it
+-- whether a map of this shape has a direct value, which is the value of an array of one value, and
+-- the offset, in bytes, lies in it
 abbrev pub has_direct_value : MapShape → ℕ → Bool
 has_direct_value shape offset =
     is_array shape.kind && (shape.max_entries == 1) && nat_lt offset shape.value_size

@@ -32,7 +32,7 @@ impl Helper {
     }
 }
 
-/// The helper with this number in bpf_func_id; `None` if there is none.
+/// The helper with this number in bpf_func_id; `None` if no `Helper` has this number.
 #[tactic(auto, unfolding(crate::specs::Helpers::known_helpers))]
 #[inline(always)]
 pub fn known_helper(id: i32) -> Option<Helper>

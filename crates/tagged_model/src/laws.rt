@@ -3,9 +3,9 @@
 ghost use Rattle.std.specs.Prelude.{ℕ, List};
 ghost use Rattle.tagged_model.specs.MapLaws.{CallsRefineValues, MapVerdictsMatchLookUps};
 
-/// A law: each call of a map of objects gives the same result as on the map of the values that the objects represent, and changes both
-/// alike. So a map of elements or of numbered objects can be used instead of a map of bytes. The objects are numbers; the values are
-/// numbers, such as elements, or bytes.
+/// A law: a call of a map of objects and the same call of the map of the values that they represent give the same result, but for values
+/// instead of objects, and change both maps alike. An object is a number; a value is a number, such as an element, or bytes. So a map of
+/// elements or of numbered objects can be used instead of a map of bytes.
 pub fn calls_refine_values()
     ensures numbers { CallsRefineValues ℕ ℕ }
     ensures bytes { CallsRefineValues ℕ (List ℕ) }

@@ -40,8 +40,8 @@ RepliesUnder refused frame reply (Some s) after =
     (a : Answer) × AnswersFrame refused s (parsed frame) a
     × (reply ≡ reply_to frame a.status a.payload) × (after ≡ Some a.after)
 
--- `reply` may be the reply to this frame, with these states of its tenant before and after it, if
--- memory is refused or if it is not
+-- `reply` is a possible reply to this frame, with these states of its tenant before and after it:
+-- the one if memory is refused to its command, or the one if it is not
 abbrev pub MayReply : List ℕ → List ℕ → Option TenantState → Option TenantState → Type 0
 MayReply frame reply before after = (refused : Bool) × RepliesUnder refused frame reply before after
 
@@ -89,7 +89,8 @@ abbrev pub IsServedAlone : Option TenantState → List (List ℕ) → List (List
 IsServedAlone before frames replies after =
     RepliesInOrder (RepliesUnder false) before frames replies after
 
--- the replies are those of the tenant's machine, if memory may be refused to each command
+-- the replies are those of the tenant's machine, from the state `before` to `after`; memory may be
+-- refused to any of the commands, or to none
 abbrev pub AloneWithRefusals : Option TenantState → List (List ℕ) → List (List ℕ)
     → Option TenantState → Type 0
 AloneWithRefusals before frames replies after = RepliesInOrder MayReply before frames replies after

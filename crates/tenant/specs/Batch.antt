@@ -83,8 +83,8 @@ packets_refusal contexts many ends room =
 
 -- Why a batch is rejected, before the first packet: what is named is no program; there is room for
 -- fewer results than packets; there is neither one context nor one for each packet; or a packet is
--- outside, or too long. None if it is run. `contexts`: how many arrays of words; `many`: how many
--- bytes.
+-- outside the bytes, or too long. None if it is run. The packets have these `ends` in `many` bytes;
+-- `contexts` is the number of arrays of words, `room` how many results can be stored.
 abbrev pub batch_refusal : Option OpenObject → ℕ → ℕ → List ℕ → ℕ → Option Errno
 batch_refusal o contexts many ends room =
     else_refusal (object_refusal o) (packets_refusal contexts many ends room)
@@ -101,17 +101,17 @@ run_weight cost = cost.instructions + CALL_WEIGHT * cost.calls
 abbrev pub allowed : ℕ → ℕ → ℕ → ℕ
 allowed bound cost packets = min packets (max 1 (bound / cost))
 
--- n is the number of packets that a bound other than 0 allows a batch of so many, by what a
--- descriptor names: a run of a program counts for its cost; if it names no program all are allowed,
--- since such a batch is rejected as a whole
+-- a bound other than 0 allows n of the `packets` of a batch, by what its descriptor names: each run
+-- of a program counts for its cost (`run_weight`); if the descriptor names no program all are
+-- allowed, since such a batch is rejected as a whole
 abbrev pub IsAllowedBy : Option OpenObject → ℕ → ℕ → ℕ → Type 0
 IsAllowedBy None bound packets n = n ≡ packets
 IsAllowedBy (Some (object.Map handle)) bound packets n = n ≡ packets
 IsAllowedBy (Some (object.Program l)) bound packets n =
     (cost : Cost) × IsCostOf cost l.insns × (n ≡ allowed bound (run_weight cost) packets)
 
--- n is the number of packets that a bound allows a batch of so many, by what a descriptor names;
--- all if the bound is 0
+-- of the `packets` packets of a batch at a descriptor that names o, the bound allows n: all if it
+-- is 0, else as many as `IsAllowedBy` says
 abbrev pub IsAllowed : Option OpenObject → ℕ → ℕ → ℕ → Type 0
 IsAllowed o bound packets n =
     (bound ≡ 0 → n ≡ packets) × (bound ≢ 0 → IsAllowedBy o bound packets n)
@@ -145,8 +145,8 @@ BatchIsItsFrames =
     → RunsInOrder fd before inputs results after
     → AloneWithRefusals (Some before) frames (result_replies frames results) (Some after)
 
--- if a run on a packet has an error, the test-run command of the packet has this error, and changes
--- nothing
+-- if a run on a packet is refused with an error (`run_refusal`), the test-run command on this
+-- packet returns the same error, and changes nothing
 abbrev pub RefusedAsItsFrame : Type 0
 RefusedAsItsFrame =
     (s : TenantState) (fd : ℕ) (words packet : List ℕ) (errno : Errno)

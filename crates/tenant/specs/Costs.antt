@@ -15,7 +15,8 @@ HasCost (Some (object.Map handle)) cost = cost ≡ None
 HasCost (Some (object.Program l)) None = ⊥
 HasCost (Some (object.Program l)) (Some cost) = IsCostOf cost l.insns
 
--- the cost of what a descriptor of a tenant names; a tenant that is not served has nothing open
+-- `cost` is that of the program which descriptor `fd` of a tenant names, and None if `fd` names no
+-- program; a tenant that is not served has nothing open
 abbrev pub HasCostAt : Option TenantState → ℕ → Option Cost → Type 0
 HasCostAt None fd cost = cost ≡ None
 HasCostAt (Some s) fd cost = HasCost (named s.objects fd) cost

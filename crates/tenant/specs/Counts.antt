@@ -11,7 +11,7 @@ abbrev pub one_program : OpenObject → ℕ
 one_program (object.Map handle) = 0
 one_program (object.Program l) = 1
 
--- how many maps are live, how many keys they have together, and how many bytes their values take;
+-- how many maps are live, how many keys they have together, and how many bytes their areas have;
 -- how many descriptors name a program, and how many are open; whether memory was ever refused
 abbrev pub counts_of : TenantState → Counts
 counts_of s = record {

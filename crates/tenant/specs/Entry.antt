@@ -8,8 +8,8 @@ use Rattle.tenant.specs.declared.readers.MapEntry.{MapEntry}
 abbrev pub NumberedEntry : Type 0
 NumberedEntry = (List ℕ × List ℕ) × ℕ
 
--- the entries of the map of handle k in their order, with the values that lie in the tenant's part,
--- `part`; none if the handle has no live map
+-- the entries of the map of handle k, in their order: of each the key, its value in the tenant's
+-- part (`part`), and the number of its element; none if the handle has no live map
 abbrev pub numbered_entries : List ℕ → LiveMaps → ℕ → List NumberedEntry
 numbered_entries part t k =
     map (λ (e : List ℕ × ℕ). ((e.0, value_in part t k e.1), e.1)) (keys_at t k).entries

@@ -77,17 +77,18 @@ pub record AreHeld (t : LiveMaps) : Type 0 where
   pub some : (handle : ℕ) → IsSome (live_at t handle) → 1 ≤ holds_at t handle
   pub ended : (handle : ℕ) → (keys_at t handle).kept ≡ []
 
--- a program has a handle for each descriptor of a map in its text, in the order of first use, and
--- no handle twice; the maps of these handles are live and have the shapes with which the program
--- was verified
+-- a program has a handle for each descriptor of a map that its instructions load, in the order of
+-- the first loads, and no handle twice; the maps of these handles are live and have the shapes with
+-- which the program was verified
 pub record IsBound (t : LiveMaps) (l : LoadedProgram) : Type 0 where
   pub each : keys_of l.maps ≡ maps_of l.insns
   pub once : (handle : ℕ) → times_listed handle (map_handles l) ≤ 1
   pub shaped : (fd handle : ℕ) → lookup (λ m. m == fd) l.maps ≡ Some handle
       → IsSome (live_at t handle) × (shapes_named l.named fd ≡ Some (shape_at t handle))
 
--- the table has all descriptors; each map has as many references as descriptors and loaded programs
--- name it; no two descriptors name the same map; each loaded program has live maps of its shapes
+-- the table has an item for each descriptor, open or free; the live maps are held (`AreHeld`); each
+-- has as many references as descriptors and loaded programs name it; no two descriptors name the
+-- same map; each loaded program has live maps, of the shapes with which it was verified (`IsBound`)
 pub record IsWellFormedTenant (k : KeptTenant) : Type 0 where
   pub all : length k.objects ≡ most
   pub maps : AreHeld k.live

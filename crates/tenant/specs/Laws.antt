@@ -58,9 +58,10 @@ takes_memory other = false
 abbrev pub IsNoRefusal : TenantState → Answer → Type 0
 IsNoRefusal s a = (a.status ≢ status_of NoMemory) × (a.after.refused ≡ s.refused)
 
--- A refusal of memory changes only what a creation or a load does: its status is ENOMEM, and only
--- the flag changes. Nothing else has this status or sets the flag: no command to which memory is
--- not refused, and no other command.
+-- If memory may be refused, a command has a result that it has without refusals, or it is a
+-- creation or a load with the status ENOMEM, which only sets the flag (`refused`). No command has
+-- this status or changes the flag if memory is not refused (`unrefused`), and none but a creation
+-- or a load does at all (`others`).
 pub record RefusalsAreReported : Type 0 where
   pub refused : (s : TenantState) (command : Command) (a : Answer) → Answers true s command a
       → Answers false s command a ⊎ ((takes_memory command ≡ true) × (a ≡ refuses_for_memory s))

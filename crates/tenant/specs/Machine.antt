@@ -76,8 +76,8 @@ opens fd s = record { status = pos fd; payload = []; after = s }
 abbrev pub kind_of : ℕ → Option MapKind
 kind_of n = if n == 1 then Some Hash else (if n == 2 then Some Array else None)
 
--- the shape that `shape` makes of a proof that the area fits, since each `MapShape` has such a
--- proof; the error TooBig if the area does not fit (`fits` is false)
+-- the shape that `shape` gives for a proof that the area fits; the error TooBig if it does not fit
+-- (`fits` is false). Each `MapShape` contains such a proof
 abbrev pub shape_where : (fits : Bool) → (fits ≡ true → MapShape) → Result MapShape Errno
 shape_where true shape = Ok (shape refl)
 shape_where false shape = Err TooBig
@@ -120,12 +120,14 @@ created_at false s shape fd handle =
           (Some (new_map shape));
     })
 
--- the result of MAP_CREATE at a free descriptor, if there is a handle for the map, or the error
+-- the result of MAP_CREATE at a free descriptor, with the handle for the map; the error NoSpace
+-- without one (None). `refused` is whether memory is refused
 abbrev pub created_as : Bool → TenantState → MapShape → ℕ → Option ℕ → Answer
 created_as refused s shape fd None = refuses NoSpace s
 created_as refused s shape fd (Some handle) = created_at refused s shape fd handle
 
--- the result of MAP_CREATE of this shape, if a descriptor is free, or the error
+-- the result of MAP_CREATE of this shape at a free descriptor, or the error TooManyOpen without one
+-- (None); `refused` is whether memory is refused
 abbrev pub created_under : Bool → TenantState → MapShape → Option ℕ → Answer
 created_under refused s shape None = refuses TooManyOpen s
 created_under refused s shape (Some fd) =
@@ -178,7 +180,8 @@ element_put s handle t key value (call.Present old) =
     gives [] (with_map_at s handle (with_object t key value))
 element_put s handle t key value call.New = gives [] (with_map_at s handle (with_new t key value))
 
--- MAP_UPDATE_ELEM: the bytes are the key and then the value
+-- MAP_UPDATE_ELEM at the descriptor fd: the bytes are the key and then the value; if their number
+-- is not that of both, the error is Invalid
 abbrev pub element_updated : TenantState → ℕ → ℕ → List ℕ → Answer
 element_updated s fd flags bytes =
     on_map s fd (λ handle t. if length bytes == t.shape.key_size + t.shape.value_size
@@ -193,7 +196,8 @@ element_taken_out s handle t key (Err fault) = refuses (map_errno fault) s
 element_taken_out s handle t key (Ok value) =
     gives [] (with_map_at s handle (after_run (with_deleted t key)))
 
--- MAP_DELETE_ELEM: the key and its value are deleted
+-- MAP_DELETE_ELEM: the key and its value are deleted; an error if the descriptor names no map, the
+-- key has not the size of the map's keys, or the deletion is refused
 abbrev pub element_deleted : TenantState → ℕ → List ℕ → Answer
 element_deleted s fd key =
     on_map s fd
@@ -214,7 +218,8 @@ given_next s fd key =
 -- ---- PROG_LOAD
 
 -- the error of slots that are no program: TooBig if there are none or too many, as in the kernel,
--- Invalid for another fault. No slots have the fault Memory
+-- else Invalid. NoMemory is for the fault Memory, which is a refusal of memory and no fault of
+-- slots
 abbrev pub codec_errno : FaultKind → Errno
 codec_errno kind.Opcode = Invalid
 codec_errno kind.Reserved = Invalid
@@ -225,9 +230,9 @@ codec_errno kind.Empty = TooBig
 codec_errno kind.TooLong = TooBig
 codec_errno kind.Memory = NoMemory
 
--- the error of a program that is not accepted: one of a wrong shape is invalid, or names a
--- descriptor that is not open; access is denied to one that is unsafe, or writes the frame pointer.
--- No rule has the reason Memory
+-- the error of a program that is not accepted, from the reason. If its shape is wrong, it is
+-- BadDescriptor for a descriptor that is not open, AccessDenied for a write of the frame pointer,
+-- else Invalid. If it is unsafe, it is AccessDenied. No rule has the reason Memory
 abbrev pub verdict_errno : Reason → Errno
 verdict_errno reason.JumpOutside = Invalid
 verdict_errno reason.JumpBackward = Invalid
@@ -283,8 +288,8 @@ abbrev pub entry_of : ℕ → Option Target → List Named
 entry_of fd None = []
 entry_of fd (Some t) = record { fd = fd; target = t } ∷ []
 
--- the open descriptors from fd on, with their objects as the verifier sees them; the list begins
--- with what fd names
+-- the open descriptors from fd on, with their objects as the verifier sees them. The list that is
+-- given has what each descriptor from fd on names, None if it is not open
 unfoldable pub targets_from : TenantState → ℕ → List (Option OpenObject) → List Named
 targets_from s fd [] = []
 targets_from s fd (o ∷ os) =
@@ -326,7 +331,8 @@ answer_of_judgement s fd (Ok insns) =
     opens fd
     (record s { objects = table.with_open s.objects fd (object.Program (loaded_program s insns)) })
 
--- the result of a load at the descriptor fd; if memory is refused, it does not depend on the slots
+-- the result of a load of slots at the descriptor fd: that of refused memory (true), or that of a
+-- judgement of the slots by the verifier (`Judges`)
 abbrev pub LoadsAs : Bool → TenantState → ℕ → List ℕ → Answer → Type 0
 LoadsAs true s fd slots answer = answer ≡ refuses_for_memory s
 LoadsAs false s fd slots answer =
@@ -334,7 +340,7 @@ LoadsAs false s fd slots answer =
     × Judges (targets s) slots j
     × (answer ≡ answer_of_judgement s fd j)
 
--- the result of a load, if a descriptor is free
+-- the result of a load at this free descriptor (`LoadsAs`); TooManyOpen if none is free (None)
 abbrev pub LoadsUnder : Bool → TenantState → Option ℕ → List ℕ → Answer → Type 0
 LoadsUnder refused s None slots answer = answer ≡ refuses TooManyOpen s
 LoadsUnder refused s (Some fd) slots answer = LoadsAs refused s fd slots answer
@@ -348,7 +354,8 @@ Loads refused s kind slots answer =
 
 -- ---- PROG_TEST_RUN
 
--- the maps of a program, by the descriptors in its text; None for any other descriptor
+-- the maps of a loaded program, by the descriptors that its instructions name; None for any other
+-- descriptor
 abbrev pub maps_given : TenantState → LoadedProgram → MapsByDescriptor
 maps_given s l fd = and_then (lookup (λ m. m == fd) l.maps) (λ handle. live s handle)
 

@@ -51,9 +51,10 @@ fn allowed(bound: u64, cost: u64, packets: usize) -> usize
 }
 
 impl Tenant {
-    /// How many of the `packets` of a batch a bound allows. Each run of the program at the descriptor counts for the most instructions that
-    /// a run executes, and `CALL_WEIGHT` for each of the most calls of helpers that it makes. As many packets are allowed as count for at
-    /// most `bound` together, but at least one. All are if `bound` is 0, or if the descriptor names no program: such a batch is rejected.
+    /// How many of the `packets` of a batch a bound allows. A run of the program at the descriptor has a weight: the most instructions that
+    /// it executes, plus `CALL_WEIGHT` times the most calls of helpers that it makes. The result is `bound` divided by the weight, but at
+    /// least 1, and at most `packets`. It is `packets` if `bound` is 0; also if the descriptor names no program, since such a batch is
+    /// rejected.
     #[tactic(auto, using(crate::proofs::Bounds::weights_are_positive, crate::proofs::Bounds::all_allowed, crate::proofs::Bounds::allowed_of_program, crate::proofs::Bounds::allowed_otherwise))]
     pub fn allowed_packets(&self, fd: u32, bound: u64, packets: usize) -> usize
         ensures allowed { IsAllowed (named self.now.objects fd) bound packets result }
@@ -75,10 +76,10 @@ impl Tenant {
     ///
     /// # Errors
     ///
-    /// `BadDescriptor` if the descriptor is not open, `Invalid` if it names a map. `Invalid` if there is room for fewer
-    /// results than packets, if there is neither one array of words nor one for each packet, and at the first end that is before the
-    /// one before it or after the last byte; `TooBig` at the first packet of more than `LONGEST_PACKET` bytes. Then no packet was
-    /// run, and nothing has changed.
+    /// `BadDescriptor` if the descriptor is not open. `Invalid` if it names a map, if `results` has room for fewer results than
+    /// packets, or if there is neither one array of words nor one for each packet. Else the error of the first packet that has one:
+    /// `Invalid` if it ends before it begins or after the last byte, `TooBig` if it has more than `LONGEST_PACKET` bytes. After an
+    /// error no packet was run, and nothing has changed.
     pub fn run_packets(
         &mut self,
         fd: u32,

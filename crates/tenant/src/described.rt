@@ -79,7 +79,7 @@ pub fn type_number(kind: MapKind) -> u32
 }
 
 impl Tenant {
-    /// The description of a live map: its kind, its shape, and how many keys it has.
+    /// The description of a live map: that it is a map, its shape, and how many keys it has.
     fn described_map(&self, map: MapKey) -> Described
         requires { IsSome (live_at self.now.live map) }
         ensures { (part : List ℕ) → result ≡ described_map (map_in part self.now.live map) }

@@ -36,8 +36,8 @@ pub enum Errno {
     NoSpace,
 }
 
-/// The error of a load whose slots are no program: `TooBig` if there are none or too many of them, as in the kernel. No slots have the
-/// fault `Memory`: a load that is out of memory is not rejected for its slots.
+/// The error of a load whose slots are no program, by the codec's fault: `TooBig` if it has no slots or too many, as in the kernel, else
+/// `Invalid`. The arm `Memory` is not used: `verify_slots` returns `AllocError` if out of memory, and not this fault.
 fn errno_of_codec(kind: FaultKind) -> Errno
     ensures { result ≡ codec_errno kind }
 {
@@ -52,8 +52,9 @@ fn errno_of_codec(kind: FaultKind) -> Errno
     }
 }
 
-/// The error of a load whose program is not accepted, by the rule that it breaks: `Invalid` or `BadDescriptor` for its shape, and
-/// `AccessDenied` if it is unsafe or writes the frame pointer. No rule has the reason `Memory`, which `verify` gives if out of memory.
+/// The error of a load whose program is not accepted, by the rule that it breaks. For its shape it is `BadDescriptor` if a descriptor is
+/// not open, and `Invalid` by any other rule. It is `AccessDenied` if the program is unsafe or writes the frame pointer. No rule has the
+/// reason `Memory`, which `verify` gives if out of memory; its error is `NoMemory`.
 fn errno_of_verdict(reason: Reason) -> Errno
     ensures { result ≡ verdict_errno reason }
 {

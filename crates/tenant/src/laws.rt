@@ -4,7 +4,8 @@ ghost use Rattle.tenant.specs.Batch.{BatchIsItsFrames, RefusedAsItsFrame, OneRes
 ghost use Rattle.tenant.specs.Laws.{OneAnswer, OneReply, OneAlone, ClearFlagMeansNoRefusal, ClearFlagMeansAlone};
 ghost use Rattle.tenant.specs.Laws.{RefusalsAreReported, OnlyCreationsAndLoadsAreRefused, UnrefusedRepliesMeanAlone, FaultsHaveNoPayload};
 
-/// A law: in a state, a command has one result (status, payload and next state) if memory is refused to it, and one if it is not.
+/// A law: in a state, a command has at most one result (status, payload and next state) if memory is refused to it, and at most one if it
+/// is not.
 pub fn one_answer()
     ensures { OneAnswer }
 {
@@ -18,8 +19,7 @@ pub fn one_reply()
     one_answer();
 }
 
-/// A law: from a state on, a tenant's frames have one list of replies and lead to one state, if no memory is refused: they depend on
-/// nothing else.
+/// A law: if no memory is refused, a tenant's state and its frames determine its replies and the state after them.
 pub fn one_alone()
     ensures { OneAlone }
 {
@@ -36,8 +36,9 @@ pub fn clear_flag_means_alone()
     ensures { ClearFlagMeansAlone }
 {}
 
-/// A law: a refusal of memory changes only what a creation or a load does: its status is `NoMemory`, and only the flag changes. No other
-/// command, and none to which memory is not refused, has the status `NoMemory` or sets the flag; so no verdict on a program is `NoMemory`.
+/// A law: if memory is refused to a command, its result is one that it has without the refusal; or it is a creation or a load, its status
+/// is `NoMemory`, and it only sets the flag. No other command, and none to which memory is not refused, has the status `NoMemory` or
+/// changes the flag. So a load that rejects its program does not have this status.
 pub fn refusals_are_reported()
     ensures { RefusalsAreReported }
 {
@@ -50,7 +51,8 @@ pub fn only_creations_and_loads_are_refused()
     ensures { OnlyCreationsAndLoadsAreRefused }
 {}
 
-/// A law: if none of a tenant's replies has the status `NoMemory`, they are those of its machine without refusals, whatever its flag was.
+/// A law: if none of a tenant's replies has the status `NoMemory`, they are those of its machine without refusals, even if its flag of
+/// refused memory (`refused`) was set before them.
 pub fn unrefused_replies_mean_alone()
     ensures { UnrefusedRepliesMeanAlone }
 {}
@@ -66,8 +68,8 @@ pub fn batch_is_its_frames()
     ensures { BatchIsItsFrames }
 {}
 
-/// A law: if the descriptor names no program, or a packet is too long, the test-run command of this packet has the error that a batch has
-/// for this, and changes nothing.
+/// A law: if a run on a packet has an error (`run_refusal`), since the descriptor names no program or the packet is too long, then the
+/// test-run command of the packet has the same error, and changes nothing.
 pub fn refused_as_its_frame()
     ensures { RefusedAsItsFrame }
 {}

@@ -92,8 +92,9 @@ impl Tenant {
         Ok(LoadedProgram::new(program, maps))
     }
 
-    /// Verifies the program that the slots spell, in the memory `working`, and returns it with the handles of its maps if it is accepted,
-    /// or why the slots are rejected. `AllocError`: out of memory. `slot` bounds the slot of a refusal, which a reply has in four bytes.
+    /// Verifies the program that the slots spell, with the tenant's open descriptors, in the memory `working`. Returns it with the handles
+    /// of its maps if it is accepted, else why the slots are rejected. `AllocError`: out of memory. By the clause `slot` the slot of a
+    /// refusal is at most the number of slots: a reply has four bytes for it.
     fn program_of(
         &self,
         slots: &[u8],

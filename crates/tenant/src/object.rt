@@ -42,7 +42,8 @@ impl Model for LoadedProgram {
 }
 
 impl LoadedProgram {
-    /// A program with the handles of its maps, one for each descriptor of a map in its text.
+    /// An accepted program with the handles of its maps: one for each descriptor of a map that its instructions name, in the order in which
+    /// they first name these.
     pub(crate) fn new(program: Verified, maps: Vec<MapKey>) -> LoadedProgram
         requires { length maps.items ≡ length (maps_of program.code) }
         ensures insns { result.insns ≡ program.code }
@@ -52,7 +53,7 @@ impl LoadedProgram {
         LoadedProgram { program, maps }
     }
 
-    /// The handles of its maps, in the order in which its text first names them.
+    /// The handles of the program's maps, in the order in which its instructions first name their descriptors.
     pub(crate) fn maps(&self) -> &[MapKey]
         ensures { result.now ≡ map_handles self.now }
     {

@@ -26,9 +26,9 @@ pub enum Reply<'a> {
     Refused(Refusal),
 }
 
-/// Writes to `reply` what a command returned, a `Reply` or an error. It repeats the tenant and the command number of `head`, the head of
-/// the command's frame. Each command promises that its result can be written (`IsWritable`), so no cast loses anything. The contract holds
-/// for each state after the command, since no reply has a state in it.
+/// Writes to `reply` what a command returned, a `Reply` or an error, with the tenant and the command number of `head`, the head of the
+/// command's frame. Each command promises that its result can be written (`IsWritable`), so no cast loses anything. The contract holds
+/// for any state `s`: an `Answer` also has the state after the command, and no byte of a reply depends on it.
 #[inline(always)]
 pub fn write_answer(head: Head, answer: Result<Reply<'_>, Errno>, reply: &mut ReplyBuf)
     requires { IsWritable answer }

@@ -42,7 +42,8 @@ word n = Some (name n)
 abbrev pub sign : List ℕ → Option Token
 sign s = Some (symbol s)
 
--- the token of a register's name: of its 64 bits if wide, else of its low half
+-- the token of a register's name, in a layout (None is a space): the name of its 64 bits if
+-- wide, else of its low half
 abbrev pub reg : Bool → ℕ → Option Token
 reg wide r = word (register_name wide r)
 
@@ -95,8 +96,8 @@ value_layout (value.MapValue fd off) rest =
     word (codes "map_value") ∷ space
     ∷ constant fd (space ∷ sign (codes "+") ∷ space ∷ Some (number off) ∷ rest)
 
--- the table: the line of each form. `label` is the name of the label that its jump names; a form
--- that names none does not use it.
+-- the table of the grammar: how the line of each form is laid out. `label` is the name of the label
+-- to which the form jumps; a form that names no label does not use it.
 abbrev pub layout : Form → List ℕ → TokenLayout
 layout (form.Operation wide dst o) label = reg wide dst ∷ space ∷ operation_layout wide dst o
 layout (form.Jump long to) label = word (jump_name long) ∷ space ∷ destination to label
@@ -129,9 +130,9 @@ abbrev pub IsSource : SourceOperand → Type 0
 IsSource (source.Number n) = Unit {0}
 IsSource (source.Reg r) = r ≤ 10
 
--- the source, if it is a register, is 0 to 10; a sign extension is from fewer bits than the
--- register has, which is 64 if wide, else 32; a byte-order conversion is of an r register. A
--- negation has no source.
+-- the operation can be that of an instruction on a register of 64 bits (`wide`) or 32: a source
+-- register is 0 to 10; a sign extension is from fewer bits than the register has; a byte-order
+-- conversion is of 64 bits. Nothing is required of a negation, which has no source.
 abbrev pub IsOperation : Bool → Operation → Type 0
 IsOperation wide (operation.Binary op src) = IsSource src
 IsOperation wide (operation.SignExtend from src) = (src ≤ 10) × IsTrue (wide || is_short from)

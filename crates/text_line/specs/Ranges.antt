@@ -16,7 +16,7 @@ use Rattle.text_line.specs.Written.{number_of}
 
 -- ---- ranges
 
--- a magnitude is at most this: one without a value is 2 ^ 64 or more, and so above each bound
+-- the magnitude is at most the bound `most`; None is 2 ^ 64 or more, which no bound allows
 abbrev pub is_at_most : ℕ → Option ℕ → Bool
 is_at_most most None = false
 is_at_most most (Some n) = nat_le n most
@@ -29,8 +29,8 @@ imm_fits n = is_at_most (if n.negative then 2147483648 else 2147483647) n.magnit
 abbrev pub offset_fits : Number → Bool
 offset_fits n = is_at_most (if n.negative then 32768 else 32767) n.magnitude
 
--- the number is in the range of an unsigned field of 32 bits, 0 to 2 ^ 32 - 1: the offset in a
--- map's value that a wide load has
+-- the number fits the unsigned field of 32 bits, 0 to 2 ^ 32 - 1, that has a wide load's offset in
+-- a map's value; None, a number of 2 ^ 64 or more, does not
 abbrev pub next_imm_fits : Option ℕ → Bool
 next_imm_fits n = is_at_most 4294967295 n
 
@@ -39,7 +39,8 @@ abbrev pub source_fits : SourceOperand → Bool
 source_fits (source.Number n) = imm_fits n
 source_fits (source.Reg r) = true
 
--- the number of a jump's target fits 16 bits, that of a long jump (`true`) 32; a label has none
+-- the number of a jump's target fits 16 bits, that of a long jump (`true`) 32; a label, which has
+-- no number, fits
 abbrev pub target_fits : Bool → JumpTarget → Bool
 target_fits long (target.Number n) = if long then imm_fits n else offset_fits n
 target_fits long target.Label = true
@@ -78,8 +79,8 @@ normal_source (source.Reg r) = source.Reg r
 abbrev pub normal_address : Address → Address
 normal_address at = record { base = at.base; offset = normal at.offset }
 
--- the form with 0 for each number -0; a jump is not changed, as `resolved` has equations of its own
--- for jumps; no other form has a number with a sign
+-- the form with 0 for each number -0. A jump is not changed, as `resolved` has equations of its own
+-- for jumps. Each other form that has no equation here has no number with a sign
 abbrev pub normal_form : Form → Form
 normal_form (form.Operation wide dst (operation.Binary op src)) =
     form.Operation wide dst (operation.Binary op (normal_source src))

@@ -10,10 +10,12 @@ seen_line written.Blank = blank
 seen_line (written.Label n) = label n.now
 seen_line (written.Code f n) = instruction f n.now
 
--- the reading that a result of the code represents; `None` of a line that has none of the forms
+-- the line that the code's result of reading a line represents; `None`, in both, if the line has
+-- none of the forms
 abbrev pub seen_option : Option CodeLine → Option Line
 seen_option line = option_map seen_line line
 
--- the readings that the results of the code represent, one for each line, in order
+-- the lines that these lines of the code represent, in order; `None` of a line that has none of the
+-- forms
 abbrev pub seen_lines : List (Option CodeLine) → List (Option Line)
 seen_lines lines = map seen_option lines

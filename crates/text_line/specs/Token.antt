@@ -13,7 +13,7 @@ pub data Token : Type 0 where
   number : Option ℕ → Token
   symbol : List ℕ → Token
 
--- the symbols
+-- the symbols of a program's text, longer ones first
 abbrev pub symbols : List (List ℕ)
 symbols =
     codes "s>>=" ∷ codes "s/=" ∷ codes "s%=" ∷ codes "s>=" ∷ codes "s<=" ∷ codes "<<=" ∷ codes ">>="
@@ -35,7 +35,8 @@ is_name_byte b = is_name_start b || is_ascii_digit b
 abbrev pub is_hex_digit : ℕ → Bool
 is_hex_digit b = is_ascii_digit b || (nat_lt 64 b && nat_lt b 71) || (nat_lt 96 b && nat_lt b 103)
 
--- the value of a number's digits; `None` from 2 ^ 64 on, which no field can hold
+-- the value of a number token whose digits spell n: n; `None` from 2 ^ 64 on, which no field can
+-- hold
 abbrev pub value_of : ℕ → Option ℕ
 value_of n = if nat_lt n (2 ^ 64) then Some n else None
 
@@ -47,12 +48,13 @@ is_name bytes = is_name_start (slice_index bytes 0) && list_all is_name_byte byt
 abbrev pub are_digits : (ℕ → Bool) → List ℕ → Bool
 are_digits is_digit bytes = nat_lt 0 (length bytes) && list_all is_digit bytes
 
--- the bytes are a number in decimal digits with this value
+-- the bytes are decimal digits, at least one, and `value` is their number, or None from 2 ^ 64 on
 abbrev pub IsDecimal : List ℕ → Option ℕ → Type 0
 IsDecimal bytes value =
     IsTrue (are_digits is_ascii_digit bytes) × (value ≡ value_of (digits_value 10 bytes))
 
--- the bytes are a number with this value: `0x` and hexadecimal digits
+-- the bytes are `0x` and hexadecimal digits, at least one, and `value` is the number of the digits,
+-- or None from 2 ^ 64 on
 abbrev pub IsHexadecimal : List ℕ → Option ℕ → Type 0
 IsHexadecimal bytes value =
     (digits : List ℕ)

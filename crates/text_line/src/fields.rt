@@ -106,8 +106,8 @@ impl JumpTarget {
         }
     }
 
-    /// The offset in slots of a long jump (`true` in the contract): its number, or `distance` if its target is a label. `None` if the
-    /// number doesn't fit 32 bits.
+    /// The offset in slots of a long jump to this target: the target's number, or `distance` if the target is a label. `None` if the number
+    /// doesn't fit 32 bits. The `true` in the contract means a long jump.
     fn long_offset(self, distance: i16) -> Option<i32>
         ensures found { IfSome result (λ n. target.Number (number_of n) ≡ placed distance self) }
         ensures fits { IfSome result (λ _. target_fits true self ≡ true) }
@@ -122,7 +122,7 @@ impl JumpTarget {
 
 impl Operation {
     /// The instruction of this operation on `dst`, of 64 bits if `wide`, else of the low 32; `None` if its number is out of range.
-    /// `Form::insn` has checked that a line can have the form: else a byte-order conversion could be of a `w` register.
+    /// `Form::insn` has checked that a line can have this form: so a byte-order conversion is of an `r` register, not of a `w` register.
     fn insn(self, wide: bool, dst: Reg) -> Option<Insn>
         requires { IsForm (form.Operation wide dst self) }
         ensures found { IfSome result (λ insn. written insn

@@ -145,7 +145,7 @@ pub enum Line<'a> {
 impl Form {
     ghost use Rattle.text_line.specs.Form.{form_slots, names_label};
 
-    /// The number of slots of its instruction: 2 for a wide load, else 1. A form whose numbers are out of range counts too.
+    /// The number of slots of an instruction of this form: 2 for a wide load, else 1; also if a number of the form is out of range.
     pub fn slots(self) -> usize
         ensures value { result ≡ form_slots self }
         ensures bound { result ≤ 2 }

@@ -15,7 +15,8 @@ pub fn one_instruction()
 {}
 
 /// A law: the written form of an instruction has its numbers in range, names no label, and has as many slots as the instruction
-/// is spelled in. To resolve labels, at any distance, leaves it unchanged. So a printed line has no fault in its numbers or labels.
+/// is spelled in. It is unchanged if labels are resolved, whatever distance replaces a label. So a printed line has no fault in its
+/// numbers or labels.
 pub fn written_in_range()
     ensures { (insn : Insn) → IsInsn insn → IsWrittenInRange insn }
 {}

@@ -35,8 +35,8 @@ fn binary(wide: bool, op: AluOp, tokens: &[Token<'_>]) -> Option<Operation>
     at_end(Operation::Binary { op, src }, rest)
 }
 
-/// A move with sign extension, from the tokens after `(`, as `s16)r2`, of an `r` register if `wide`, else of a `w` register. `None` if they
-/// are anything else, also `s32` with a `w` register: 32 bits are all that it has.
+/// A move with sign extension, from the tokens after `(`, for example `s16)r2`. Its source is an `r` register if `wide`, else a `w`
+/// register. `None` if the tokens are anything else, also `s32` with a `w` register, since that has only 32 bits.
 #[tactic(auto, unfolding(crate::specs::inside::Reading::parsed_sign_extension))]
 fn sign_extension(wide: bool, tokens: &[Token<'_>]) -> Option<Operation>
     ensures { result ≡ parsed_sign_extension wide (shown_tokens tokens.now) }
@@ -53,8 +53,8 @@ fn sign_extension(wide: bool, tokens: &[Token<'_>]) -> Option<Operation>
     at_end(Operation::SignExtend { from, src }, rest)
 }
 
-/// `found`, an operation whose line names its destination `dst` again at the end, as `r1 = -r1`, if the tokens are only this register, as
-/// `r` if `wide`, else as `w`. `None` if they are anything else.
+/// Reads the end of a line that names its destination `dst` again, as `r1 = -r1`. Returns `found`, the line's operation, if `tokens` are
+/// this register and nothing else, an `r` register if `wide`, else a `w` register. Returns `None` for any other tokens.
 #[tactic(auto, unfolding(crate::specs::inside::Reading::parsed_in_place))]
 fn in_place(wide: bool, dst: Reg, found: Operation, tokens: &[Token<'_>]) -> Option<Operation>
     ensures { result ≡ parsed_in_place wide dst found (shown_tokens tokens.now) }
@@ -88,8 +88,8 @@ fn unary(wide: bool, dst: Reg, tokens: &[Token<'_>]) -> Option<Operation>
     in_place(true, dst, Operation::End { how, bits }, rest)
 }
 
-/// An operation on `dst`, an `r` register if `wide`, else `w`, from the tokens after its symbol, which is that of `op`; `None` if they
-/// spell none. The operations of one operand (`unary`) are written with `=`, the symbol of a move (`Mov`).
+/// An operation on `dst`, an `r` register if `wide`, else `w`, from the tokens after the symbol of its operator `op`. `None` if they are
+/// anything else. An operation of one operand (`unary`) is written with `=`, the symbol of a move (`Mov`).
 #[tactic(auto, unfolding(crate::specs::inside::Reading::parsed_operation))]
 fn operation(wide: bool, op: AluOp, dst: Reg, tokens: &[Token<'_>]) -> Option<Operation>
     ensures { result ≡ parsed_operation wide op dst (shown_tokens tokens.now) }
@@ -215,8 +215,9 @@ fn branch<'a>(tokens: &[Token<'a>]) -> Option<(Form, &'a str)>
     ))
 }
 
-/// An instruction, and the label that its jump names: the empty text if it names none. A line that begins with none of the six words
-/// (`if` to `lock`) begins with its destination register (`assigned`), or is a store. `None` if the tokens are no instruction.
+/// The form of the instruction that the tokens are, and the label that its jump names: the empty text if it names none. If the first token
+/// is none of `if`, `goto`, `gotol`, `call`, `exit` and `lock`, it is the destination register (`assigned`), or the instruction is a store.
+/// `None` if the tokens are no instruction.
 #[tactic(auto, unfolding(crate::specs::inside::Reading::parsed_form))]
 fn form<'a>(tokens: &[Token<'a>]) -> Option<(Form, &'a str)>
     ensures { seen_destination result ≡ parsed_form (shown_tokens tokens.now) }

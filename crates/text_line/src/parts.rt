@@ -25,7 +25,7 @@ pub(crate) fn symbol<'t, 'a>(tokens: &'t [Token<'a>]) -> Option<(&'a str, &'t [T
     }
 }
 
-/// The first token, if it is a name, and the tokens after it; `None` if it is none, or if there is no token.
+/// The first token, if it is a name, and the tokens after it; `None` if it is no name, or if there is no token.
 pub(crate) fn name<'t, 'a>(tokens: &'t [Token<'a>]) -> Option<(&'a str, &'t [Token<'a>])>
     ensures { seen_label result ≡ leading_name (shown_tokens tokens.now) }
 {
@@ -113,7 +113,7 @@ pub(crate) fn constant<'t, 'a>(tokens: &'t [Token<'a>]) -> Option<(Number, &'t [
     }
 }
 
-/// A number after its sign, `+` or `-`, and the tokens after it; `None` if the tokens begin with none, or with one without a sign.
+/// A number with its sign, `+` or `-`, and the tokens after it; `None` if the tokens do not begin with a sign and then a number.
 #[tactic(auto, unfolding(crate::specs::inside::Reading::leading_signed_number))]
 pub(crate) fn signed<'t, 'a>(tokens: &'t [Token<'a>]) -> Option<(Number, &'t [Token<'a>])>
     ensures { seen_pair result ≡ leading_signed_number (shown_tokens tokens.now) }

@@ -30,7 +30,8 @@ check_readable k = Ok k
 -- ---- the distance by which a number moves a pointer: its range, read as signed; None unless all
 -- of it has one sign
 
--- the least and the greatest number of a range, read as signed: by so many bytes it moves a pointer
+-- the least and the greatest number of bytes by which a number of a range moves a pointer: the ends
+-- of the range, read as signed
 abbrev pub Distance : Type 0
 Distance = ℤ × ℤ
 
@@ -58,14 +59,14 @@ abbrev pub near : {A : Type 0} → Option A → Result A Reason
 near None = Err OffsetTooLarge
 near (Some x) = Ok x
 
--- the kind of the stack pointer at offset x, moved by the one number of a range; OffsetTooLarge if
--- it is then too far from 0
+-- the kind of the stack pointer at offset x, moved by the number of r, a range of one number;
+-- OffsetTooLarge if the new offset is more than `farthest_offset` from 0
 abbrev pub stack_moved : Direction → ℤ → Range → Result Kind Reason
 stack_moved way x r =
     and_then_ok (near (and_then (distance r) (λ d. moved_offset way x d.0))) (λ y. Ok (Stack y))
 
--- a pointer into a value of this map, at an offset from `low` to `high`; None if one of these is
--- None, too far from 0
+-- a pointer into a value of this map, at an offset from `low` to `high`; None if `low` or `high` is
+-- None, since that offset is too far from 0
 abbrev pub spanned : ℕ → Option ℤ → Option ℤ → Option ValuePointer
 spanned map low high = and_then low (λ lo. and_then high (λ hi. Some (value_span map lo hi)))
 
@@ -77,15 +78,16 @@ value_by Forwards p d =
 value_by Backwards p d =
     spanned p.map (moved_offset Backwards p.lo d.1) (moved_offset Backwards p.hi d.0)
 
--- the kind of pointer p into a value, moved by a number of a range; OffsetTooLarge if it may be too
--- far from 0 then, or if the range has numbers of both signs
+-- the kind of pointer p into a value after it is moved, forwards or backwards (`way`), by a number
+-- of range r; OffsetTooLarge if its offset may then be too far from 0, or if the range has numbers
+-- of both signs
 abbrev pub value_moved : Direction → ValuePointer → Range → Result Kind Reason
 value_moved way p r =
     and_then_ok (near (and_then (distance r) (value_by way p))) (λ q. Ok (Value q))
 
 -- the kind of a pointer, moved by a number of a range: a stack pointer by a constant, a pointer
--- into a value by any number. PointerArithmetic for all else; OffsetTooLarge if it may be too far
--- from 0 then, or if the range has numbers of both signs
+-- into a value by any number. PointerArithmetic for any other pointer or number; OffsetTooLarge if
+-- the new offset may be too far from 0, or if the range has numbers of both signs
 abbrev pub pointer_moved : Direction → Kind → Range → Result Kind Reason
 pointer_moved way (Stack x) r = if is_constant r then stack_moved way x r else Err PointerArithmetic
 pointer_moved way (Value p) r = value_moved way p r
@@ -93,7 +95,7 @@ pointer_moved way k r = Err PointerArithmetic
 
 -- ---- two operands
 
--- whether the kind is that of a look-up that may be null
+-- whether the kind is that of the result of a look-up before its null test
 abbrev pub is_maybe : Kind → Bool
 is_maybe (MaybeValue m site) = true
 is_maybe k = false
@@ -120,8 +122,8 @@ difference_kind (Scalar a) b = Err PointerArithmetic
 difference_kind a (Scalar b) = pointer_moved Backwards a b
 difference_kind a b = Err PointerArithmetic
 
--- the result r; MaybeNull if operand a or b is a look-up that may be null, since it may not be
--- moved
+-- the result r of a sum or a difference of kinds a and b; MaybeNull if a or b is the result of a
+-- look-up that may be null, since such a pointer may not be moved
 abbrev pub unless_maybe : Kind → Kind → Result Kind Reason → Result Kind Reason
 unless_maybe a b r = if is_maybe a || is_maybe b then Err MaybeNull else r
 

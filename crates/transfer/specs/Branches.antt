@@ -46,8 +46,9 @@ abbrev pub is_same : ℕ → Operand → Bool
 is_same dst (Imm z) = false
 is_same dst (Reg n) = n == dst
 
--- the edges of a comparison of two numbers of 64 bits (true) or 32, in the ranges a and b, which
--- are refined on each edge, unless a register is compared with itself
+-- the edges of a comparison of register dst with src, numbers of 64 bits (true) or 32 in the ranges
+-- a and b: each edge has the facts f with the ranges refined, None if it can't be taken. If a
+-- register is compared with itself, both edges have f
 abbrev pub number_edges : Bool → Condition → Facts → ℕ → Operand → Range → Range → Edges
 number_edges wide cond f dst src a b =
     if is_same dst src then record { falling = Some f; jumping = Some f } else
@@ -70,16 +71,17 @@ abbrev pub settled_edges : Bool → ℕ → Facts → Edges
 settled_edges jumps site f =
     null_edges jumps (Some (facts_settled site true f)) (Some (facts_settled site false f))
 
--- the edges of a null test of a pointer or a map of kind k; only a look-up may be null. The test
--- jumps on null unless its condition holds of pointers, which are not 0
+-- the edges of a null test of a pointer or a map of kind k: both if it is the result of a look-up,
+-- else only that for not null. The test jumps on not null if its condition holds of pointers, which
+-- are not 0, else on null
 abbrev pub pointer_edges : Condition → Facts → Kind → Edges
 pointer_edges cond f (MaybeValue m site) = settled_edges (not (holds_of_pointers cond)) site f
 pointer_edges cond f k = null_edges (not (holds_of_pointers cond)) None (Some f)
 
 -- ---- numbers and pointers
 
--- the edges of a conditional jump on operands of these kinds, which `effect_of` has found readable,
--- a comparison of 64 bits (true) or 32: of two numbers, or a null test; else PointerComparison
+-- the edges of a conditional jump that compares operands of these kinds on 64 bits (true) or 32:
+-- two numbers, or a null test; else PointerComparison. `effect_of` has found both readable
 abbrev pub branch_edges : Bool → Condition → Facts → ℕ → Operand → Kind → Kind → Result Edges Reason
 branch_edges wide cond f dst src (Scalar a) (Scalar b) = Ok (number_edges wide cond f dst src a b)
 branch_edges wide cond f dst src (Scalar a) k = Err PointerComparison

@@ -25,7 +25,8 @@ abbrev pub shaped : ℕ → Option MapShape → Result ShapedMap Reason
 shaped m None = Err HelperArgument
 shaped m (Some shape) = Ok (record { descriptor = m; shape = shape })
 
--- the map that an argument of this kind is; HelperArgument if it is none
+-- the map, with its shape, that an argument of this kind is; HelperArgument if the kind is not that
+-- of a map, or its descriptor has no shape
 abbrev pub map_kind : Shapes → Kind → Result ShapedMap Reason
 map_kind shapes (kind.MapRef m) = shaped m (shapes m)
 map_kind shapes k = Err HelperArgument

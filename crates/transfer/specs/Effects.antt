@@ -66,8 +66,8 @@ abbrev pub is_word : ℤ → Bool
 is_word (pos y) = (y % 4 == 0) && nat_lt y (4 * context_words)
 is_word (negsuc y) = false
 
--- the kind of a load at offset y of the context: of a whole word, zero-extended (false); or
--- ContextAccess
+-- the kind that a load at offset y of the context gives: a number of 32 bits, if it loads a whole
+-- word of the context and does not extend the sign (false); ContextAccess for any other load
 abbrev pub context_read : ℤ → AccessSize → Bool → Result Kind Reason
 context_read y Word false = if is_word y then Ok (kind.Scalar (full 32)) else Err ContextAccess
 context_read y size signed = Err ContextAccess
@@ -105,8 +105,8 @@ number_or reason (kind.Scalar r) = Ok tt
 number_or reason k = Err reason
 
 -- the facts after an atomic operation at offset y of the stack: it loads a number, and stores a
--- number that may be any. The errors are those of the load, and PartOfSpill also if a whole spill
--- is there
+-- number that may be any. The errors are those of the load, and PartOfSpill also if the kind that
+-- it loads is not that of a number
 abbrev pub stack_changed : Facts → ℤ → AccessSize → Result Facts Reason
 stack_changed f y size =
     and_then_ok (stack_read f y size false)
@@ -125,9 +125,9 @@ value_changed f p off size o =
     and_then_ok (room_of p off (bytes_of size) o)
     (λ _. if is_known_multiple p off size then Ok f else Err UnalignedAtomic)
 
--- the facts after an atomic operation with an operand of kind v, `off` bytes from an address of
--- this kind, both of which `access_edges` and `effect_of` have found readable; or the first reason
--- against it
+-- the facts after an atomic operation `off` bytes from an address, or the first reason against it.
+-- The first kind is that of the address, v that of the operand; `access_edges` and `effect_of` have
+-- found both readable
 abbrev pub atomic_facts : Shapes → Facts → AccessSize → ℤ → Kind → Kind → Result Facts Reason
 atomic_facts shapes f size off (kind.Stack x) v =
     and_then_ok (number_or PointerArithmetic v) (λ _. stack_changed f (x +ℤ off) size)

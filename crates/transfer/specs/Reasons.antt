@@ -51,9 +51,9 @@ IsNoValue shapes (names.Map fd) = ⊥
 IsNoValue shapes (names.Value fd off) =
     (shape : MapShape) × (shapes fd ≡ Some shape) × (has_direct_value shape off ≡ false)
 
--- an instruction of this group (`View` of `insn_set`) may be rejected for this reason: the reason
--- is one of a program's shape, and applies to the instruction, or it is from the kinds of the
--- operands
+-- an instruction of this group (`View` of `insn_set`) may be rejected for this reason: it names an
+-- unknown helper, a descriptor without a shape, or a direct value that its map does not have, as
+-- the reason says; or the reason is one of safety (`IsSafetyReason`)
 abbrev pub IsReasonFor : Shapes → View → Reason → Type 0
 IsReasonFor shapes v UnknownHelper = IsUnknownHelper (profile_of v).reference
 IsReasonFor shapes v DescriptorNotMap = IsUnshapedMap shapes (profile_of v).reference

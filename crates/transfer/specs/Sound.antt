@@ -34,8 +34,8 @@ IsKindAt n (Scalar r) = r.hi < 2 ^ 64
 IsKindAt n (MaybeValue m site) = site < n
 IsKindAt n k = Unit {0}
 
--- the stack slot may be in facts that are well formed at slot n: a mask has eight bits, and a spill
--- has such a kind
+-- the stack slot may be in facts that are well formed at slot n: its mask has eight bits, or the
+-- kind of its spill may be in such facts
 abbrev pub IsSlotAt : ℕ → Slot → Type 0
 IsSlotAt n (Bytes mask) = mask < 256
 IsSlotAt n (Spill k) = IsKindAt n k
@@ -125,8 +125,8 @@ pub record CallIsAdmitted (g : Facts) (shapes : Shapes) (s u : RunState) : Type 
   pub still : Describes witness g shapes u
   pub at : u.at ≡ s.at
 
--- if facts, with all sites below its slot, describe a state and allow a call, the machine has a
--- step for it, and the facts after it describe the state after it
+-- if facts describe a state, have only sites below the state's slot, and allow a call, the call is
+-- no fault in this state, and the facts after the call describe the state after it
 abbrev pub CallsAreSound : Type 0
 CallsAreSound =
     (witness : Witness) (shapes : Shapes) (h : Helper) (f g : Facts) (s : RunState)

@@ -127,9 +127,9 @@ fn value_moved(way: Direction, pointer: ValuePointer, range: Range) -> Result<Ki
     }
 }
 
-/// The kind that a pointer of the kind `pointer` has after it is moved by a number in `range`. `PointerArithmetic` unless it is a stack
-/// pointer and the number a constant, or a pointer into a value; `OffsetTooLarge` if its offset may then be farther than `FARTHEST_OFFSET`
-/// from 0, or if the range has numbers of both signs.
+/// The kind of `pointer` after it is moved by a number in `range`, forwards or backwards (`way`). `PointerArithmetic` unless it is a
+/// pointer into a value, or it is a stack pointer and `range` has only one number. Otherwise `OffsetTooLarge` if the offset may then be
+/// more than `FARTHEST_OFFSET` from 0, or if the range has numbers of both signs.
 fn pointer_moved(way: Direction, pointer: Kind, range: Range) -> Result<Kind, Reason>
     ensures { result ≡ pointer_moved way pointer range }
 {

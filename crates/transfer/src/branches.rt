@@ -124,7 +124,8 @@ fn test_pointer(condition: Condition, pointer: Kind) -> Flow
     }
 }
 
-/// Whether a comparison is a null test: of 64 bits, with the constant 0, for `Equal` or `NotEqual`. A pointer or a map may be in no other.
+/// Whether a comparison is a null test: of 64 bits, with the constant 0, for `Equal` or `NotEqual`. No other comparison may have a pointer
+/// or a map as an operand.
 fn is_null_test(wide: bool, condition: Condition, src: Operand) -> bool
     ensures { result ≡ is_null_test wide condition src }
 {

@@ -22,7 +22,8 @@ pub(crate) struct ShapedMap {
     shape: MapShape,
 }
 
-/// The map that an argument of this kind is. `HelperArgument` if it is no map, or its descriptor names none.
+/// The descriptor and the shape of the map that a helper's argument is, by the argument's kind. `HelperArgument` if it is no map, or its
+/// descriptor names none.
 fn map_kind(named: &[Named], kind: Kind) -> Result<ShapedMap, Reason>
     ensures { result ≡ map_kind (shapes_named named.now) kind }
 {

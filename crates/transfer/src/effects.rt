@@ -55,8 +55,8 @@ fn source(facts: &Facts, wide: bool, src: &Operand) -> Kind
     }
 }
 
-/// The kind of the first operand. A move does not read it, so it is taken as the number 0, readable or not. `UnreadableRegister` if another
-/// operator may not read it.
+/// The kind of the first operand of `op`; `kind` is that of its register. A move does not read the register, so the operand is taken as the
+/// number 0, whether it is readable or not. `UnreadableRegister` if `op` is no move and the register is not readable.
 #[inline(always)]
 fn first(op: AluOp, kind: Kind) -> Result<Kind, Reason>
     ensures { result ≡ first_kind op kind }
@@ -188,9 +188,9 @@ fn number_or(reason: Reason, value: Kind) -> Result<(), Reason>
     }
 }
 
-/// Updates the facts for an atomic operation at `offset` from the stack's upper end. It loads a number, and stores a number that may be
-/// any. Returns the stack slot. The errors, after which no fact has changed, are those of `read_stack`, and `PartOfSpill` also if a whole
-/// spill is there.
+/// Updates the facts for an atomic operation at `offset` from the stack's upper end: it loads a number, and may store any number. Returns
+/// the stack slot, the only one that may change. The errors, after which no fact has changed, are those of `read_stack`, and `PartOfSpill`
+/// also if the bytes are a whole spill.
 fn change_stack(facts: &mut Facts, offset: i32, size: AccessSize) -> Result<usize, Reason>
     ensures ok { OnOk result (stack_changed facts.old offset size ≡ Ok facts.new) }
     ensures stack { IfOk result (λ slot. ChangesAtMost (Some slot) facts.old facts.new) }
@@ -217,10 +217,11 @@ fn is_known_multiple(pointer: ValuePointer, offset: i16, size: AccessSize) -> bo
 }
 
 /// Updates the facts for an atomic operation with an operand of the kind `value`, `offset` bytes from an address of the kind `base`; both
-/// may be read, as the caller has tested. Returns the stack slot that it may change; `None` in the value of a map, since no fact changes.
-/// The error, after which no fact has changed, is that of `change_stack`, `PointerArithmetic` if the operand is no number, `OutsideValue`,
-/// `UnalignedAtomic`, `ContextAccess`, `MaybeNull` for a look-up's result that may be null, or `NotPointer`. `named` lists the objects of
-/// descriptors.
+/// may be read, as the caller has tested. `named` lists the objects of descriptors. Returns the stack slot that it may change; `None` in
+/// the value of a map, since no fact changes. After an error no fact has changed. In the stack and in a value the error is
+/// `PointerArithmetic` if the operand is no number, else in the stack that of `stack_offset` or `change_stack`, and in a value
+/// that of `room_of` (`OutsideValue`) or `UnalignedAtomic`. It is `ContextAccess` in the context, `MaybeNull` for a look-up's result that
+/// may be null, and `NotPointer` for any other kind.
 fn change(
     facts: &mut Facts,
     named: &[Named],
@@ -302,7 +303,7 @@ fn assign(facts: &mut Facts, dst: Reg, kind: Kind) -> Flow
     Flow::Falls
 }
 
-/// The falling edge, after an instruction that may change this stack slot and no other, or none (`None`).
+/// The falling edge, after an instruction that may change only the stack slot `slot`, or no stack slot if `slot` is `None`.
 #[inline(always)]
 fn written(slot: Option<usize>) -> Flow
     ensures edges { (f : AnyFacts) → edges_of result f ≡ edges_of Falls f }
@@ -333,9 +334,9 @@ fn numbers(facts: &Facts, wide: bool, dst: Reg, src: &Operand) -> Option<(Range,
     }
 }
 
-/// Updates the facts for an operator of two operands, of 64 bits (`wide`) or 32, one of which may be a pointer, or for a move. The error,
-/// after which no fact has changed, is `UnreadableRegister` if it reads an operand that may not be read, else that of `arithmetic`. Out of
-/// line: `operate`, which is inlined, does moves of 64 bits, and other operators on two numbers, itself.
+/// Updates the facts for an operator of two operands, of 64 bits (`wide`) or 32. The error, after which no fact has changed, is
+/// `UnreadableRegister` if it reads an operand that may not be read, else that of `arithmetic`. Out of line: `operate`, which is inlined,
+/// calls it only for a move of 32 bits, and for another operator with an operand that is no number.
 #[inline(never)]
 fn operate_on_any(
     facts: &mut Facts,
@@ -358,8 +359,8 @@ fn operate_on_any(
 }
 
 /// Updates the facts for an operator of two operands, of 64 bits (`wide`) or 32. The error, after which no fact has changed, is
-/// `UnreadableRegister` if it reads an operand that may not be read, else that of `arithmetic`. 64-bit moves, and operators other than
-/// moves on two numbers, are done here, the rest by `operate_on_any`.
+/// `UnreadableRegister` if it reads an operand that may not be read, else that of `arithmetic`. This function does 64-bit moves itself, and
+/// each other operator that is no move if both operands are numbers; `operate_on_any` does the rest.
 #[inline(always)]
 fn operate(facts: &mut Facts, wide: bool, op: AluOp, dst: Reg, src: Operand) -> Result<(), Reason>
     ensures ok { OnOk result (operator_edges wide op dst src facts.old ≡ falls facts.new) }

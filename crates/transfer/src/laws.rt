@@ -29,8 +29,9 @@ pub fn transfer_is_sound()
     calls_are_sound();
 }
 
-/// A law: the facts after an instruction are well formed for each later slot, if those before it are well formed for its own: ranges end
-/// below 2^64, and look-ups were at lower slots. So soundness can be applied to the next step.
+/// A law: if the facts before an instruction are well formed at its slot, those on its edges are well formed at each higher slot, so that
+/// soundness can be applied to the next step. Facts are well formed at a slot if their ranges end below 2^64, their masks have eight bits,
+/// and their look-ups were at lower slots.
 pub fn transfer_keeps_well_formed()
     ensures { TransferKeepsWellFormed }
 {
@@ -45,7 +46,8 @@ pub fn transfer_reasons()
     ensures { TransferReasons }
 {}
 
-/// A law: no instruction is rejected because memory runs out, so this reason means that the verifier has run out of it.
+/// A law: the definition of an instruction's effect (`effect`) never has the reason `Memory`. So a verifier that returns this reason is
+/// itself out of memory.
 pub fn effects_need_no_memory()
     ensures { (shapes : Shapes) (at : ℕ) (i : Insn) (f : Facts) (reason : Reason)
         → effect shapes at i f ≡ Err reason → reason ≢ Memory }

@@ -13,8 +13,8 @@ use Rattle.verifier.specs.Verified.{Accepted, shapes_in}
 abbrev pub Fits : Accepted → List Named → Type 0
 Fits a named = All (λ fd. shapes_named named fd ≡ shapes_in a fd) (maps_of a.code)
 
--- a program is also accepted with other objects, if the descriptors of its maps name maps of the
--- same shapes among them
+-- a program that is accepted with the objects `named` is also accepted with the objects `other`, if
+-- each descriptor of its maps names a map of the same shape in both
 abbrev pub SameShapesAreAccepted : Type 0
 SameShapesAreAccepted =
     (code : List Insn) (named other : List Named)

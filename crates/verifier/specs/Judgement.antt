@@ -46,8 +46,8 @@ IsRefusedFor named slots slot (Verdict reason) =
     × (slots ≡ program_bytes insns)
     × IsRefused insns named slot reason
 
--- the bytes of slots are this program's, which is accepted, or this is their refusal; there is at
--- most one judgement
+-- the judgement on the bytes of slots. Ok: they are the bytes of this program, which is accepted.
+-- Err: they are rejected with this refusal. There is at most one judgement
 abbrev pub Judges : List Named → List ℕ → Result (List Insn) Refusal → Type 0
 Judges named slots (Ok insns) =
     IsProgram insns × (slots ≡ program_bytes insns) × IsAccepted insns named

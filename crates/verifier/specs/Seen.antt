@@ -30,8 +30,8 @@ reached shapes code (suc n) =
 abbrev pub with_more : Option (List (ℕ × Facts)) → List (ℕ × Facts) → Option (List (ℕ × Facts))
 with_more seen more = option_map (λ notes. notes ++ more) seen
 
--- the watcher has received the facts before the slots below n, in addition to `old`, and nothing
--- else
+-- the watcher had received `old` and now has received `new`: in addition the facts before the slots
+-- below n that a run may reach, and nothing else. None: it does not say what it receives
 abbrev pub SeesBelow : ℕ → Shapes → List Insn → Option (List (ℕ × Facts))
     → Option (List (ℕ × Facts)) → Type 0
 SeesBelow n shapes code old new = new ≡ with_more old (reached shapes code n)
@@ -55,8 +55,8 @@ abbrev pub SeesShapeFault : List Insn → List Named → Option (List (ℕ × Fa
 SeesShapeFault code named old new fault =
     IsFirstFault (structure_fault code named) fault.slot fault.reason × (new ≡ old)
 
--- a fault of safety: the watcher has received the facts before the slots up to the fault's, in
--- addition to `old`
+-- the program is rejected for its safety, with this fault; the watcher had received `old` and now
+-- has received `new`: in addition the facts before the slots up to that of the fault, with this one
 abbrev pub SeesSafetyFault : List Insn → List Named → Option (List (ℕ × Facts))
     → Option (List (ℕ × Facts)) → VerifyFault → Type 0
 SeesSafetyFault code named old new fault =
@@ -64,7 +64,8 @@ SeesSafetyFault code named old new fault =
     × IsFirstFault (safety_fault (shapes_of code named) code) fault.slot fault.reason
     × SeesBelow (fault.slot + 1) (shapes_of code named) code old new
 
--- what the watcher has received if the program is not accepted: out of memory, or a fault
+-- the watcher had received `old` before the verification that ends with `fault`, and `new` after
+-- it; the fault is out of memory, one of the shape, or one of safety
 abbrev pub SeesRefused : List Insn → List Named → Option (List (ℕ × Facts))
     → Option (List (ℕ × Facts)) → VerifyFault → Type 0
 SeesRefused code named old new fault =

@@ -31,8 +31,8 @@ passed line lines none =
       | inr fails ↦ (fails, sym (cond-false line.0 (Some line.1) (first_reason lines) fails) ∙ none)
     ]
 
--- what is used of an instruction without a fault: its edges lead to later instructions, it can be
--- reached, and what it names exists
+-- what proofs use of the instruction i at slot `at` if its shape has no fault: its edges lead to
+-- later slots of the program, it can be reached, and the helper, map and value that it names exist
 pub record IsFine (code : List Insn) (named : List Named) (i : Insn) (at : ℕ) : Type 0 where
   pub inside : (jumps i && leads_outside code (jumps_to i at)) ≡ false
   pub forward : (jumps i && leads_backward (jumps_to i at) at) ≡ false
@@ -43,7 +43,7 @@ pub record IsFine (code : List Insn) (named : List Named) (i : Insn) (at : ℕ) 
   pub map : is_not_map named (descriptor i) ≡ false
   pub value : lacks_value named i ≡ false
 
--- an instruction that no rule rejects is as `IsFine` says
+-- if no rule of a program's shape rejects instruction i at slot `at`, `IsFine` holds for it
 pub unrefused_is_fine : (code : List Insn) (named : List Named) (i : Insn) (at : ℕ)
     → shape_reason code named i at ≡ None
     → IsFine code named i at

@@ -75,9 +75,8 @@ impl Counts {
     }
 }
 
-/// Joins the counts of the paths that end with a jump to `target` into those of `jumping`, which has them by slot: of each count the
-/// greater one is kept. `target` is a slot of the program: a jump to below slot 0 has none (`None`), and was rejected before. With `None`
-/// nothing is done.
+/// Joins the counts of the paths that end with a jump to the slot `target` into those that `jumping` has of this slot: of each count the
+/// greater one is kept. `None` is for a jump to below slot 0, which was rejected before; nothing is done then.
 #[inline(always)]
 fn join_at_target(jumping: &mut [Counts], target: Option<usize>, counts: Counts)
     requires { IfSome target (λ to. to < length jumping.old) }
@@ -156,10 +155,10 @@ impl Paths {
         self.here.instructions += 1;
     }
 
-    /// Adds the instruction at `slot` to the paths that lead there. If it may jump, the new counts are joined into those of the target in
-    /// `jumping`; if it is an exit, into those of the exits so far. With a falling edge they are then those of the paths to the next slot;
-    /// without one no path leads there yet. `row` has the instruction's properties; only the contract needs `insn`. The target is a slot of
-    /// the program, as the instruction has no fault.
+    /// Adds the instruction at `slot`, whose properties are `row`, to the paths that lead there. If it may jump, the new counts are joined
+    /// into those of its target in `jumping`; if it is an exit, into those of the paths to the exits (`ended`). Then `here` has the counts
+    /// along the falling edge: the new ones, or none if it has no such edge. The target is a slot of the program, as the instruction has no
+    /// fault. Only the contract needs `insn`.
     #[inline(always)]
     pub(crate) fn add(&mut self, jumping: &mut [Counts], insn: &Insn, row: &Profile, slot: usize)
         requires room { slot ≤ MAX_SLOTS }
@@ -186,7 +185,7 @@ impl Paths {
         }
     }
 
-    /// The cost of the program, after the pass: the counts of the paths to an exit.
+    /// The cost of the program, after the pass: the most instructions, and the most calls of helpers, on a path to an exit.
     pub(crate) fn cost(&self) -> Cost
         ensures instructions { result.instructions ≡ self.now.ended.instructions }
         ensures calls { result.calls ≡ self.now.ended.calls }

@@ -28,8 +28,9 @@ pub(crate) struct Findings {
 }
 
 /// Verifies a program, and passes the facts before its instructions to a watcher, as `verify_watched` does. `named` lists the open
-/// descriptors and their objects; for safety only those of the program's maps are used. The error is the first fault, or out of memory.
-/// What a rejected program leaves in `working` is removed, so that the next one, which may be of another tenant, does not take longer.
+/// descriptors and their objects; `check_safety` receives only those of the program's maps. The error is the first fault, or out of memory.
+/// The facts that a rejected program leaves in `working` are removed, so that the verification of the next program, which may be of
+/// another tenant, does not take longer.
 pub(crate) fn judge<W: Watcher>(
     alloc: Global,
     program: &Program,

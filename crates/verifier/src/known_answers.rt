@@ -15,9 +15,9 @@ use reg_kinds::Facts;
 use std::alloc::{AllocError, Global};
 use tagged_model::Named;
 
-/// Joins `facts`, those on a jump to `slot`, into the facts that `entries` has for this slot. If it has facts for no other slot before, it
-/// has none after: they are kept once for each target, however many jumps lead to it. Each group of eight stack slots that a join changes
-/// gets `fresh`, a new number for its contents. The error is out of memory.
+/// Joins `facts`, those on a jump to `slot`, into the facts that `entries` has for this slot. If `entries` has facts for no other slot
+/// before, it has facts for no other slot after: facts are kept once for each target, however many jumps lead to it. Each group of eight
+/// stack slots that the join changes gets the new number `fresh`. The error is out of memory.
 fn one_entry(
     entries: &mut TargetFacts,
     slot: usize,
@@ -42,6 +42,7 @@ impl Watcher for Notes {
 
     ghost seen = { λ n. Some n.notes.items };
 
+    /// Appends the slot and the facts before it to the notes. `AllocError`: out of memory.
     fn before(&mut self, slot: usize, facts: &Facts) -> Result<(), AllocError> {
         self.notes.push((slot, *facts))?;
         Ok(())

@@ -42,8 +42,8 @@ pub fn one_judgement()
     accepted_is_not_refused();
 }
 
-/// A law: if the shape of a program has no fault, no instruction is rejected for safety because it calls an unknown helper, loads something
-/// other than a map, or loads a direct value that the map does not have. The check of the shape has excluded these.
+/// A law: if the shape of a program has no fault, the reason for which an instruction may not be run (`safety_fault`) is none of
+/// `UnknownHelper`, `DescriptorNotMap` and `NoDirectValue`. The check of the shape has excluded these.
 pub fn safety_follows_shape()
     ensures { SafetyFollowsShape }
 {

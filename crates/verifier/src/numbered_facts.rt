@@ -22,7 +22,7 @@ pub(crate) struct NumberedFacts {
 }
 
 impl NumberedFacts {
-    /// The facts at program entry. All groups of stack slots have number 1, which is given only here, and no join into them is known.
+    /// The facts at program entry. All groups of stack slots have number 1, which is given only here. Nothing has been joined into them.
     pub(crate) fn at_entry() -> NumberedFacts
         ensures { result ≡ at_entry }
     {
@@ -33,7 +33,8 @@ impl NumberedFacts {
         }
     }
 
-    /// Gives all groups of eight stack slots the new number `fresh`, since any may have changed. Then no join into them is known.
+    /// Gives all groups of eight stack slots the new number `fresh`, since any may have changed, and records that since then no group has
+    /// been joined into them (`includes`).
     pub(crate) fn renumber(&mut self, fresh: usize)
         ensures { self.new ≡ renumbered self.old fresh }
     {
@@ -41,8 +42,8 @@ impl NumberedFacts {
         self.includes = [0; STACK_GROUPS];
     }
 
-    /// Gives the group of eight that has stack slot `slot`, 0 to 63, the new number `fresh`, since the slot may have changed. Then no join
-    /// into the group is known.
+    /// Gives the group of eight that has stack slot `slot` the new number `fresh`, since the slot may have changed. Then no group counts as
+    /// joined into this one (`includes` is 0).
     #[inline(always)]
     fn renumber_group(&mut self, slot: usize, fresh: usize)
         requires { slot < stack_slots }
@@ -53,9 +54,9 @@ impl NumberedFacts {
         self.includes[group] = 0;
     }
 
-    /// Gives each group of eight stack slots that an instruction with this flow may have written the new number `fresh`. The slot that a
-    /// flow names is one of the stack's, as `apply` promises. Any other flow writes nothing in these facts; a null test changes the stack
-    /// only on its edges (`leave_null_test`).
+    /// Gives the new number `fresh` to each group of eight stack slots into which an instruction with this flow may have written: the group
+    /// with the slot that the flow names, which is one of the stack's, as `apply` promises, or all groups for `Writes`. Other flows change
+    /// nothing; a null test changes the stack only on its edges (`leave_null_test`).
     #[inline(always)]
     pub(crate) fn note(&mut self, flow: &Flow, fresh: usize)
         requires { IsInStack flow.now }
@@ -73,9 +74,9 @@ impl NumberedFacts {
         }
     }
 
-    /// Joins the group of eight stack slots of index `group` on another edge into that of these facts, and notes its number in `includes`.
-    /// If this changes the group, it gets the new number `fresh`. Not inlined, unlike `join_stack_group`, which leaves out joins that would
-    /// change nothing.
+    /// Joins the group of eight stack slots of index `group` in `edge` into that of these facts. `includes` then has the number that the
+    /// group has in `edge`. If the join changes the group of these facts, this gets the new number `fresh`. Not inlined, unlike
+    /// `join_stack_group`, which leaves out joins that would change nothing.
     #[inline(never)]
     fn join_other_group(&mut self, edge: &NumberedFacts, fresh: usize, group: usize)
         requires { group < stack_groups }
@@ -87,8 +88,8 @@ impl NumberedFacts {
         self.includes[group] = edge.numbers[group];
     }
 
-    /// Joins the group of eight stack slots of index `group` on another edge into that of these facts, unless by `includes` this would
-    /// change nothing. If it changes the group, this gets the new number `fresh`.
+    /// Joins the group of eight stack slots of index `group` of `edge`, the facts on another edge, into that of these facts. If the group
+    /// changes, it gets the new number `fresh`. A join that by `includes` would change nothing is left out.
     #[inline(always)]
     fn join_stack_group(&mut self, edge: &NumberedFacts, fresh: usize, group: usize)
         requires { group < stack_groups }

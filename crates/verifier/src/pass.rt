@@ -43,9 +43,10 @@ pub(crate) struct Pass {
 }
 
 /// Joins the facts on the jumping edge of a comparison of `dst` with `src` into those that `entries` has for `target`, a slot of the
-/// program, as its shape has no fault. `hand` has the facts before the jump; in these only the operands' ranges change, to `jumps`, those
-/// on this edge, and the caller then sets those of the falling edge. With `None` the edge can't be taken, and nothing is done. Each group
-/// of eight stack slots at the target that the join changes gets the new number `fresh`. The error is out of memory.
+/// program, since the program's shape has no fault. `jumps` has the operands' ranges on this edge; if it is `None`, the edge can't be
+/// taken, and nothing is done. `hand` has the facts before the jump. Only the operands' ranges in it change, to `jumps`; the caller then
+/// sets those of the falling edge. Each group of eight stack slots at the target that the join changes gets the new number `fresh`. The
+/// error is out of memory.
 #[inline(always)]
 fn send_compared(
     hand: &mut NumberedFacts,
@@ -78,10 +79,11 @@ struct Compared {
     src: Operand,
 }
 
-/// Joins the facts on the jumping edge of a comparison into those that `entries` has for `target`, a slot of the program, as its shape has
-/// no fault. Changes `hand` from the facts before the jump to those on the falling edge, and returns whether this edge can be taken; if
-/// not, `hand` means nothing then. `jumps` and `falls` have the operands' ranges on these edges; `None` for one that can't be taken. Each
-/// group of eight stack slots at the target that the join changes gets the new number `fresh`. The error is out of memory.
+/// Passes the facts in `hand`, those before a jump by a comparison, along its two edges. `falls` and `jumps` have the operands' ranges on
+/// the falling and on the jumping edge; `None` for one that can't be taken. The facts on the jumping edge are joined into those that
+/// `entries` has for `target`, a slot of the program. Each group of eight stack slots there that the join changes gets the new number
+/// `fresh`. Then `hand` has the facts on the falling edge. Returns whether this edge can be taken; if not, nothing is promised of `hand`.
+/// The error is out of memory.
 #[inline(always)]
 fn leave_comparison(
     hand: &mut NumberedFacts,
@@ -110,10 +112,10 @@ fn leave_comparison(
     }
 }
 
-/// Settles the look-up at slot `site` on both edges of the null test at `slot`, which jumps if the result is null (`jumps_on_null`) or else
-/// if it is not. Changes `hand` from the facts before the test to those on the falling edge. Those on the jumping edge, for which `taken`
-/// is space, are joined into those that `entries` has for `target`, a slot of the program, as its shape has no fault. The error is out of
-/// memory.
+/// Settles the look-up at slot `site` on both edges of the null test at `slot`. If `jumps_on_null`, the test jumps if the result is null,
+/// else if it is not. Changes `hand` from the facts before the test to those on the falling edge. Those on the jumping edge, for which
+/// `taken` is space, are joined into those that `entries` has for `target`, a slot of the program, since the program's shape has no fault.
+/// The groups of eight stack slots get new numbers on both edges. The error is out of memory.
 fn leave_null_test(
     hand: &mut NumberedFacts,
     entries: &mut TargetFacts,
@@ -135,10 +137,10 @@ fn leave_null_test(
     entries.send(target, taken, 8 * slot + 6)
 }
 
-/// Passes the facts after the instruction at `slot`, which are in `hand`, along the edges of `flow`: those on the jumping edge are joined
-/// into those that `entries` has for `target`, a slot of the program, as its shape has no fault; those on the falling edge are then in
-/// `hand`. `taken` is space for a null test. Returns whether the falling edge can be taken: `false` after an exit, a jump that is always
-/// taken, and a comparison that always holds. The error is out of memory.
+/// Joins the facts on the jumping edge of `flow` into those that `entries` has for `target`, a slot of the program, as its shape has no
+/// fault. Changes `hand` from the facts after the instruction at `slot` to those on the falling edge. Returns whether this edge can be
+/// taken: `false` after an exit, a jump that is always taken, and a comparison that always holds; `hand` means nothing then. `taken` is
+/// space for a null test. The error is out of memory.
 #[inline(always)]
 fn leave_by(
     hand: &mut NumberedFacts,
@@ -222,10 +224,10 @@ fn leave(
     }
 }
 
-/// Passes `hand`, the facts before the instruction at `slot`, to the watcher, and changes them to those on its falling edge. Those on its
-/// jumping edge are joined into those that `entries` has for its target, a slot of the program, as its shape has no fault. Returns whether
-/// the falling edge can be taken. The error is why the instruction may not be run with these facts, or out of memory. `named` has the
-/// program's maps, and `taken` is space for a null test.
+/// Changes `hand` from the facts before the instruction at `slot`, which the watcher receives, to those on the falling edge, and returns
+/// whether this edge can be taken; if not, `hand` means nothing then. The facts on the jumping edge are joined into those that `entries`
+/// has for the jump's target, a slot of the program, as the program's shape has no fault. The error is why the instruction may not be run
+/// with these facts, or out of memory. `named` has the program's maps, and `taken` is space for a null test.
 #[inline(always)]
 fn run_past<W: Watcher>(
     hand: &mut NumberedFacts,
@@ -259,7 +261,7 @@ fn run_past<W: Watcher>(
 }
 
 impl Pass {
-    /// Memory for the facts of a pass, which begins with `begin`; until then its facts mean nothing. Allocates nothing.
+    /// A pass that has not begun: its facts mean nothing before the call of `begin`. Allocates nothing.
     pub(crate) fn new(alloc: Global) -> Pass {
         Pass {
             falling: EdgeFacts {
@@ -271,8 +273,8 @@ impl Pass {
         }
     }
 
-    /// Begins a pass: the facts are those at program entry, and there are none on jumps. The facts on jumps that the last pass left are
-    /// removed here too, as no contract says that `end` has removed them.
+    /// Begins a pass: the facts are those at program entry, and no jump has facts. `judge` has called `end` after the last pass, but no
+    /// contract says so; so `begin` calls it again.
     fn begin(&mut self)
         ensures falling { self.new.falling ≡ Some at_entry }
         ensures entries { self.new.entries ≡ [] }
@@ -289,10 +291,10 @@ impl Pass {
         self.entries.clear();
     }
 
-    /// Passes the facts before the instruction at `slot`, in `falling`, to the watcher, and changes them to those on its falling edge.
-    /// Those on its jumping edge are joined into those on the jumps to its target so far, a slot of the program, as its shape has no fault.
-    /// If there are no facts, no run reaches the instruction, and nothing is done. The error is why the instruction may not be run with
-    /// these facts, or out of memory. `named` has the program's maps.
+    /// Passes the facts before the instruction at `slot`, which are in `falling`, to the watcher, and changes them to those on its falling
+    /// edge. If it may jump, the facts on its jumping edge are joined into those that `entries` has for the target, which is a slot of the
+    /// program, as the shape has no fault. If `falling` has no facts, no run reaches the instruction, and nothing is done. The error is why
+    /// the instruction may not be run with these facts, or out of memory. `named` has the program's maps.
     #[inline(always)]
     fn go_past<W: Watcher>(
         &mut self,
@@ -328,10 +330,10 @@ impl Pass {
         Ok(())
     }
 
-    /// Joins the facts on all edges to `slot`, passes them to the watcher, and changes them to those on the falling edge of the instruction
-    /// there. Those on its jumping edge are joined into those on the jumps to its target so far, a slot of the program, as its shape has no
-    /// fault. The error is why the instruction may not be run with the joined facts, or out of memory. `named` has the program's maps. The
-    /// proof needs `absorb` and `numbered`: by them, stack slots whose join is left out would not have changed.
+    /// Joins the facts on all edges to `slot` into `falling`, and calls `go_past` for the instruction there: it passes the facts to the
+    /// watcher, changes them to those on the falling edge, and joins the facts on the jumping edge into those that `entries` has for the
+    /// jump's target, a slot of the program. The error is why the instruction may not be run with the joined facts, or out of memory.
+    /// `named` has the program's maps. The proof needs `absorb` and `numbered`: joins that are left out would change no stack slot.
     fn step<W: Watcher>(
         &mut self,
         named: &[Named],

@@ -103,9 +103,9 @@ fn jump_reason(
     }
 }
 
-/// Whether an instruction is simple, and so has no fault of shape: `paths`, those that lead to it, have an instruction; its only successor
-/// is the next one, at slot `next`, which is one of the program's `slots` slots; it names nothing, and does not write the frame pointer.
-/// `row` has its properties. `false` also at slot 0, to which the path has no instruction; `false` only means that all checks are made.
+/// Whether an instruction is simple, and so has no fault of shape: a path with at least one instruction leads to it (`paths`); its only
+/// successor is the next instruction, at slot `next`, which is one of the program's `slots` slots; it names nothing, and does not write the
+/// frame pointer. `row` has its properties. `false`, as always at slot 0, only means that all checks are made.
 #[inline(always)]
 fn is_simple(row: &Profile, next: usize, slots: usize, paths: &Paths) -> bool
     ensures { IsTrue result → IsSimple row.now next slots paths.now }
@@ -149,8 +149,9 @@ fn reason_against(
     }
 }
 
-/// Makes all checks of the instruction at `slot`, and adds it to `paths`, those that lead there, or returns its first fault of shape.
-/// `jumping` has, by slot, the most instructions and calls on the paths that end with a jump there.
+/// Makes all checks of shape of the instruction at `slot`. The error is its first fault. An instruction without a fault is added to
+/// `paths`, the paths that lead to it; if it may jump, the new counts are joined into those of its target in `jumping`. `jumping` has, by
+/// slot, the most instructions and calls on the paths that end with a jump there.
 #[inline(always)]
 fn pass_checked(
     program: &Program,
@@ -180,9 +181,9 @@ fn pass_checked(
     }
 }
 
-/// Adds the instruction at `slot`, with the properties `row`, to `paths`, those that lead there, or returns its first fault of shape. One
-/// that names nothing and only goes on to the next (`is_simple`) has none, and is not checked. `jumping` has, by slot, the most
-/// instructions and calls on the paths that end with a jump there.
+/// Adds the instruction at `slot`, with the properties `row`, to `paths`, those that lead there, or returns its first fault of shape. A
+/// simple instruction (`is_simple`) has no such fault, and is not checked. `jumping` has, by slot, the most instructions and calls on the
+/// paths that end with a jump to this slot; an instruction that may jump is counted in those of its target.
 #[inline(always)]
 fn pass(
     program: &Program,
@@ -212,9 +213,9 @@ fn pass(
     }
 }
 
-/// Finds, in one pass, the first fault of a program's shape, which is the error, or else what the program costs. The error may also be out
-/// of memory. `named` lists the open descriptors and their objects; `jumping` is space for the most instructions and calls on the paths
-/// that end with a jump to each slot.
+/// Checks a program's shape in one pass, and returns the program's cost. The error is the first fault of the shape, or out of memory.
+/// `named` lists the open descriptors and their objects. `jumping` is a buffer, whose old contents mean nothing: by slot, the most
+/// instructions and calls on the paths that end with a jump there.
 pub(crate) fn check_shape(
     program: &Program,
     named: &[Named],

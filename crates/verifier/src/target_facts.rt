@@ -55,9 +55,9 @@ fn keep(spare: &mut Vec<Box<NumberedFacts>>, entry: Box<NumberedFacts>) -> Resul
     Ok(())
 }
 
-/// Joins the facts on a jump into `entry`, those on the jumps to its target so far, in place. If there are none, they are copied to a box,
-/// a spare one if there is one. Each group of eight stack slots that a join changes gets the new number `fresh`. The error is out of
-/// memory.
+/// Joins `facts`, those on a jump, into `entry`, the facts on the earlier jumps to the same target. If `entry` is empty, it gets a copy of
+/// `facts`, in a box of `spare` or else in a new one. Each group of eight stack slots that a join changes gets the new number `fresh`. The
+/// error is out of memory.
 fn join_entry(
     entry: &mut Option<Box<NumberedFacts>>,
     facts: &NumberedFacts,
@@ -116,9 +116,9 @@ impl TargetFacts {
         self.facts.clear();
     }
 
-    /// Joins the facts on the jumps to `slot` into `known`, those on the falling edge, and empties the entry of the slot, whose box is
-    /// kept. Nothing is done if no jump has led there. Each group of eight stack slots that a join changes gets the new number `fresh`. The
-    /// error is out of memory to list the box.
+    /// Joins the facts on the jumps to `slot` into `known`, those on the falling edge to it, and empties the entry of the slot; its box
+    /// becomes a spare one. Nothing is done if the slot has no facts. Each group of eight stack slots that a join changes gets the new
+    /// number `fresh`. The error is out of memory for the list of spare boxes.
     pub(crate) fn join_at(
         &mut self,
         slot: usize,
@@ -138,8 +138,8 @@ impl TargetFacts {
         Ok(())
     }
 
-    /// Appends empty entries (`None`), until the list has an entry for `slot`, a slot of a program, so that `slot + 1` can't overflow. The
-    /// error is out of memory.
+    /// Appends empty entries (`None`) until the list has an entry for `slot`. This is a slot of a program, so `slot + 1` can't overflow.
+    /// The error is out of memory.
     fn reach(&mut self, slot: usize) -> Result<(), AllocError>
         requires { slot < MAX_SLOTS }
         ensures within { OnOk result (slot < length self.new) }
@@ -180,8 +180,8 @@ impl TargetFacts {
         self.put_within(slot, facts, fresh)
     }
 
-    /// Joins the facts on a jump to `slot` into those on the jumps there so far, whose list already has an entry for the slot. Each group
-    /// of eight stack slots that a join changes gets the new number `fresh`. The error is out of memory.
+    /// Joins the facts on a jump to `slot` into those on the jumps there so far. The list has an entry for the slot, which may be empty
+    /// (`None`). Each group of eight stack slots that a join changes gets the new number `fresh`. The error is out of memory.
     fn put_within(
         &mut self,
         slot: usize,

@@ -83,8 +83,8 @@ impl Verified {
         laws::accepted_runs_are_paths();
     }
 
-    /// A law: no run of the program faults that is given maps of the shapes with which the program was accepted. The function does nothing
-    /// when it is called.
+    /// A law: no run of the program faults on maps of the shapes with which the program was accepted, a context and a packet
+    /// (`AreRunInputs`). The function does nothing when it is called.
     pub fn never_faults(&self)
         ensures { (maps : MapsByDescriptor) (words packet : List ℕ)
             → AreRunInputs (shapes_in self.now) maps words packet

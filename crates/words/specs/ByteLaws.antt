@@ -165,8 +165,8 @@ bytes_stay bytes new offset from n k (inl h) =
 bytes_stay bytes new offset from n k (inr h) =
     ap (take n) (behind bytes new offset from h (omega arith))
 
--- a write at offset + at, within the `size` bytes of a list at `offset`, changes these bytes as a
--- write at `at` changes a list of only these bytes
+-- to write `new` at offset + at and then take the `size` bytes from `offset` on gives the same as
+-- to take these bytes first and then write `new` at `at`; all bytes written lie among them
 pub over_within : (bytes new : List ℕ) (offset size at : ℕ)
     → offset + size ≤ length bytes
     → at + length new ≤ size

@@ -35,7 +35,7 @@ negate n a = (2 ^ n - a) % 2 ^ n
 
 -- ---- quotients, and the remainders that go with them
 
--- the unsigned quotient of a by b, 0 if b is 0. It is at most a, so it needs no n
+-- the unsigned quotient of a by b, 0 if b is 0. It is at most a, so it is not reduced modulo 2 ^ n
 abbrev pub divide : ℕ → ℕ → ℕ
 divide a b = if b == 0 then 0 else a / b
 
@@ -63,7 +63,8 @@ shift_left n a b = (a * 2 ^ (b % n)) % 2 ^ n
 abbrev pub shift_right : ℕ → ℕ → ℕ → ℕ
 shift_right n a b = a / 2 ^ (b % n)
 
--- a, as a signed number, divided by 2 ^ (b % n), rounded down (`int_shr`)
+-- a, read as a signed number of n bits, divided by 2 ^ (b % n), rounded down (`int_shr`), and
+-- written as a word of n bits
 abbrev pub signed_shift_right : ℕ → ℕ → ℕ → ℕ
 signed_shift_right n a b = unsigned n (int_shr (signed n a) (b % n))
 

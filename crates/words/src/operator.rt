@@ -104,7 +104,7 @@ impl ExtendedBits {
     ghost use Rattle.std.specs.Prelude.{◌≡◌};
     ghost use Rattle.words.specs.Operate.{extended_bits, is_short};
 
-    /// The number of bits: 8, 16 or 32. It has the type of the offset field, in which a slot has it.
+    /// The number of bits: 8, 16 or 32. A slot has this number in its offset field, so both have the same type.
     pub fn count(self) -> u16
         ensures { result ≡ extended_bits self }
     {

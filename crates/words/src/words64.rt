@@ -64,7 +64,7 @@ pub fn signed_divide(a: u64, b: u64) -> u64
     }
 }
 
-/// The remainder of the signed quotient, with the sign of the dividend; `a` if `b` is 0. -2^63 divided by -1 leaves 0.
+/// The remainder of the signed division of `a` by `b`, with the sign of `a`; `a` if `b` is 0. -2^63 divided by -1 leaves 0.
 #[inline(always)]
 pub fn signed_remainder(a: u64, b: u64) -> u64
     ensures { result ≡ signed_remainder 64 a b }

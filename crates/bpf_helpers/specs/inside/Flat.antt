@@ -48,7 +48,8 @@ abbrev pub key_word : CallSite → NamedKey → ℕ
 key_word site n =
     value_word site n.map (look_up (table_of (keys_at site.maps n.map)) n.key)
 
--- what a look-up returns, the address of a value or 0; None if its words name nothing
+-- what a look-up by the words `map` and `key` returns, the address of a value or 0; None if `map`
+-- names no map, or the bytes of the key don't lie in the part
 abbrev pub flat_look_up : CallSite → ℕ → ℕ → Option ℕ
 flat_look_up site map key = option_map (key_word site) (key_named site map key)
 
@@ -67,9 +68,9 @@ with_claimed site pair (Ok element) =
     pair.value
 with_claimed site pair (Err fault) = site.memory
 
--- an update with the map, the key and the value of `pair`: an element is claimed for the key, and
--- the value is written there. After a fault no byte has changed; of the live maps only the keys of
--- that map may change
+-- `answer` is the result of an update at the call site, with the map, the key and the value of
+-- `pair`: an element is claimed for the key, and the value is written there. After a fault no byte
+-- has changed; of the live maps only the keys of that map may change
 pub record Updates (site : CallSite) (pair : NamedPair) (flags : ℕ)
     (answer : CallResult) : Type 0 where
   pub claim : Result ℕ MapFault
@@ -79,7 +80,8 @@ pub record Updates (site : CallSite) (pair : NamedPair) (flags : ℕ)
   pub word_is : answer.word ≡ claim_word claim
   pub memory_is : answer.memory ≡ with_claimed site pair claim
 
--- an update of what its words name; if that is nothing, the error is returned and nothing changes
+-- an update of what the words of the call name: a map, a key and a value; if they name nothing
+-- (None), the call returns EINVAL, negated, and nothing changes
 abbrev pub UpdatesNamed : CallSite → Option NamedPair → ℕ → CallResult → Type 0
 UpdatesNamed site None flags answer =
     (answer.word ≡ unnamed_result Update) × (answer.memory ≡ site.memory)
@@ -102,16 +104,17 @@ pub record Deletes (old : LiveMaps) (named : NamedKey) (word : ℕ) (new : LiveM
   pub rest : OnlyKeysChange named.map old new
   pub word_is : word ≡ removal_word outcome
 
--- a deletion of what its words name; if that is nothing, the error is returned and nothing
--- changes
+-- a deletion of what the words of the call name: a map and a key; `word` is what the call returns.
+-- If they name nothing (None), that is EINVAL, negated, and the live maps do not change
 abbrev pub DeletesNamed : LiveMaps → Option NamedKey → ℕ → LiveMaps → Type 0
 DeletesNamed old None word new = (word ≡ unnamed_result Delete) × (new ≡ old)
 DeletesNamed old (Some named) word new = Deletes old named word new
 
 -- ---- bytes of the packet
 
--- a load of n packet bytes, from `offset` of the packet on, to offset q of the part. Without q, the
--- words name no bytes of the part: the error is returned, and nothing changes
+-- a load of n packet bytes, from `offset` of the packet on, to offset q of the part: `word` is what
+-- it returns, and `after` the memory after it, with zeros there if the load fails. Without q, the
+-- words name no bytes of the part: `word` is the error, and the memory does not change
 abbrev pub LoadsAt : CallSite → ℕ → ℕ → Option ℕ → ℕ → Memory → Type 0
 LoadsAt site offset n None word after =
     (word ≡ unnamed_result LoadBytes) × (after ≡ site.memory)

@@ -32,8 +32,9 @@ StackBytesAreThere =
     → stack_bytes s y n ≡ Some bs
     → bytes_at memory (start + byte_index y) n ≡ bs
 
--- after bytes are written at offset y of the stack, across its slots, the memory represents the
--- cells after it: a spilled pointer that they touch is lost, and all other slots are unchanged
+-- if the memory represents the stack's cells in state s, and `stack_written` writes bytes at offset
+-- y of the stack, perhaps to several slots, then the memory with these bytes written at their byte
+-- index represents the cells in the state t after that
 abbrev pub StackBytesAreWritten : Type 0
 StackBytesAreWritten =
     (env : Environment) (l : Layout) (memory : List ℕ) (start : ℕ) (s t : RunState) (y : ℤ)
@@ -66,8 +67,8 @@ GivesWord env l w None = Unit {0}
 GivesWord env l None (Some v) = ⊥
 GivesWord env l (Some w) (Some v) = IsWord env l v w
 
--- if the machine has a look-up in the state s, it returns a value v, and the look-up on words and
--- bytes returns a word that represents v
+-- for a state s that words and bytes represent: if the tagged machine's look-up in s is no fault,
+-- it returns a value v, and the look-up on words and bytes returns a word that represents v
 abbrev pub LookUpsFollow : Type 0
 LookUpsFollow =
     (env : Environment) (l : Layout) (flat : FlatState) (s u : RunState)
@@ -90,9 +91,9 @@ pub record TaggedUpdate : Type 0 where
 abbrev pub update_reply : TaggedUpdate → MapReply
 update_reply asked = updated asked.given.map asked.key asked.value asked.flags
 
--- the update on words has the result of the machine's update `asked`, and in some layout with all
--- objects of l the words and bytes after it represent the machine's state after it; register 0 does
--- not have the result yet
+-- `answer`, what the update on words returns, has the result of the machine's update `asked`. Its
+-- memory and maps, with the registers of `flat`, represent s with the updated map, in a layout that
+-- has all objects of l. Register 0 does not have the result yet
 pub record UpdateKeepsSimulation (env : Environment) (l : Layout) (flat : FlatState) (s : RunState)
     (asked : TaggedUpdate) (answer : CallResult) : Type 0 where
   pub layout : Layout
@@ -131,9 +132,9 @@ DeletesKeepSimulation =
     → (word ≡ (removed map key).answer)
     × Simulates env l (with_held flat flat.memory new) (with_map s m (removed map key).map)
 
--- a load of bytes leads from s to u: the packet bytes, or zeros, that it writes have an offset in
--- the part, and the memory with them there represents `written`, the state after they are written
--- and before register 0 gets the result
+-- a load of bytes leads from s to u. It writes packet bytes, or zeros, at an offset in the part.
+-- The memory with these bytes represents the state `written`, and u is what `written` becomes when
+-- the call returns its result
 pub record LoadKeepsSimulation (env : Environment) (l : Layout) (flat : FlatState) (s u : RunState)
     : Type 0 where
   pub offset : ℕ
@@ -148,8 +149,8 @@ pub record LoadKeepsSimulation (env : Environment) (l : Layout) (flat : FlatStat
       (Scalar
       (packet_result s.packet (slice_index flat.registers 2) (slice_index flat.registers 4)))
 
--- with a word of the result in register 0, the words represent the state after a call that returns
--- it; registers 1 to 5 have no value then
+-- if words represent a state, and word w represents the value v, then with w in register 0 they
+-- represent the state after a call that returns v, in which registers 1 to 5 have no value
 abbrev pub ReturnsKeepSimulation : Type 0
 ReturnsKeepSimulation =
     (env : Environment) (l : Layout) (flat : FlatState) (s : RunState) (v : Tagged) (w : ℕ)
@@ -162,8 +163,9 @@ ReturnsKeepSimulation =
 abbrev pub nth_element : LiveMaps → ℕ → ℕ → ℕ
 nth_element tenant k n = slice_index (values_of (keys_at tenant k).entries) n
 
--- at the start of a run, the live map of handle k represents the run's map of descriptor m, of
--- which the objects are numbered in the order of their keys
+-- at the start of a run, the live map of handle k represents the run's map of descriptor m, if the
+-- live map has sound keys and no element kept apart, and the layout numbers the objects of the
+-- run's map in the order of their keys; `value` gives the bytes of each element
 abbrev pub MapsBegin : Type 0
 MapsBegin =
     (l : Layout) (start : ℕ) (memory : List ℕ) (tenant : LiveMaps) (k m : ℕ) (value : ℕ → List ℕ)
@@ -176,7 +178,9 @@ MapsBegin =
     → HasMap l (stored_maps start memory tenant) k m
     (map_at_start (with_values value (table_of (keys_at tenant k))))
 
--- at the end of a run, the map of handle k has the same keys and values as the machine's map
+-- if the live map of handle k represents t (`old`), and the end of the run changes its keys by
+-- `after_run` (`new`), it then has the same keys and values as t after the run; `value` gives the
+-- bytes of each element
 abbrev pub MapsEnd : Type 0
 MapsEnd =
     (l : Layout) (start : ℕ) (memory : List ℕ) (old new : LiveMaps) (k m : ℕ) (t : RunMap)

@@ -42,7 +42,8 @@ FindsLabels lines labels n =
 
 -- ---- a line's fault and instruction, given the definitions that are kept
 
--- the line of the definition that is kept; `line` if none is, so that it is no earlier line
+-- the index of the line with the definition that is kept for a label. If none is kept, `line`, the
+-- index of the line that is checked, so that `label_fault` finds no earlier definition
 abbrev pub kept_line : Option Definition → ℕ → ℕ
 kept_line None line = line
 kept_line (Some definition) line = definition.line
@@ -52,14 +53,16 @@ abbrev pub kept_slot : Option Definition → ℕ
 kept_slot None = 0
 kept_slot (Some definition) = definition.slot
 
--- The distance in slots from the slot after `slot` to a label. A label past the last slot that a
--- program may have is taken to be at that slot: the text has a line that is too long. A label
--- without a definition is taken to be at slot 0: a jump to it is a fault.
+-- The distance in slots from the slot after `slot` to a label. A label past slot `most_slots` is
+-- taken to be at this slot: then the text has more slots than a program may have. A label without
+-- a definition is taken to be at slot 0: a jump to it is a fault.
 abbrev pub kept_distance : Option Definition → ℕ → ℤ
 kept_distance definition slot = pos (min (kept_slot definition) most_slots) -ℤ pos (slot + 1)
 
--- the fault of an instruction, of the lowest kind, given the definition of the label that it names
--- (`None` if it names none or no line defines it) and the slots before it
+-- the fault of an instruction, the first of these that it has: a number is out of range, its label
+-- has no definition, its slots pass the most that a program may have (`passes`); None if it has
+-- none. `definition` is that of the label that it names (None if it names none or no line defines
+-- it), `before` the number of slots before it
 abbrev pub code_fault : Form → Option Definition → ℕ → Option TextFaultKind
 code_fault form definition before =
     if form_fits form then
@@ -68,14 +71,15 @@ code_fault form definition before =
     Some UnknownLabel) else
     Some Range
 
--- the fault of a line that defines a label, given the definition that is kept for the label and the
--- line's index: that this definition is on an earlier line
+-- the fault of a line that defines a label: `LabelTwice` if the label's definition in `Labels` is
+-- on a line before this one, whose index is `line`; else None
 abbrev pub label_fault : Option Definition → ℕ → Option TextFaultKind
 label_fault definition line =
     if nat_lt (kept_line definition line) line then Some LabelTwice else None
 
--- the fault of a line (`None` if it has none of the forms), of which `here` has the index and the
--- number of slots before it; `None` if it has no fault
+-- the fault of a line, or None. The line is None if it has none of the forms: a fault of syntax.
+-- `here` has the line's index and the number of slots before it; `labels` has the definitions that
+-- are kept
 abbrev pub kept_fault : Labels → Definition → Option Line → Option TextFaultKind
 kept_fault labels here None = Some Syntax
 kept_fault labels here (Some blank) = None
@@ -83,7 +87,9 @@ kept_fault labels here (Some (label name)) = label_fault (definition_of labels n
 kept_fault labels here (Some (code form name)) =
     code_fault form (definition_of labels name) here.slot
 
--- the written form on a line, with `slot` slots before it; none if the line has no instruction
+-- the form of the instruction on a line, as a list, with the distance to the label that it names
+-- (`resolved`); [] if the line has no instruction. `slot` slots are before the line; `labels` has
+-- the definitions that are kept
 abbrev pub kept_form : Labels → ℕ → Option Line → List Form
 kept_form labels slot None = []
 kept_form labels slot (Some blank) = []

@@ -60,7 +60,7 @@ abbrev pub program_up_to_dis : App
 program_up_to_dis =
     with_subcommand (with_subcommand program_up_to_serve asm_command.top) dis_command.top
 
--- the program with all four subcommands
+-- the command line of `bpfhost` as clap knows it, with all four subcommands
 abbrev pub program : App
 program = with_subcommand program_up_to_dis verify_command.top
 
@@ -77,7 +77,8 @@ chosen_subcommand arguments = subcommand_of program arguments
 abbrev pub tenants_value : List Row → Option Text
 tenants_value rows = first_of (codes "tenants") rows
 
--- a number of tenants in decimal digits; None if it is not from 1 to `most_tenants`
+-- the number of tenants that a text gives in decimal digits, from 1 to `most_tenants`; None for
+-- every other text
 abbrev pub tenant_number : Text → Option ℕ
 tenant_number digits =
     option_and_then (λ number. if is_from_to 1 most_tenants number then Some number else None)
@@ -96,7 +97,8 @@ pub data Asked : Type 0 where
   Rewrites : TextTask → Asked
   Verifies : List Text → Asked
 
--- the task of a subcommand, given its name and its arguments; None if these are wrong
+-- the task of the subcommand with this name, given its arguments; None if no subcommand has the
+-- name, or if `serve` is given no number of tenants that `tenant_number` accepts
 abbrev pub asked_with : Text → List Row → Option Asked
 asked_with name rows =
     if bytes_eq name (codes "serve") then option_map Serves

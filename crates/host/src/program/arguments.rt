@@ -152,8 +152,8 @@ fn serve_streams<I: Read + Drop, O: Write + Drop>(
     serve_frames(alloc, tenants, seed, &mut reader, &mut writer)
 }
 
-/// Assembles or disassembles the input. It fails like `rewrite`, and no failure has status 2, that of wrong arguments. It consumes the
-/// streams, so what was read and written, and which fault came, is only in the contract of `rewrite`.
+/// Assembles or disassembles the input, and writes the result. It fails like `rewrite`, and no failure has status 2, that of wrong
+/// arguments. It consumes the streams, so only the contract of `rewrite` says what is read and written, and which failure is returned.
 fn rewrite_streams<I: Read + Drop, O: Write + Drop>(
     alloc: Global,
     task: TextTask,
@@ -179,9 +179,9 @@ fn maps_given(alloc: Global, arguments: Option<&[&str]>) -> Result<Vec<Named>, F
     }
 }
 
-/// Reads the map arguments, verifies the input's program, and returns the exit status of the verdict: 0 if it is accepted, else 1. It fails
-/// like `maps_given` or `judge`. It consumes the streams, so what was read and written, and which fault came, is only in the contract of
-/// `judge`.
+/// Reads the map arguments and the input, and writes the verdict on its program. Returns the exit status: 0 if the program is accepted,
+/// else 1. It fails like `maps_given` or `judge`. It consumes the streams, so only the contract of `judge` says what is read and written,
+/// and how `judge` fails.
 fn judge_streams<I: Read + Drop, O: Write + Drop>(
     alloc: Global,
     arguments: Option<&[&str]>,
@@ -234,10 +234,10 @@ fn run<I: Read + Drop, O: Write + Drop>(
     }
 }
 
-/// Runs the program on its arguments, those after its name, and returns its exit status: 0, 1 if the input or its program is
+/// Runs the program on its arguments, those after its name, and returns its exit status: 1 if the input or its program is
 /// rejected, 2 if arguments are wrong, 3 if input or output failed, or if there is no seed for the maps of `serve`, 4 if out of
-/// memory. A fault is one line on `faults`; if that line can't be written, the status is still the fault's. `seed` is `None` if none
-/// could be drawn, and only `serve` fails then.
+/// memory, else 0. A fault is one line on `faults`; if that line can't be written, the status is still the fault's. `seed` is
+/// `None` if none could be drawn; only `serve` needs it.
 pub fn run_words<I: Read + Drop, O: Write + Drop, F: Write + Drop>(
     alloc: Global,
     seed: Option<HashSeed>,

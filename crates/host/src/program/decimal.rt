@@ -12,8 +12,8 @@ fn is_digits(text: &str) -> bool
     text.bytes().all(|byte| byte.is_ascii_digit())
 }
 
-/// The value of decimal digits; leading zeros are allowed. `None` if there is no digit or another character, such as a sign,
-/// and from 2^32 on.
+/// The value of decimal digits; leading zeros are allowed. `None` if the text is empty, if a character is no digit (a sign, for example),
+/// or if the value is 2^32 or more.
 pub(crate) fn decimal(digits: &str) -> Option<u32>
     ensures { result ≡ decimal_number digits.now }
 {

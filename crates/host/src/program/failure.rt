@@ -141,7 +141,7 @@ impl From<TextFault> for Failure {
 
     ghost from_gives = { λ fault failure. failure ≡ text_failure fault };
 
-    /// Out of memory, or the line of the fault and its number.
+    /// Out of memory, or the line of the fault and the number of its kind.
     fn from(fault: TextFault) -> Failure {
         match fault.kind {
             TextFaultKind::Memory => Failure::Memory,
@@ -160,7 +160,7 @@ impl From<CodecFault> for Failure {
 
     ghost from_gives = { λ fault failure. failure ≡ codec_failure fault };
 
-    /// Out of memory, or the slot of the fault and its number.
+    /// Out of memory, or the slot of the fault and the number of its kind.
     fn from(fault: CodecFault) -> Failure {
         match fault.kind {
             FaultKind::Memory => Failure::Memory,

@@ -55,7 +55,8 @@ fn kind_named(name: &str) -> Option<MapKind>
     }
 }
 
-/// The shape with these fields and with flags 0; `None` if a field is wrong, or if no map may have this shape (`MapShape::new`).
+/// The shape with these fields and with flags 0; `None` if `kind` is not the name of a kind (`kind_named`), if another field is not a
+/// decimal number below 2^32, or if no map may have this shape (`MapShape::new`).
 fn shape_of(kind: &str, key_size: &str, value_size: &str, max_entries: &str) -> Option<MapShape>
     ensures written { IfSome result (λ shape.
         IsShapeOf shape kind.now key_size.now value_size.now max_entries.now) }
@@ -69,7 +70,7 @@ fn shape_of(kind: &str, key_size: &str, value_size: &str, max_entries: &str) -> 
     MapShape::new(kind, key_size, value_size, max_entries, 0).ok()
 }
 
-/// The descriptor in a field; `None` if it is not from 3 to 66.
+/// The descriptor that a field has in decimal digits; `None` if the field has no number (`decimal`), or one that is no descriptor.
 fn descriptor(field: &str) -> Option<u32>
     ensures { result ≡ descriptor_number field.now }
 {
@@ -133,8 +134,8 @@ fn further_map(maps: &[Named], argument: &str) -> Option<Named>
 ///
 /// # Errors
 ///
-/// `MapArgument` with the number, from 1, of the first argument that names no map, or the descriptor of an earlier one; `Memory`
-/// if out of memory.
+/// `MapArgument` with the number, from 1, of the first argument that names no map, or a map at the descriptor of an earlier map;
+/// `Memory` if out of memory.
 pub(crate) fn named_maps(alloc: Global, arguments: &[&str]) -> Result<Vec<Named>, Failure>
     ensures named { IfOk result (λ maps. AreMapArguments (texts arguments.now) maps.items) }
     ensures wrong { FailsOnly result (IsWrongMapArgument (texts arguments.now)) }

@@ -12,8 +12,8 @@ use Rattle.insn_codec.specs.inside.Form.{form_at, listed}
 
 -- ---- the second slot of a wide instruction: RFC 9669, sections 3.2 and 5.4
 
--- whether this is the second slot of a wide load with this source field: all fields are zero,
--- except for a number in the immediate, which a load of a map (source 1) does not use
+-- whether this is the second slot of a wide load whose first slot has the source field `src`: all
+-- fields are zero, but the immediate may be any number unless the load is of a map (source 1)
 abbrev pub is_second : ℕ → SlotFields → Bool
 is_second src next =
     next.opcode == 0 && (next.dst == 0 && next.src == 0) && next.offset == 0
@@ -44,7 +44,7 @@ abbrev pub IsFaultOf : OpcodeForm → SlotFields → FaultKind → Type 0
 IsFaultOf f s kind = (rest : List ℕ) → fault_in_form f s rest ≡ Some kind
 
 -- the fault of a first slot whose opcode has this form, with the bytes after it; Opcode if the
--- opcode has no form (None)
+-- form is None, since the opcode has none. The result is None if an instruction begins there
 abbrev pub fault_by_form : Option OpcodeForm → SlotFields → List ℕ → Option FaultKind
 fault_by_form None s rest = Some Opcode
 fault_by_form (Some f) s rest = fault_in_form f s rest

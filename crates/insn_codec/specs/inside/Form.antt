@@ -18,8 +18,8 @@ use Rattle.insn_codec.specs.declared.opcode.SourceBit.TheVariants.{Imm, Reg}
 use Rattle.insn_codec.specs.inside.OpcodeForm.{OpcodeForm}
 use Rattle.insn_codec.specs.inside.OpcodeForm as form
 
--- whether some opcode has this form: of two operators with one opcode the form has the unsigned
--- one, and no load of a double word extends the sign
+-- whether some opcode has this form: none has that of a signed division or remainder, whose opcode
+-- is that of the unsigned one, or that of a load of a double word that extends the sign
 abbrev pub is_form : OpcodeForm → Bool
 is_form (form.Alu wide op source) = alu_offset op == 0
 is_form (form.Load size signed) = not (signed && is_double size)
@@ -38,8 +38,9 @@ abbrev pub neg_at : Bool → SourceBit → Option OpcodeForm
 neg_at wide Imm = Some (form.Neg wide)
 neg_at wide Reg = None
 
--- the form with code 13, a byte-order conversion: in class ALU the source bit selects the order,
--- and ALU64 has only source bit 0, which swaps (section 4.2)
+-- the form with code 13, a byte-order conversion, in class ALU64 (true) or ALU (false): in ALU the
+-- source bit selects the order; in ALU64 source bit 0 swaps, and source bit 1 has no form (None):
+-- section 4.2
 abbrev pub end_at : Bool → SourceBit → Option OpcodeForm
 end_at false Imm = Some (form.End Little)
 end_at false Reg = Some (form.End Big)
@@ -75,9 +76,9 @@ jump_at false Imm code = if code == 0 then Some form.Jal else jump_by_condition 
 abbrev pub load_at : ℕ → Option OpcodeForm
 load_at opcode = option_and_then (λ l. Some (form.Load l.1 l.0)) (load_by_opcode opcode)
 
--- the form of a store with this opcode of class ST or STX; None if no store has it. The upper three
--- bits are the mode MEM, 3, and the next two the size (section 5.1). The class is that of the
--- source that is given
+-- the form of a store with this opcode of class ST (`source` is Imm) or STX (Reg); None if no store
+-- has it. The upper three bits are the mode MEM, 3, and the next two the size (section 5.1). The
+-- class is not read from the opcode
 abbrev pub store_at : ℕ → SourceBit → Option OpcodeForm
 store_at opcode source =
     if opcode / 32 == 3 then Some (form.Store (size_at (opcode / 8 % 4)) source) else None

@@ -3,11 +3,11 @@ use Rattle.std.proofs.Common.{ℕ, ◌≤◌, arith}
 use Rattle.std.specs.Prelude.{min, max}
 use Rattle.interval.specs.declared.range.Range.{Range}
 
--- the ends of `span` are in order
+-- the ends of the range `span lo hi`, which are lo and max lo hi, are in order
 pub at_most_max : (lo hi : ℕ) → lo ≤ max lo hi
 at_most_max lo hi = omega arith
 
--- the ends of `constant` are in order
+-- a number is at most itself, so the ends of the range `constant v` are in order
 pub at_most_itself : (v : ℕ) → v ≤ v
 at_most_itself v = omega arith
 

@@ -104,9 +104,9 @@ fn access_of(insn: &Insn) -> Option<Access> {
     }
 }
 
-/// The first and the last byte that an access may touch, of `bytes` bytes at `offset` from a pointer of this kind, whose own offset may be
-/// one of a range. Both count from the start of the object, or from the stack's upper end. They are used only for the stack and for values:
-/// of another kind the pointer's offset is taken as 0.
+/// The first and the last byte that an access of `bytes` bytes may touch, `offset` bytes from a pointer of this kind. Both count from the
+/// start of the object, or from the stack's upper end. The offset of a pointer into a value may be any of a range. For a kind that is no
+/// pointer into the stack or into a value, the pointer's offset is taken as 0; no caller uses the result then.
 pub(crate) fn touched(kind: Kind, offset: i64, bytes: i64) -> (i64, i64) {
     let (low, high) = match kind {
         Kind::Stack(offset) => (offset, offset),
@@ -138,8 +138,8 @@ pub(crate) fn write_outside_stack(
     write!(text, " of the stack, whose bytes are -{STACK_SIZE} to -1")
 }
 
-/// The first and the last of the stack bytes from `first` to `last` that may be unwritten; bytes between these two may be written. For
-/// `UnwrittenStack` there is such a byte; if there were none, both arguments are returned.
+/// The first and the last of the stack bytes from `first` to `last` that may be unwritten; bytes between these two may be written. With the
+/// reason `UnwrittenStack` at least one byte may be unwritten. If none may be, both arguments are returned.
 fn unwritten(facts: &Facts, first: i64, last: i64) -> (i64, i64) {
     let mut lowest = None;
     let mut highest = last;
@@ -154,7 +154,8 @@ fn unwritten(facts: &Facts, first: i64, last: i64) -> (i64, i64) {
     (lowest.unwrap_or(first), highest)
 }
 
-/// Writes which of the stack bytes from `first` to `last` may be unwritten, and why.
+/// Writes the first and the last of the stack bytes from `first` to `last` that may be unwritten (`unwritten`), and why the bytes may not
+/// be read (`write_way`).
 pub(crate) fn write_unwritten(
     text: &mut String,
     refusal: &RefusedProgram<'_>,
@@ -193,8 +194,8 @@ fn write_spill(text: &mut String, lowest: i64, kind: Kind) -> Result<(), AllocEr
     text.push_str("), which a load of these 8 bytes alone reads")
 }
 
-/// Writes which stack bytes the instruction reads, writes or changes (`verb`), and the spill that they overlap. There is one, since the
-/// reason is `PartOfSpill`.
+/// Writes that the instruction reads, writes or changes (`verb`) the stack bytes from offset `first` to offset `last`, and the lowest spill
+/// that they overlap. They overlap one, since the reason is `PartOfSpill`.
 pub(crate) fn write_part_of_spill(
     text: &mut String,
     facts: &Facts,
@@ -210,7 +211,7 @@ pub(crate) fn write_part_of_spill(
     }
 }
 
-/// Writes that a register has a pointer, which only a store of eight bytes may store, and not the rejected store of `bytes` bytes.
+/// Writes the kind of a register, a pointer or a map, which only a store of eight bytes may store; the rejected one stores `bytes`.
 fn write_part_stored(
     text: &mut String,
     facts: &Facts,
@@ -230,7 +231,8 @@ pub(crate) fn value_size_of(named: &[Named], fd: u32) -> u32 {
     }
 }
 
-/// Writes which bytes the instruction reads, writes or changes (`verb`), not all of which lie in a value of the map of descriptor `map`.
+/// Writes which bytes the instruction reads, writes or changes (`verb`), not all of which lie in a value of the map of descriptor `map`,
+/// and the size of the value. The bytes are those from `first` to `last`, counted from the start of the value.
 pub(crate) fn write_outside_value(
     text: &mut String,
     named: &[Named],
@@ -262,8 +264,8 @@ fn write_context(text: &mut String, access: Access) -> Result<(), AllocError> {
     write!(text, "where words of 4 bytes are read at 0, 4, .. {last}")
 }
 
-/// Writes what is known of the source register `given`, and `needed`, which says that it has to be a number. `None` can't occur: the source
-/// is no number, and a constant is one.
+/// Writes what is known of the source register `given`, and then `needed`, the text that requires a number. `None` can't occur: the fault
+/// is a source that is no number, so it is not a constant.
 fn write_given(
     text: &mut String,
     facts: &Facts,
@@ -279,8 +281,8 @@ fn write_given(
     }
 }
 
-/// Writes at which offset in a map's value an atomic operation is: at one that is no multiple of the operation's size, or at one of a
-/// range, if the offset is not known. `pointer` is what is known of its base register.
+/// Writes the offset of an atomic operation in a map's value, which is wrong: it is no multiple of the operation's size, or it is not
+/// known, and then its range is written. `pointer` is what is known of the operation's base register.
 fn write_unaligned_atomic(
     text: &mut String,
     access: Access,
@@ -326,7 +328,8 @@ fn write_stack_need(
     }
 }
 
-/// Writes what is known of an access, against what it needs. The last arm has the four reasons of accesses to the stack.
+/// Writes what is known of `access`, that of the rejected instruction, and what is required, by the reason of the refusal. The last arm has
+/// the four reasons of `write_stack_need`.
 fn write_access_need(
     text: &mut String,
     refusal: &RefusedProgram<'_>,
@@ -375,8 +378,9 @@ fn write_access_need(
     }
 }
 
-/// Writes what is known of the access of the rejected instruction, against what it needs. `None` can't occur: the caller has arms for all
-/// other instructions but unconditional jumps and loads of constants, maps and direct values, and these break no rule of safety.
+/// Writes what is known of the access of the rejected instruction, against what it needs. `access_of` does not return `None` here: the
+/// caller handles all other instructions, except unconditional jumps and loads of constants, maps and direct values. These break no rule of
+/// safety.
 pub(crate) fn write_need(
     text: &mut String,
     refusal: &RefusedProgram<'_>,

@@ -63,8 +63,8 @@ fn unreadable_argument(facts: &Facts, id: i32) -> Option<u8> {
     None
 }
 
-/// The number of the unreadable register that the rejected instruction reads. `None` if there is none, which can't occur. A call reads its
-/// helper's arguments, which its profile does not list.
+/// The number of the unreadable register that the rejected instruction reads, of several the first. One is unreadable, since the reason is
+/// `UnreadableRegister`, so this is never `None`. A call reads its helper's arguments, which its profile does not list.
 fn unreadable_in(facts: &Facts, insn: &Insn) -> Option<u8> {
     let row = insn.profile();
     match row.reference {
@@ -77,7 +77,8 @@ fn unreadable_in(facts: &Facts, insn: &Insn) -> Option<u8> {
     }
 }
 
-/// Writes which unreadable register the instruction reads, and why it is so. `None` can't occur: the reason is `UnreadableRegister`.
+/// Writes which unreadable register the rejected instruction reads, and why it may not be read (`write_way`). The reason of the rejection
+/// is `UnreadableRegister`, so `unreadable_in` finds a register.
 pub(crate) fn write_unreadable(
     text: &mut String,
     refusal: &RefusedProgram<'_>,
@@ -101,7 +102,8 @@ pub(crate) fn write_result(
     text.push_str(", and a number is needed")
 }
 
-/// Writes what is known of the operands `dst` and `src` of a comparison, of `src` only if it is a register, against what it needs.
+/// Writes what is known of the operands of a rejected comparison, `dst` and, if it is a register, `src`, and then which comparison of a
+/// pointer is allowed.
 pub(crate) fn write_comparison(
     text: &mut String,
     refusal: &RefusedProgram<'_>,

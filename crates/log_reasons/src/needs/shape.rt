@@ -66,8 +66,8 @@ fn write_falls_off(text: &mut String, refusal: &RefusedProgram<'_>) -> Result<()
     )
 }
 
-/// Writes which number of a call is that of no helper, and the numbers of the helpers. The arm `_` can't occur: only a call has this
-/// reason.
+/// Writes that no helper has the number which the call `insn` names, and which numbers the helpers have. The arm `_` can't occur: only a
+/// call is rejected by `UnknownHelper`.
 fn write_unknown_helper(text: &mut String, insn: &Insn) -> Result<(), AllocError> {
     match insn.profile().reference {
         Reference::Helper(id) => {

@@ -30,7 +30,8 @@ abbrev pub IsPath : (ℕ → ℕ) → (ℕ → ℕ) → ℕ → List ℕ → ℕ
 IsPath after before a [] b = (after a ≡ b) × (before b ≡ a)
 IsPath after before a (x ∷ xs) b = (after a ≡ x) × (before x ≡ a) × IsPath after before x xs b
 
--- the elements of an order: those that follow the bound in the ring, as many as are counted
+-- the elements of an order, from the first: the `count` elements that follow `bound`, the number
+-- in the ring that is no element
 abbrev pub elements_in : Inside → List ℕ
 elements_in o = chain (after_in o.links.items) o.count o.bound
 

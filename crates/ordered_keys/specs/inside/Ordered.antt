@@ -5,7 +5,9 @@ use Rattle.indexmap.specs.IndexMap.{IndexMap, index_map_len, spare}
 use Rattle.ordered_keys.specs.Orders.{Order, occurrences, first_element, following}
 use Rattle.ordered_keys.specs.inside.Links.{AreWithin}
 
--- the element of a list that follows the given one, or the first if none is given
+-- the element of a list that follows p, or the first one if p is not given (None); None if no
+-- element follows p, if the list does not have p, or if the list is empty; None if no
+-- element follows, if the list does not have the given one, or if the list is empty
 abbrev pub next_of_elements : Option ℕ → List ℕ → Option ℕ
 next_of_elements None ps = first_element ps
 next_of_elements (Some p) ps = following p ps
@@ -59,7 +61,7 @@ AreApart {K} eq es =
     → eq a.0 b.0 ≡ true
     → i ≡ j
 
--- the table can have `bound` entries in all, those that it has included, without an allocation
+-- the table has room for `bound` entries without an allocation, if those that it has are counted
 abbrev pub HasAllRows : {K S : Type 0} → ℕ → IndexMap K ℕ S → Type 0
 HasAllRows bound table = bound ≤ index_map_len table + spare table
 

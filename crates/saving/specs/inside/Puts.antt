@@ -6,11 +6,13 @@ use Rattle.tenant.specs.declared.object.OpenObject.{OpenObject}
 use Rattle.tenant.specs.Entry.{NumberedEntry}
 use Rattle.saving.specs.Restored.{put_of}
 
--- the command that closes descriptor fd if it names no object (None); none if it names one
+-- the command that closes descriptor fd in the tenant that is restored, which has all descriptors
+-- open until then; none if fd names an object, o, in the saved tenant
 abbrev pub closing : ℕ → Option OpenObject → List Command
 closing fd o = if is_none o then close fd ∷ [] else []
 
--- the commands that put the keys and the values of these entries, e.0, at descriptor fd
+-- the commands that put the key and the value of each entry into the map at descriptor fd; e.0 is
+-- the pair of both
 abbrev pub puts : ℕ → List NumberedEntry → List Command
 puts fd es = map (λ (e : NumberedEntry). put_of fd e.0) es
 

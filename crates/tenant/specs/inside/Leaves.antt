@@ -9,8 +9,9 @@ pub record HeldMaps : Type 0 where
   pub live : LiveMaps
   pub part : List ℕ
 
--- after references are dropped, each map that is still live has the shape, keys and values that it
--- had, the flag of refused memory is unchanged, and the part has its length
+-- after references are dropped, each live map was live before, has the shape, keys and values that
+-- it had, and at least one reference (`AreHeld`); the flag of refused memory is unchanged, and the
+-- part has its length
 pub record LeavesHeldMaps (old new : HeldMaps) : Type 0 where
   pub held : AreHeld new.live
   pub stays : (handle : ℕ) → IsSome (live_at new.live handle)

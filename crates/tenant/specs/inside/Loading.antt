@@ -16,7 +16,7 @@ abbrev pub AreLive : LiveMaps → List ℕ → Type 0
 AreLive t held = (handle : ℕ) → 1 ≤ times_listed handle held → IsSome (live_at t handle)
 
 -- after references are added, the maps that were live are live, with their shapes, keys and values,
--- and the flag of refused memory is unchanged
+-- each live map has a reference (`AreHeld`), and the flag of refused memory is unchanged
 pub record IsHeldMore (old new : LiveMaps) : Type 0 where
   pub held : AreHeld new
   pub live : (handle : ℕ) → IsSome (live_at old handle) → IsSome (live_at new handle)

@@ -124,11 +124,13 @@ leading_register wide ts = do
   r ← named registers n.0
   if bool_eq r.0 wide then Some (r.1, n.1) else None
 
--- a number that was read without its sign, with a minus if `negative`; `None` if none was read
+-- the number with this sign, from the magnitude that was read, and the tokens after it; `None` if
+-- no magnitude was read
 abbrev pub number_from : Bool → Option (Option ℕ × List Token) → Option (Number × List Token)
 number_from negative o = option_map (λ v. (record { negative = negative; magnitude = v.0 }, v.1)) o
 
--- a number, after a minus or without a sign
+-- the number with which the tokens begin, after a minus or without a sign, and the tokens after it;
+-- `None` if the tokens begin with no number
 unfoldable pub leading_constant : List Token → Option (Number × List Token)
 leading_constant ts =
     match_option (after_symbol (codes "-") ts) (number_from false (leading_number ts))
@@ -157,8 +159,8 @@ is_ended (t ∷ ts) = false
 abbrev pub at_end : {A : Type 0} → A → List Token → Option A
 at_end x ts = if is_ended ts then Some x else None
 
--- the target of a jump and the name of its label, empty if it is a number; `None` if more tokens
--- follow
+-- the target of a jump, a signed number or a label, and the label's name, empty for a number;
+-- `None` if the tokens begin with neither, or more tokens follow
 unfoldable pub parsed_destination : List Token → Option (JumpTarget × List ℕ)
 parsed_destination ts =
     match_option (leading_signed_number ts)
@@ -180,7 +182,8 @@ leading_address ts = do
   ts ← after_symbol (codes ")") o.1
   Some ((s, record { base = r.0; offset = o.0 }), ts)
 
--- an address in a map's value, from the tokens after `map_value`: a descriptor, + and an offset
+-- an address in a map's value, from the tokens after `map_value`: a descriptor, + and an offset;
+-- and the tokens after it; `None` if the tokens don't begin so
 abbrev pub leading_map_value : List Token → Option (WideValue × List Token)
 leading_map_value ts = do
   n ← leading_constant ts
@@ -222,8 +225,8 @@ parsed_sign_extension wide ts = do
   src ← leading_register wide ts
   if wide || is_short from then at_end (operation.SignExtend from src.0) src.1 else None
 
--- the operation `o`, which names its destination `dst` on both sides of `=`: the tokens are `dst`
--- again, as an r register if wide, else as a w register
+-- the operation `o`, if the tokens are its destination again, register dst (an r register if wide,
+-- else a w register), and no token follows; else None
 unfoldable pub parsed_in_place : Bool → ℕ → Operation → List Token → Option Operation
 parsed_in_place wide dst o ts =
     leading_register wide ts >>= λ r. if r.0 == dst then at_end o r.1 else None
@@ -251,7 +254,8 @@ is_move Mov = true
 is_move _ = false
 
 -- an operation on dst, an r register if wide, else w, from the tokens after the symbol of its
--- operator; an operation of one operand is written with `=`, the symbol of a move
+-- operator: one of two operands or, after `=`, the symbol of a move, one of one operand; None if
+-- they are neither
 unfoldable pub parsed_operation : Bool → AluOp → ℕ → List Token → Option Operation
 parsed_operation wide op dst ts =
     match_option (parsed_binary wide op ts) (if is_move op then parsed_unary wide dst ts else None)
@@ -265,7 +269,8 @@ parsed_load dst ts = do
   (((signed, size), at), ts) ← leading_address ts
   at_end (form.Access (access.Load size signed dst) at) ts
 
--- a store: a memory operand whose size is not signed, `=`, and a constant or an r register
+-- a store: a memory operand, `=`, and a constant or an r register; `None` if the tokens are
+-- anything else, or the size is signed
 unfoldable pub parsed_store : List Token → Option Form
 parsed_store ts = do
   (((signed, size), at), ts) ← leading_address ts
@@ -296,7 +301,7 @@ abbrev pub parsed_loaded : ℕ → List Token → Option Form
 parsed_loaded dst ts = match_option (parsed_wide_load dst ts) (parsed_load dst ts) (λ f. Some f)
 
 -- a line that begins with its destination register: an operation on it, or, with `=` and an r
--- register, a load into it
+-- register, a load into it; `None` if the tokens are no such line
 unfoldable pub parsed_assigned : List Token → Option Form
 parsed_assigned ts = do
   n ← leading_name ts
@@ -332,8 +337,9 @@ parsed_call ts = leading_constant ts >>= λ n. at_end (form.Call n.0) n.1
 abbrev pub without_label : Option Form → Option (Form × List ℕ)
 without_label o = option_map (λ f. (f, [])) o
 
--- an instruction, and the name of its label, empty if it names none. Without one of the six words
--- (`if` to `lock`) a line begins with its destination register, or is a store.
+-- the form of the instruction that the tokens are, and the name of its label, empty if it names
+-- none; `None` if the tokens are no instruction. An instruction without one of the six words (`if`
+-- to `lock`) in front begins with its destination register, or is a store.
 unfoldable pub parsed_form : List Token → Option (Form × List ℕ)
 parsed_form ts =
     match_option (after_word (codes "if") ts)

@@ -15,6 +15,7 @@ shown (code.Symbol s) = symbol s.now
 abbrev pub shown_tokens : List CodeToken → List Token
 shown_tokens ts = map shown ts
 
--- the token that one of the code represents, and the text after it; `None` if the code found none
+-- the token that a token of the code represents, and the text after it; `None` if the code found no
+-- token
 abbrev pub shown_front : Option (CodeToken × Bor (List ℕ)) → Option (Token × List ℕ)
 shown_front r = option_map (λ p. (shown p.0, p.1.now)) r

@@ -12,9 +12,9 @@ use Rattle.verifier.specs.inside.Numbers.{facts_on, entry_of}
 abbrev pub brought_to : ℕ → List (Option NumberedFacts) → Option Facts
 brought_to slot entries = facts_on (entry_of slot entries)
 
--- a jump with these facts, if any, changes the facts on the jumps to slot i from those in `old` to
--- those in `new`: its facts are joined into them if i is the target; otherwise, also without a
--- target (None), they are unchanged
+-- one jump changes the facts on the jumps to slot i from those in `old` to those in `new`: if i is
+-- its target, its facts (`facts`) are joined into them; if i is not, or if the target or `facts` is
+-- None, they are unchanged
 abbrev pub Brings : Option ℕ → Option Facts → List (Option NumberedFacts)
     → List (Option NumberedFacts) → ℕ → Type 0
 Brings target facts old new i =

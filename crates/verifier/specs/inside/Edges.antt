@@ -23,7 +23,7 @@ jumping_of (Err reason) = None
 jumping_of (Ok edges) = edges.jumping
 
 -- the facts on the falling edge out of the instruction at slot n, from those before it (`known`);
--- None also if there are none before it
+-- None if there are none before it, the instruction may not be run, or this edge is never taken
 abbrev pub falling_from : Shapes → ℕ → Insn → Option Facts → Option Facts
 falling_from shapes n insn known = and_then known (λ f. falling_of (effect shapes n insn f))
 
@@ -37,7 +37,8 @@ jumping_from shapes n insn known = and_then known (λ f. jumping_of (effect shap
 abbrev pub reason_from : Shapes → ℕ → Insn → Option Facts → Option Reason
 reason_from shapes n insn known = and_then known (λ f. reason_of (effect shapes n insn f))
 
--- the instruction may be run: no condition fails (if there are no facts, no run reaches it)
+-- the instruction at slot n may be run with the facts before it (`known`): no condition of the
+-- transfer function fails. It holds too if there are no facts, since no run reaches it then
 abbrev pub MayRun : Shapes → ℕ → Insn → Option Facts → Type 0
 MayRun shapes n insn known = reason_from shapes n insn known ≡ None
 

@@ -48,13 +48,15 @@ most_from weight code i (suc n) =
 
 -- ---- the most on a path
 
--- the greatest total weight of a path that ends with this instruction, from the greatest of a path
--- to it (`before`); 0 if the instruction is no exit, or there is none (None)
+-- for an exit, the greatest total weight of a path that ends with it: its own weight, and `before`,
+-- the greatest of a path that leads to it; 0 for any other instruction, and if no instruction is
+-- given (None)
 abbrev pub at_exit : (Insn → ℕ) → Option Insn → ℕ → ℕ
 at_exit weight None before = 0
 at_exit weight (Some insn) before = if is_exit insn then before + weight insn else 0
 
--- the greatest total weight of a path to an exit below slot n, with the exit; 0 if there is none
+-- the greatest total weight of a path to an exit below slot n, the weight of the exit included; 0
+-- if no exit is below n
 unfoldable pub most_ended : (Insn → ℕ) → List Insn → ℕ → ℕ
 most_ended weight code zero = 0
 most_ended weight code (suc n) =
@@ -68,20 +70,21 @@ abbrev pub no_counts : Counts
 no_counts = record { instructions = 0; calls = 0 }
 
 -- the count at slot i, of instructions or of calls as `count` selects: the greater of that on the
--- falling edge, if this leads there (to slot `next`), and that on the jumps
+-- jumps to i and, if i is `next`, the slot to which the falling edge leads, that on this edge
 abbrev pub arriving : (Counts → ℕ) → ℕ → Counts → List Counts → ℕ → ℕ
 arriving count next falling jumping i =
     max (if next == i then count falling else 0) (count (slice_index_or jumping i no_counts))
 
--- the paths to the slot at which the pass is have at most as many instructions, and at most as many
--- calls, as a program may have slots
+-- each path to the current slot of the pass has at most as many instructions as a program may have
+-- slots, and at most as many calls
 pub record AreFew (paths : Paths) : Type 0 where
   pub instructions : paths.here.instructions ≤ most_slots
   pub calls : paths.here.calls ≤ most_slots
 
--- instruction i is added to the paths to its slot, which its edges take to later slots, or at an
--- exit to the end. `old` and `new` are the counts of the paths before and after this; `jumping` and
--- `later` are the counts on the jumps to each slot before and after it
+-- The pass adds instruction i to the paths to its slot: each count at a later slot, and each of the
+-- ended paths, is then the greater of the count before and that of the paths whose last instruction
+-- is i. `old` and `jumping` are the counts before this, of the paths and on the jumps to each slot;
+-- `new` and `later` are those after it
 pub record IsAdded (i : Insn) (slot : ℕ) (old new : Paths)
     (jumping later : List Counts) : Type 0 where
   pub instructions : (to : ℕ)
@@ -99,15 +102,15 @@ pub record IsAdded (i : Insn) (slot : ℕ) (old new : Paths)
   pub ended_calls : new.ended.calls
       ≡ max old.ended.calls (at_exit one_if_call (Some i) old.here.calls)
 
--- the paths to this slot, at which the pass is, have an instruction, or it is slot 0, exactly if
--- the slot can be reached
+-- the slot at which the pass is can be reached exactly if it is slot 0, or `paths` counts at least
+-- one instruction on the paths to it
 abbrev pub LeadTo : List Insn → ℕ → Paths → Type 0
 LeadTo code slot paths =
     (nat_lt 0 paths.here.instructions || slot == 0) ≡ is_reachable code slot
 
--- an instruction with the properties `row` is simple: its only successor is at slot `next`, one of
--- the program's `slots` slots; it names nothing, does not write the frame pointer, and the paths to
--- it (`paths`) have an instruction
+-- an instruction with the properties `row` is simple: its only successor is the next one, whose
+-- slot `next` is one of the program's `slots` slots; it names nothing, and does not write the frame
+-- pointer; by `paths`, a path to it has at least one instruction before it
 pub record IsSimple (row : Profile) (next slots : ℕ) (paths : Paths) : Type 0 where
   pub goes_on : row.successors ≡ Next
   pub names : row.reference ≡ Nothing

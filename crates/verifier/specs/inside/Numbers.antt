@@ -26,7 +26,7 @@ use Rattle.transfer.specs.Effects.{effect}
 use Rattle.transfer.specs.Flows.{edges_of, KeepsStack}
 use Rattle.verifier.specs.declared.numbered_facts.NumberedFacts.{NumberedFacts}
 
--- the facts on an edge or of an entry without their numbers; None if there are none
+-- the facts without the numbers of their groups of stack slots; None if there are no facts
 abbrev pub facts_on : Option NumberedFacts → Option Facts
 facts_on o = option_map (λ x. x.facts) o
 
@@ -34,12 +34,12 @@ facts_on o = option_map (λ x. x.facts) o
 abbrev pub entry_of : ℕ → List (Option NumberedFacts) → Option NumberedFacts
 entry_of i entries = slice_index_or entries i None
 
--- the number of the group of eight stack slots that has stack slot i
+-- the number that identifies what is known of the group of eight stack slots that has stack slot i
 abbrev pub number_of : NumberedFacts → ℕ → ℕ
 number_of x i = slice_index_or x.numbers (group_of i) 0
 
--- of the group of eight stack slots that has stack slot i: the number of the group that is known to
--- be joined into it; 0 if none is known
+-- the number of the group of stack slots that is known to be joined into the group that has stack
+-- slot i; 0 if none is known
 abbrev pub included_in : NumberedFacts → ℕ → ℕ
 included_in x i = slice_index_or x.includes (group_of i) 0
 
@@ -55,7 +55,8 @@ numbered_by n f = record {
 abbrev pub at_entry : NumberedFacts
 at_entry = numbered_by 1 entry
 
--- x with the new number `fresh` for all groups of eight stack slots; no join into a group is known
+-- x with the new number `fresh` for all groups of eight stack slots; no group is known to be joined
+-- into one of them
 abbrev pub renumbered : NumberedFacts → ℕ → NumberedFacts
 renumbered x fresh = numbered_by fresh x.facts
 
@@ -69,25 +70,26 @@ group_renumbered x i fresh =
       includes = slice_set x.includes (group_of i) 0;
     }
 
--- stack slot s is s' after the join with stack slot t. The group of eight stack slots that has s
--- has number n, and a join into it of the group with number m is known; after this join these
--- numbers are n' and m'. The group that has t has number k. If m is k, the join would change
--- nothing and is left out. Else m' is k, and n' is the new number `fresh`, or still n, but only if
--- the slot is unchanged
+-- what a join of stack slot t into stack slot s may give. Before it, the group of eight stack slots
+-- that has s has number n, and the group with number m is known to be joined into it; the group
+-- that has t has number k. After it, s', n' and m' replace s, n and m. Either m is k, and nothing
+-- changes; or s' is the join of s and t, m' is k, and n' is `fresh`, or also n if s' is s
 abbrev pub IsJoinedSlot : ℕ → Slot → ℕ → ℕ → Slot → ℕ → Slot → ℕ → ℕ → Type 0
 IsJoinedSlot fresh s n m t k s' n' m' =
     ((m ≡ k) × (s' ≡ s) × (n' ≡ n) × (m' ≡ m))
     ⊎ ((s' ≡ slot_join s t) × (m' ≡ k) × ((n' ≡ fresh) ⊎ ((n' ≡ n) × (s' ≡ s))))
 
--- stack slot i of z, with the numbers of its group of eight stack slots, is that of x after the
--- join with stack slot i of y
+-- stack slot i of z, and the numbers of its group of eight stack slots, are those of x after the
+-- join with stack slot i of y (`IsJoinedSlot`); `fresh` is the new number of the group if it
+-- changes
 abbrev pub IsJoinedAt : ℕ → NumberedFacts → NumberedFacts → NumberedFacts → ℕ → Type 0
 IsJoinedAt fresh x y z i =
     IsJoinedSlot fresh (slot_at x.facts i) (number_of x i) (included_in x i) (slot_at y.facts i)
     (number_of y i)
     (slot_at z.facts i) (number_of z i) (included_in z i)
 
--- stack slot i of z is that of x, with the numbers of its group of eight stack slots
+-- stack slot i of z is that of x, and its group of eight stack slots has the same numbers in both:
+-- its own, and that of the group that is known to be joined into it
 abbrev pub IsSameAt : NumberedFacts → NumberedFacts → ℕ → Type 0
 IsSameAt x z i =
     (slot_at z.facts i ≡ slot_at x.facts i)
@@ -111,48 +113,51 @@ pub record IsJoin (fresh : ℕ) (x y z : NumberedFacts) : Type 0 where
   pub groups : length z.numbers ≡ stack_groups
   pub slots : (i : ℕ) → i < stack_slots → IsJoinedAt fresh x y z i
 
--- the facts y are joined into those on an edge, or on the jumps to a slot: the first option has
--- these before the join, the second after it, and is not None. If there were none before (None),
--- they are y after it. `fresh` is the new number of each group of eight stack slots that the join
--- changes
+-- the facts y are joined into those on an edge, or on the jumps to a slot. The first option is the
+-- facts there before the join; the second, which is not None, is those after it: y if the first is
+-- None. `fresh` is the new number of each group of eight stack slots that the join changes
 abbrev pub IsJoinedBy : ℕ → Option NumberedFacts → NumberedFacts → Option NumberedFacts → Type 0
 IsJoinedBy fresh None y new = new ≡ Some y
 IsJoinedBy fresh (Some x) y None = ⊥
 IsJoinedBy fresh (Some x) y (Some z) = IsJoin fresh x y z
 
--- the facts on the jumps to a slot, the second option, are joined into those on the falling edge to
--- it, which are `old` before this and `new` after it; they are unchanged if there are none on jumps
+-- the facts on the jumps to a slot, the third argument, are joined into those on the falling edge
+-- to it: `old` before the join, `new` after it. If no jump has facts (None), `new` is `old`.
+-- `fresh` is the new number of each group of eight stack slots that the join changes
 abbrev pub IsJoinedIf : ℕ → Option NumberedFacts → Option NumberedFacts → Option NumberedFacts
     → Type 0
 IsJoinedIf fresh old None new = new ≡ old
 IsJoinedIf fresh old (Some y) new = IsJoinedBy fresh old y new
 
--- the entry of a slot, the facts on the jumps there, is joined into the facts on the falling edge
--- to it, which are `old` before and `new` after this; the entries of later slots are unchanged
+-- the facts on the jumps to a slot, its entry, are joined into those on the falling edge to it,
+-- which are `old` before and `new` after this; the entries of later slots are unchanged. `fresh` is
+-- the new number of each group of eight stack slots that the join changes
 abbrev pub IsTaken : ℕ → ℕ → List (Option NumberedFacts) → List (Option NumberedFacts)
     → Option NumberedFacts → Option NumberedFacts → Type 0
 IsTaken slot fresh entries_old entries_new old new =
     IsJoinedIf fresh old (entry_of slot entries_old) new
     × ((i : ℕ) → slot < i → entry_of i entries_new ≡ entry_of i entries_old)
 
--- the facts y are joined into the entry of a slot, the facts on the jumps there, and the entries of
--- all other slots are unchanged; `old` has the entries before this, `new` those after it
+-- the facts y are joined into the entry of a slot, which has the facts on the jumps to it. The
+-- entries of all other slots are unchanged. `old` has the entries before this, `new` those after it
 abbrev pub IsPut : ℕ → ℕ → NumberedFacts → List (Option NumberedFacts) → List (Option NumberedFacts)
     → Type 0
 IsPut slot fresh y old new =
     IsJoinedBy fresh (entry_of slot old) y (entry_of slot new)
     × ((i : ℕ) → i ≢ slot → entry_of i new ≡ entry_of i old)
 
--- the facts y on a jump are joined into the entry of its target, the facts on all jumps there;
--- without a target (None) no entry changes
+-- the facts y on a jump are joined into the entry of its target, which has the facts on all jumps
+-- to it; without a target (None) no entry changes. `old` has the entries before this, `new` those
+-- after it
 abbrev pub IsSent : Option ℕ → ℕ → NumberedFacts → List (Option NumberedFacts)
     → List (Option NumberedFacts) → Type 0
 IsSent None fresh y old new = new ≡ old
 IsSent (Some slot) fresh y old new = IsPut slot fresh y old new
 
--- the facts on a jumping edge are joined into the entry of its target, the facts on all jumps
--- there; no entry changes if the edge has none (None), since it is then never taken, or if there is
--- no target
+-- the facts on a jumping edge are joined into the entry of its target, which has the facts on all
+-- jumps there (`IsSent`, also for `fresh`); `old` has the entries before this, `new` those after
+-- it. No entry changes if the edge has no facts (None), since it is never taken, or if there is no
+-- target (None)
 abbrev pub IsSentIf : Option ℕ → ℕ → Option NumberedFacts → List (Option NumberedFacts)
     → List (Option NumberedFacts) → Type 0
 IsSentIf target fresh None old new = new ≡ old
@@ -160,8 +165,8 @@ IsSentIf target fresh (Some y) old new = IsSent target fresh y old new
 
 -- ---- the facts on the edges of an instruction
 
--- x with these ranges for the operands of a comparison, that of dst first; the numbers, which are
--- of the stack, are unchanged, since operands are registers or constants
+-- x with these ranges for the operands of a comparison, that of dst first; the numbers of the
+-- groups of stack slots are unchanged, since operands are registers or constants
 abbrev pub with_ranges : NumberedFacts → ℕ → Operand → RangePair → NumberedFacts
 with_ranges x dst src ranges = record {
   facts = with_pair x.facts dst src ranges;
@@ -174,13 +179,15 @@ with_ranges x dst src ranges = record {
 abbrev pub settled : ℕ → Bool → ℕ → NumberedFacts → NumberedFacts
 settled site null fresh x = numbered_by fresh (facts_settled site null x.facts)
 
--- the facts on the falling edge of a null test at slot n, from those before it; if it jumps on null
--- (true), the result of the look-up is not null here
+-- the facts on the falling edge of a null test, at slot n, of the look-up at a site, from those
+-- before it. If the test jumps on null (true), the result of the look-up is not null on this edge,
+-- else it is null. All groups of eight stack slots have a new number
 abbrev pub falls_settled : ℕ → Bool → ℕ → NumberedFacts → NumberedFacts
 falls_settled site jumps_on_null n x = settled site (not jumps_on_null) (8 * n + 5) x
 
--- the facts on the jumping edge of a null test at slot n, from those before it; if it jumps on null
--- (true), the result of the look-up is null here
+-- the facts on the jumping edge of a null test at slot n, from those before it: the result of the
+-- look-up at `site` is null here if the test jumps on null (true), else not null. All groups of
+-- eight stack slots have the new number of this edge
 abbrev pub jumps_settled : ℕ → Bool → ℕ → NumberedFacts → NumberedFacts
 jumps_settled site jumps_on_null n x = settled site jumps_on_null (8 * n + 4) x
 
@@ -250,8 +257,8 @@ pub record IsPast (shapes : Shapes) (n : ℕ) (insn : Insn) (old : NumberedFacts
         includes = old.includes;
       }))) entries_old entries_new
 
--- the instruction at slot n is passed, as by `IsPast`, if there are facts before it; else no run
--- reaches it, and nothing changes
+-- `IsPast`, if there are facts before the instruction at slot n; else no run reaches it: there are
+-- no facts on its falling edge (`new` is None), and the entries are unchanged
 abbrev pub IsPastIf : Shapes → ℕ → Insn → Option NumberedFacts → List (Option NumberedFacts)
     → Option NumberedFacts → List (Option NumberedFacts) → Type 0
 IsPastIf shapes n insn None entries_old new entries_new = (new ≡ None) × (entries_new ≡ entries_old)
@@ -260,25 +267,26 @@ IsPastIf shapes n insn (Some x) entries_old new entries_new =
 
 -- ---- the meaning of each number, for numbers below a bound
 
--- `held` gives the stack slot that each number means. Stack slot s is the one of n, the number of
--- its group of eight stack slots, which is not 0. If m is not 0, it is the number of the group that
--- was joined into this one, and a join of s with the slot of number m changes nothing. Both numbers
--- are below the bound
+-- `held` gives what is known of one stack slot by each number that its group of eight stack slots
+-- may have. The group has number n, which is not 0, and s is what n means. m is the number of the
+-- group that was joined into this one, 0 if none is known; if it is not 0, a join of s with what m
+-- means is s. Both numbers are below the bound
 pub record IsNumberedSlot (held : ℕ → Slot) (bound : ℕ) (s : Slot) (n m : ℕ) : Type 0 where
   pub is : s ≡ held n
   pub some : 0 < n
   pub below : n < bound
   pub includes : 0 < m → (m < bound) × (slot_join s (held m) ≡ s)
 
--- each slot of the stack is the one that its numbers mean; `stacks` gives, for slot i and a number,
--- the slot that is meant
+-- each stack slot of x is as the two numbers of its group mean (`IsNumberedSlot`), which are below
+-- the bound; `stacks` gives, for stack slot i and a number, the slot that is meant
 pub record IsNumbered (stacks : ℕ → ℕ → Slot) (bound : ℕ) (x : NumberedFacts) : Type 0 where
   pub groups : length x.numbers ≡ stack_groups
   pub slots : (i : ℕ)
       → i < stack_slots
       → IsNumberedSlot (stacks i) bound (slot_at x.facts i) (number_of x i) (included_in x i)
 
--- the numbers of the facts have their meaning; no facts have no numbers
+-- the numbers of the facts have the meaning that `stacks` gives; if there are no facts (None),
+-- nothing is required
 abbrev pub IsNumberedIf : (ℕ → ℕ → Slot) → ℕ → Option NumberedFacts → Type 0
 IsNumberedIf stacks bound None = Unit {0}
 IsNumberedIf stacks bound (Some x) = IsNumbered stacks bound x

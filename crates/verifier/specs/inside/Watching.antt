@@ -15,15 +15,16 @@ abbrev pub StopsWatching : Option (List (ℕ × Facts)) → Option (List (ℕ ×
 StopsWatching old new slot known fault =
     (fault ≡ memory_fault) × ((new ≡ old) ⊎ (new ≡ with_more old (known_at slot known)))
 
--- the instruction at a slot may not be run, and the watcher has received the facts before it, in
--- addition to `old`
+-- `fault` is why the instruction at a slot may not be run; the watcher had received `old`, and has
+-- then received the facts before the instruction too (`new`)
 abbrev pub SeesFault : Shapes → ℕ → Insn → Option Facts → Option (List (ℕ × Facts))
     → Option (List (ℕ × Facts)) → VerifyFault → Type 0
 SeesFault shapes slot insn known old new fault =
     IsFaultFrom shapes slot insn known fault × (new ≡ with_more old (known_at slot known))
 
--- `fault` is the first fault of safety, and the watcher has received the facts up to its slot, in
--- addition to `old`; or it is out of memory, and it has received those below some slot
+-- `fault` is the first fault of safety, and the watcher has received the facts before the slots up
+-- to that of the fault, in addition to `old`; or `fault` is `memory_fault`, and the watcher has
+-- received the facts before the slots below some slot
 abbrev pub SeesFirstFault : Shapes → List Insn → Option (List (ℕ × Facts))
     → Option (List (ℕ × Facts)) → VerifyFault → Type 0
 SeesFirstFault shapes code old new fault =

@@ -13,7 +13,7 @@ abbrev pub texts_given : Option (Bor (List (Bor Text))) → List Text
 texts_given None = []
 texts_given (Some arguments) = texts arguments.now
 
--- the task of the definitions that a task of the code represents
+-- the `Asked` of the definitions that a `Task` of the code represents
 abbrev pub asked_by : Task → Asked
 asked_by (task.Serve tenants) = Serves tenants
 asked_by (task.Rewrite made) = Rewrites made

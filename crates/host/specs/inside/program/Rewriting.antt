@@ -54,8 +54,8 @@ pub record IsHexRefused (input : List ℕ) (failure : Failure) : Type 0 where
   pub own : IsHexFault input fault
   pub failure_is : failure ≡ text_failure fault
 
--- why the input has no slots as hex lines: it is not UTF-8, a line has a fault, or no line has a
--- slot
+-- the input is not hex lines with at least one slot, and `failure` says why: the input is not
+-- UTF-8, a line has a fault, or no line has a slot
 abbrev pub IsUnreadable : List ℕ → Failure → Type 0
 IsUnreadable input failure = IsNoText input failure ⊎ IsHexRefused input failure
 
@@ -95,8 +95,8 @@ streams remaining read_failures contents write_failures reader writer = record {
   write_failures = write_failures writer;
 }
 
--- `before` and `after` are what the reader has left before and after the call, if it is known: the
--- input was read to its end, and is not too long
+-- a call read the input to its end, and the input is not too long; `before` and `after` are what
+-- the reader has left before and after the call, if that is known
 pub record ReadsWholeInput (before after : Option (List ℕ)) (input : List ℕ) : Type 0 where
   pub short : length input ≤ LONGEST_INPUT
   pub read : Consumes before after input
@@ -165,8 +165,10 @@ pub record CutsOutput (made : List ℕ → List ℕ → Type 0) (old new : Strea
   pub failed : old.write_failures < new.write_failures
   pub sound : new.read_failures ≡ old.read_failures
 
--- how a run ends with this failure and without its whole output: the input could not be read and
--- nothing was written; it is rejected or memory ran out; or a call of the writer failed
+-- how a run ends with this failure and without its whole output: the input could not be read; it is
+-- rejected with a failure that `refused` relates to it, or memory ran out; or a call of the writer
+-- failed, for the output that `made` relates to the input. Only in this last case may bytes have
+-- been written
 abbrev pub StopsRewriting : (List ℕ → List ℕ → Type 0) → (List ℕ → Failure → Type 0) → Streams
     → Streams → Failure → Type 0
 StopsRewriting made refused old new failure =

@@ -55,8 +55,8 @@ pub fn value_store_admits()
     ensures { ValueStoreAdmits }
 {}
 
-/// A law: an update and a delete keep a map's shape, and the objects that the map has had still count, also those of deleted keys. The
-/// object that a look-up finds, or that an instruction loads without a call (a direct value), is one that the map has had.
+/// A law: an update and a delete keep a map's shape, and do not lower the number of objects that the map has had, among them those of
+/// deleted keys. The object that a look-up finds, or that an instruction loads without a call (a direct value), is one of these objects.
 pub fn map_calls_keep()
     ensures { MapCallsKeep }
 {}
@@ -71,8 +71,8 @@ pub fn call_admits()
     ensures { CallAdmits }
 {}
 
-/// A law: if facts admit a state by a witness, and all their sites are below a slot, they admit it also by the witness that records a
-/// look-up at this slot too.
+/// A law: if facts admit a state by a witness, and all sites in the facts are below a slot, the facts also admit the state by the witness
+/// that records, besides, a look-up at this slot with any result.
 pub fn site_admits()
     ensures { SiteAdmits }
 {}

@@ -11,7 +11,7 @@
 ghost use Rattle.std.specs.Prelude.{◌≡◌, ◌+◌, ◌≤◌, length, take};
 ghost use Rattle.words.specs.Bytes.{written_at};
 
-/// The first `N` bytes, copied to an array: LLVM knows that the array does not overlap the bytes that the caller overwrites with it.
+/// The first `N` bytes, copied to an array. The caller then copies the array to other bytes: LLVM knows that these do not overlap it.
 #[inline(always)]
 fn first_bytes<const N: usize>(bytes: &[u8]) -> [u8; N]
     requires { N ≤ length bytes.now }

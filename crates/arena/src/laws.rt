@@ -19,7 +19,8 @@ pub fn writes_are_in_parts()
     ensures { WritesAreInParts }
 {}
 
-/// A load, a store or a copy within a part is one in the part's bytes, and leaves the other parts unchanged.
+/// A load within a part returns the number that the part's bytes make. A store or a copy within a part writes only in the part's bytes, and
+/// leaves the other parts unchanged.
 pub fn accesses_are_in_parts()
     ensures { AccessesAreInParts }
 {}

@@ -66,8 +66,8 @@ fn offset(memory_size: usize, size: usize, address: u64) -> Option<usize>
 impl Arena {
     ghost use Rattle.arena.specs.Lending.{LendsPart};
 
-    /// Creates `parts` parts of `part_size` zero bytes each: at least one part of at least one byte, at most 2^28 bytes in all, so an
-    /// offset is the low 32 bits of its address.
+    /// Creates `parts` parts of `part_size` zero bytes each: at least one part of at least one byte, at most 2^28 bytes in all, so that the
+    /// low 32 bits of an address are its offset in the memory (`BASE`).
     ///
     /// # Errors
     ///

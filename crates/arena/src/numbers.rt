@@ -67,7 +67,7 @@ fn low_word(value: u64) -> [u8; 4]
     ((value % 0x1_0000_0000) as u32).to_le_bytes()
 }
 
-/// The low two bytes of a number.
+/// The low two bytes of a number, the lowest first.
 #[inline(always)]
 fn low_half(value: u64) -> [u8; 2]
     ensures { result ≡ low_bytes 2 value }
@@ -83,9 +83,9 @@ fn low_byte(value: u64) -> [u8; 1]
     ((value % 0x100) as u8).to_le_bytes()
 }
 
-/// Writes the low `size` bytes (1, 2, 4 or 8) of `value` at offset `at`, little-endian. Each size has its own conversion. If all sizes
-/// wrote a front of the same eight bytes, the machine code of a run would also store these eight on its stack, and a program's stores of a
-/// constant and of a register would share one jump to the next opcode.
+/// Writes the low `size` bytes (1, 2, 4 or 8) of `value` at offset `at` of `bytes`, little-endian. Each size has its own conversion. If all
+/// sizes converted eight bytes and wrote the first `size` of them, the machine code would also store the eight on the machine's stack, and
+/// a program's stores of a constant and of a register would share one jump to the next opcode.
 #[inline(always)]
 pub(crate) fn write(bytes: &mut [u8], at: usize, size: usize, value: u64)
     requires size { IsSize size }

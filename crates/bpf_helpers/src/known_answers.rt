@@ -4,8 +4,8 @@ use crate::output::OUTSIDE;
 use crate::update::refusal;
 use tagged_model::MapFault;
 
-/// What a helper returns for an error is its number in errno(3), negated, modulo 2^64: for a fault of a map (`refusal`), and for bytes
-/// outside the packet (`OUTSIDE`).
+/// What a helper returns for an error is the error's number in errno(3), negated, modulo 2^64: for a fault of a map (`refusal`), and for
+/// bytes outside the packet (`OUTSIDE`).
 fn refusals_as_words() {
     let no_entry = refusal(MapFault::NoEntry);
     prove!(no_entry == 0xffff_ffff_ffff_fffe);

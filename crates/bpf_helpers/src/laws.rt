@@ -16,7 +16,7 @@ pub(crate) fn call_premises()
     bpf_maps::laws::deletes_keep_elements();
 }
 
-/// If the machine loads a value, the bytes at the address of the load are a word that represents it, and lie in the part.
+/// If the tagged machine loads a value, the bytes at the address of the load lie in the tenant's part, and their word represents the value.
 pub fn loads_give_words()
     ensures { LoadsGiveWords }
 {}
@@ -29,8 +29,8 @@ pub fn stores_keep_simulation()
     arena::laws::writes_stay_inside();
 }
 
-/// If the machine's load of packet bytes has a result, the bytes to which it writes lie in the part: the words of registers 3 and 4 are
-/// their address and their number.
+/// If the tagged machine's call of bpf_skb_load_bytes has a result, the bytes to which it writes lie in the part. The words of registers 3
+/// and 4 are their address and their number.
 pub fn loads_name_bytes()
     ensures { LoadsNameBytes }
 {

@@ -36,7 +36,8 @@ pub(crate) fn write_zeros(arena: &mut Arena, tenant: usize, at: usize, count: us
     part[at..at + count].fill(0);
 }
 
-/// Writes bytes at an address, and appends their range to the trace. The caller knows that they lie in the part of `tenant` (`named`).
+/// Writes `bytes` at an address, and appends the range that they take there to the trace. The caller knows that this range lies in the part
+/// of `tenant` (`named`).
 #[inline(always)]
 fn write_named(arena: &mut Arena, tenant: usize, address: u64, bytes: &[u8], trace: &mut Trace)
     requires part { IsPartOf tenant arena.old }

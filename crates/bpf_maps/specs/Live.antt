@@ -47,7 +47,7 @@ no_live = record {
   holds = 0;
 }
 
--- a live map, and `no_live` for None
+-- the live map of an option; for None the placeholder `no_live`, which means nothing
 abbrev pub live_or : Option LiveMap → LiveMap
 live_or None = no_live
 live_or (Some l) = l
@@ -254,9 +254,9 @@ pub record IsCreated (old : LiveMaps) (shape : MapShape) (k : ℕ) (new : LiveMa
   pub others : (other : ℕ) → other ≢ k → live_at new other ≡ live_at old other
   pub refused : new.refused ≡ old.refused
 
--- the possible results of a creation, each with the live maps after it. If it has a fault (of
--- `create_fault`), this is the result, and nothing changes. If it has none, its only other result
--- than a new map is `Memory`, after which only the flag `refused` has changed
+-- the possible results `answer` of a creation in the live maps `old`, each with the live maps `new`
+-- after it. The first argument is its `create_fault`: a fault is the result, and nothing changes;
+-- for None the result is a new map, or `Memory`, and then only the flag `refused` is set
 abbrev pub Creates : Option MapFault → LiveMaps → MapShape → Result ℕ MapFault → LiveMaps → Type 0
 Creates (Some fault) old shape answer new = (answer ≡ Err fault) × (new ≡ old)
 Creates None old shape (Ok k) new = IsCreated old shape k new

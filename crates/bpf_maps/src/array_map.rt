@@ -61,7 +61,7 @@ impl ArrayMap {
         self.shape.max_entries
     }
 
-    /// A law: the array has all its indices and nothing else, and their keys have four bytes. It does nothing when it runs.
+    /// A law: the kind of the shape is `Array`, and the keys are all indices, of four bytes each. It does nothing when it runs.
     #[inline(always)]
     fn keys_are_its_indices(&self)
         ensures kind { self.now.shape.kind ≡ Array }
@@ -84,7 +84,7 @@ impl ArrayMap {
         index_of(key)
     }
 
-    /// The element of a key of four bytes, which is its index; `None` if the index is out of range.
+    /// The element of a key of four bytes: the index in these bytes. `None` if this index is not below `max_entries`.
     #[inline(always)]
     fn element_of(&self, key: &[u8]) -> Option<u32>
         requires { length key.now ≡ self.now.shape.key_size }
@@ -101,7 +101,7 @@ impl ArrayMap {
         }
     }
 
-    /// The element of a key of four bytes, which is its index, for an update with these flags.
+    /// The element that an update of `key` with `flags` claims. Its number is the index that the four bytes of the key spell.
     ///
     /// # Errors
     ///
@@ -192,7 +192,8 @@ impl ValueMap for ArrayMap {
         Err(MapFault::Invalid)
     }
 
-    // The keys are the indices in ascending order. After an absent key, also one of another size, the index is 0 (`index_after`).
+    // The keys are the indices in ascending order; `None` after the last one. After an absent key, also one of another size, the index is
+    // 0 (`index_after`).
     fn key_after(&self, key: &[u8]) -> Option<KeyRef<'_>> {
         self.keys_are_its_indices();
         let index = self.index_after(key);

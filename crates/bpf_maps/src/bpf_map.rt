@@ -34,9 +34,10 @@ impl BpfMap {
         }
     }
 
-    /// Makes a map of this shape. A hash map gets the memory of a map of `spares`, which are no longer live, if one has the same key size
-    /// and `max_entries`. Else it takes new memory, and spare maps are freed first if they, the live hash maps (`live`) and the new one are
-    /// together too many (`SpareMaps` has the bounds). An array needs none of this. `AllocError`: out of memory for a hash map.
+    /// Makes a map of this shape. A hash map gets the memory of one of `spares`, the maps that are no longer live, if one has the same key
+    /// size and `max_entries`. Else it takes new memory, with `seed`, and spare maps are freed first if they, the live hash maps (`live`)
+    /// and the new one are together too many (`SpareMaps` has the bounds). An array needs none of this. `AllocError`: out of memory for a
+    /// hash map.
     pub(crate) fn with_spares(
         alloc: Global,
         shape: MapShape,

@@ -15,7 +15,8 @@ use std::alloc::Global;
 use tagged_model::{MapFault, MapShape};
 
 /// Updates a key: claims an element for it and writes the value there, in `part`, the tenant's part. The map changes as the verdict on the
-/// update (`verdict` of `tagged_model`) says, and no other map changes; if the update is rejected, none does.
+/// update (`verdict` of `tagged_model`) says, and no other map changes. If `claim` rejects the update, its error is returned, and no map
+/// changes.
 fn update(
     maps: &mut Maps,
     map: MapKey,
@@ -43,7 +44,7 @@ fn update(
 }
 
 /// Deletes a key outside a run. So `end_run` follows at once, and makes the key's element free. The map loses the key, and no other map
-/// changes. If the deletion is rejected, no map changes.
+/// changes. If the deletion is rejected, no map changes: `Invalid` for an array, `NoEntry` if the key is absent.
 fn delete(maps: &mut Maps, map: MapKey, key: &[u8], part: &[u8]) -> Result<(), MapFault>
     requires live { IsSome (live_at maps.old map) }
     requires key { length key.now ≡ (shape_at maps.old map).key_size }
@@ -100,8 +101,8 @@ fn make_again(maps: &mut Maps, map: MapKey, part: &mut [u8]) -> Result<MapKey, M
     maps.create(shape, part)
 }
 
-/// Creates a map and releases it. The creation of any map then ends as it would have before: with the same fault (`create_fault`), or
-/// without one. Each map that was live is unchanged.
+/// Creates a map and, if `create` does not fail, releases it. The creation of any map then ends as it would have before: with the same
+/// fault (`create_fault`), or without one. Each map that was live is unchanged.
 fn make_and_release(maps: &mut Maps, shape: MapShape, part: &mut [u8])
     requires { length part.old ≡ PART }
     ensures room { (other : MapShape) → create_fault maps.new other ≡ create_fault maps.old other }

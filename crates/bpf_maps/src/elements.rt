@@ -21,8 +21,8 @@ pub struct Elements {
 }
 
 impl Elements {
-    /// The elements of a map of this shape. The count is 0 for a hash map, since only the map finds the element of a key. Values begin at
-    /// multiples of eight bytes.
+    /// The two numbers for a map of this shape. `count` is 0 for a hash map, since only the map finds the element of a key. `stride` is the
+    /// value's size, rounded up to a multiple of eight bytes.
     #[inline(always)]
     pub fn of(shape: MapShape) -> Elements
         ensures { result ≡ elements_of shape }
@@ -45,8 +45,8 @@ impl Elements {
         u64::from(self.count) + 0x1_0000_0000 * u64::from(self.stride)
     }
 
-    /// The elements of which `Elements::word` makes this number. If they are those of a map's shape, and the count is not 0, the map is an
-    /// array, so its keys have `INDEX_SIZE` bytes.
+    /// The elements of which `Elements::word` makes this number. The count of a hash map is 0: so if the number is that of a map's elements
+    /// (`Elements::of`) and the count is not 0, the map is an array, and its keys have `INDEX_SIZE` bytes.
     #[inline(always)]
     pub fn of_word(word: u64) -> Elements
         ensures word { word_of result ≡ word }

@@ -145,7 +145,8 @@ impl HashMap {
 impl ValueMap for HashMap {
     ghost keys = { λ m. m };
 
-    // Not inlined: its machine code selects the index that has the keys (`KeyIndex`), and ends in a jump to the `get` of this index.
+    // Not inlined: its machine code selects the index that has the keys (`KeyIndex`), and ends in a jump to the `get` of this index. So a
+    // look-up of a short key does not save and restore the registers that only longer keys need.
     #[inline(never)]
     fn find(&self, key: &[u8]) -> Option<u32> {
         self.elements_are_distinct();

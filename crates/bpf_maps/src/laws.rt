@@ -5,8 +5,8 @@ ghost use Rattle.bpf_maps.specs.Laws.{SizesFitInParts, CallsAreThoseOfAMap, Writ
 ghost use Rattle.bpf_maps.specs.Laws.{ValuesAgree, ElementsAreWithin, AreasKeepElements, DeletesKeepElements};
 ghost use Rattle.bpf_maps.specs.InPart.{ValuesAreWritten, LiveMapsRefineValues};
 
-/// Read as a map whose objects are the elements (`table_of`), a new table of keys is a new map (`Table` of `tagged_model`), and a new key,
-/// a deletion and the end of a run change it as they change a map.
+/// A table of keys, as a map whose objects are its elements (`table_of`), is new, gets a new key, loses a key and ends a run as `Table` of
+/// `tagged_model` defines it for maps.
 pub fn calls_are_those_of_a_map()
     ensures { CallsAreThoseOfAMap }
 {}
@@ -17,8 +17,8 @@ pub fn writes_refine_values()
     ensures { WritesRefineValues (List ℕ) }
 {}
 
-/// Two assignments of values to elements that agree on each element of a key give equal maps from keys to values. Each element of a key, or
-/// kept apart, is less than `max_entries`.
+/// If two assignments of values to elements give each element of a key the same value, they make equal maps from keys to values. In a sound
+/// table of keys (`IsSound`), an element of a key, or one that is kept apart, is less than `max_entries`.
 pub fn values_agree()
     ensures numbers { ValuesAgree ℕ }
     ensures bytes { ValuesAgree (List ℕ) }
@@ -47,8 +47,9 @@ pub fn values_are_written()
     ensures { ValuesAreWritten }
 {}
 
-/// A law, the refinement of maps: if each live map had the same shape and area before a change, its map of values changes as its table of
-/// keys does: not at all, by a deletion, at the end of a run, or by a claim, after which the value is written.
+/// A law, the refinement of maps: if each map that is live after a change was live before it, with the same shape and area, its map of
+/// values changes as its table of keys does: not at all, by a deletion, at the end of a run, or by a claim, after which the value is
+/// written.
 pub fn live_maps_refine_values()
     ensures { LiveMapsRefineValues }
 {

@@ -46,8 +46,8 @@ impl LongIndex {
         Ok(LongIndex { map })
     }
 
-    /// Returns the element of a key; `None` if the key is absent. A function of its own in the machine code, so that the look-up of a short
-    /// key (`WordIndex`) saves no registers for it.
+    /// Returns the element of a key; `None` if the key is absent. It is not inlined: else its caller would push registers to the stack,
+    /// which the look-up of a key of at most eight bytes (`WordIndex`) does not need.
     #[inline(never)]
     pub(crate) fn get(&self, key: &[u8]) -> Option<u32>
         ensures { result ≡ found key.now self.now.entries }

@@ -101,8 +101,8 @@ impl Maps {
     }
 
     /// A law: the values of all live maps lie in the part and don't overlap, their areas lie without gaps after the stack and the
-    /// context, no two keys of a live map have the same element, and there are `MAPS` handles. The values of the maps take
-    /// at most `LARGEST_SUM` bytes. It does nothing when it runs.
+    /// context and take at most `LARGEST_SUM` bytes, no two keys of a live map have the same element, and there are `MAPS` handles.
+    /// It does nothing when it runs.
     #[inline(always)]
     pub fn maps_are_laid(&self)
         ensures laid { IsLaid self.now }
@@ -216,8 +216,8 @@ impl Maps {
         stored.holds += 1;
     }
 
-    /// Drops one reference to a live map; the last frees the map, its handle and its area. The areas after that one then move down by its
-    /// size in `part`, the tenant's part of `PART` bytes, and their maps keep their elements, keys and values.
+    /// Drops one reference to a live map; the last frees the map, its handle and its area. In `part`, the tenant's part of `PART` bytes,
+    /// the later areas then move down by the size of the freed area, and their maps keep their elements, keys and values.
     pub fn release(&mut self, map: MapKey, part: &mut [u8])
         requires live { IsSome (live_at self.old map) }
         requires length { length part.old ≡ PART }
@@ -269,7 +269,7 @@ impl Maps {
     pub fn is_live(&self, map: MapKey) -> bool
         ensures { result ≡ is_some (live_at self.now map) }
     {
-        // A handle with a key in the slab has a map.
+        // For the proof, which has the invariant of the type from this read: a handle with a key of the slab has a map.
         let _ = &self.maps;
         self.keys.get(map.handle).is_some()
     }
@@ -417,8 +417,8 @@ impl Maps {
         self.stored(map).map.entry_after(element)
     }
 
-    /// Writes the key of a live map that follows `key` to the start of `next`, which has room for the longest key. If `key` is empty or
-    /// absent, the first key is written. A `key` that is not empty has the size of the map's keys.
+    /// Writes the key that follows `key` in a live map to the start of `next`, which has room for the longest key. If `key` is empty, or
+    /// the map does not have it, the first key is written. A `key` that is not empty has the size of the map's keys.
     ///
     /// # Errors
     ///

@@ -46,8 +46,8 @@ impl MiddleIndex {
         Ok(MiddleIndex { map })
     }
 
-    /// Returns the element of a key; `None` if the key is absent. A function of its own in the machine code, so that the look-up of a short
-    /// key (`WordIndex`) saves no registers for it.
+    /// Returns the element of a key; `None` if the key is absent. It is not inlined: else its caller would push registers to the stack,
+    /// which the look-up of a key of at most eight bytes (`WordIndex`) does not need.
     #[inline(never)]
     pub(crate) fn get(&self, key: &[u8]) -> Option<u32>
         ensures { result ≡ found key.now self.now.entries }
@@ -55,7 +55,8 @@ impl MiddleIndex {
         self.map.get(KeyBytes { bytes: key })
     }
 
-    /// Returns the key that follows a key, if there is one. After an absent key, also one of another size, it is the first.
+    /// Returns the key that follows a key; `None` if the key is the last, or the index has no keys. After an absent key, also one of
+    /// another size, the result is the first key.
     pub(crate) fn key_after(&self, key: &[u8]) -> Option<&[u8]>
         ensures { option_map lent_key result ≡ key_after key.now self.now.entries }
     {

@@ -134,8 +134,9 @@ impl SpareMaps {
         entries.saturating_sub(MOST_ENTRIES_TOGETHER)
     }
 
-    /// Frees spare maps until those that are left, together with the live hash maps and the new one (`live` counts both), are few enough
-    /// (`has_room`), or none is left. Each turn of the loop frees at most one map, and once a turn frees none, no later turn does.
+    /// Frees spare maps until the spare maps left, the live hash maps and the new one (`live` counts the last two) have room together
+    /// (`has_room`: their number, and the sum of their `max_entries`), or no spare map is left. Each turn of the loop frees at most one
+    /// map, and once a turn frees none, no later turn does.
     fn make_room(&mut self, live: LiveHashMaps) {
         for _ in 0..self.maps.len() {
             if !self.maps.is_empty() && !self.has_room(live) {

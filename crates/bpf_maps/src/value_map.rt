@@ -63,7 +63,8 @@ pub trait ValueMap {
         ensures shape { (keys self.new).shape ≡ (keys self.old).shape }
         ensures sound { IsSound (keys self.new) };
 
-    /// Returns the key that follows a key, if there is one. After an absent key, also one of another size, it is the first.
+    /// Returns the key that follows `key`, or the first key if `key` is absent or has another size. `None` after the last key, and in a map
+    /// without keys.
     fn key_after(&self, key: &[u8]) -> Option<KeyRef<'_>>
         ensures given { option_map key_bytes result
             ≡ next_of (table_of (keys self.now)) key.now }

@@ -47,7 +47,7 @@ struct Definition {
     slot: usize,
 }
 
-/// The number of slots of a line's instruction; 0 if the line is blank, defines a label, or has none of the forms.
+/// The number of slots of a line's instruction; 0 if the line is blank, defines a label, or has none of the forms (`None`).
 fn line_slots(line: &Option<Line<'_>>) -> usize
     ensures value { result ≡ line_slots (seen_option line.now) }
     ensures bound { result ≤ 2 }
@@ -58,7 +58,8 @@ fn line_slots(line: &Option<Line<'_>>) -> usize
     }
 }
 
-/// The name of the label that a line defines; `None` if it defines none.
+/// The name of the label that a line defines. The result is `None` if it defines none, also if the line has none of the forms (the argument
+/// is `None`).
 fn defined<'a>(line: &Option<Line<'a>>) -> Option<&'a str>
     ensures { option_map (λ n. n.now) result ≡ defined_label (seen_option line.now) }
 {
@@ -182,8 +183,8 @@ fn instruction(
     }
 }
 
-/// The instructions on the lines, as `read_lines` parsed them, or the fault of the first line that has one, or `Memory`. `labels` has the
-/// first definition of each label on these lines.
+/// The instructions on the lines, as `read_lines` parsed them (`None`: a line with none of the forms). `labels` has the first definition of
+/// each label on these lines. The error is the fault of the first line that has one, or `Memory` at line 0 if out of memory.
 fn instructions(
     alloc: Global,
     lines: &[Option<Line<'_>>],
@@ -213,8 +214,8 @@ fn instructions(
     Ok(insns)
 }
 
-/// The program of the instructions; the fault `Empty` if there is no instruction, or `Memory`. They have at most `MAX_SLOTS` slots, which
-/// `instructions` has checked, so `Program::new` fails only if out of memory.
+/// The program of the instructions. `Empty` if there is no instruction, `Memory` if out of memory. `instructions` has checked that the
+/// slots are at most `MAX_SLOTS`, so `Program::new` fails only if out of memory.
 fn program(alloc: Global, insns: &[Insn]) -> Result<Program, TextFault>
     requires { slot_count insns.now ≤ MAX_SLOTS }
     ensures made { IfOk result (λ program. (program ≡ insns.now) × (0 < slot_count insns.now)) }
@@ -230,8 +231,9 @@ fn program(alloc: Global, insns: &[Insn]) -> Result<Program, TextFault>
     }
 }
 
-/// The program to which a text assembles, for `assemble`. The error is the text's own fault, that of its first line with one or `Empty`, or
-/// else `Memory`. The contract of `assemble` adds that the text has no other program and no other fault of its own.
+/// The program to which a text assembles, for `assemble`. The error is the text's own fault, or `Memory`. Its own fault is that of the
+/// first line that has a fault, or `Empty` if no line has a fault and the text has no instruction. The contract of `assemble` adds that the
+/// text has no other program and no other fault of its own.
 fn program_of(alloc: Global, text: &str) -> Result<Program, TextFault>
     ensures ok { IfOk result (λ program. IsAssembled text.now program) }
     ensures fault { IfErr result (λ e. (e ≡ memory_fault) ⊎ IsOwnFault text.now e) }

@@ -210,7 +210,7 @@ fn write_atomic(
     write!(text, "lock *({size} *)({base} {sign} {offset}) {op} {src}")
 }
 
-/// Appends the line of a load of a map by its descriptor.
+/// Appends the line of a load into `dst` of the map with descriptor `fd`.
 #[tactic(auto, using(crate::proofs::Printing::laid_out_constant), unfolding(text_line::specs::Written::printed_insn))]
 fn write_map_fd(text: &mut String, dst: Reg, fd: i32) -> Result<(), AllocError>
     ensures { OnOk result (string_bytes text.new ≡ string_bytes text.old

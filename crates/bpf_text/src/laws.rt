@@ -37,7 +37,7 @@ pub fn printed_text_is_assembled()
     text_line::laws::written_in_range();
 }
 
-/// A law: the slots that are read from the text that `hex_lines` writes of a program are the program's.
+/// A law: the text that `hex_lines` writes for a program is read as the slots of this program.
 pub fn hex_lines_are_read()
     ensures { HexLinesAreRead }
 {}

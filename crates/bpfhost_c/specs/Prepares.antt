@@ -77,7 +77,8 @@ install_code session program =
     if is_none session then ERR_NO_HOST else (if is_none program then ERR_NO_PROGRAM else DONE)
 
 -- the handle has a program (not None), and it fits the tenant: each descriptor of its maps names a
--- map of the shape with which it was accepted; nothing is required of a tenant that is not served
+-- map of the shape with which it was accepted; nothing is required of a tenant that is not served,
+-- which has no state (None)
 abbrev pub FitsPrepared : Option Accepted → Option TenantState → Type 0
 FitsPrepared None s = ⊥
 FitsPrepared (Some a) s = FitsTenant a s

@@ -14,8 +14,8 @@ use host_core::GIVEN_WORDS;
 use std::alloc::{AllocError, Global};
 use std::borrow::CowSlice;
 
-/// `words` as contexts of `GIVEN_WORDS` words each, without a copy; `None` if the last one is cut off. Only a word that a run is not given
-/// has to be 0, and a run is given all words of such a context (`known`).
+/// `words` as contexts of `GIVEN_WORDS` words each, without a copy; `None` if the last one is cut off. A run is given all words of such a
+/// context, so none of them has to be 0 (`known`).
 #[tactic(auto, using(crate::proofs::Given::as_given, crate::proofs::Given::all_known))]
 fn as_given(words: &[u32]) -> Option<&[[u32; GIVEN_WORDS]]>
     ensures some { is_some result ≡ nat_eq (length words.now % given_words) 0 }
@@ -125,11 +125,11 @@ fn copied_contexts(
     }
 }
 
-/// Contexts of `size` words, one after another, as a run is given them: the words themselves if `size` is `GIVEN_WORDS`, else
-/// copies.
+/// Contexts of `size` words, one after another, as a run is given them: the words themselves if `size` is `GIVEN_WORDS`, else copies
+/// with `GIVEN_WORDS` words each, the missing ones 0.
 ///
-/// `Err`: the code that C gets: `ERR_SIZE` if `size` is 0 or the last context is cut off, `ERR_TOO_BIG` if one has a word that no run is
-/// given and that is not 0, or `ERR_NO_MEMORY`.
+/// `Err`: the code that C gets: `ERR_SIZE` if `size` is 0 or the last context is cut off, `ERR_TOO_BIG` if a context has a word other than
+/// 0 after its first `GIVEN_WORDS`, or `ERR_NO_MEMORY`.
 pub(crate) fn given_contexts(
     alloc: Global,
     words: &[u32],

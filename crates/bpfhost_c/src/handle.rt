@@ -35,7 +35,7 @@ impl Handle {
         }
     }
 
-    /// A handle that owns the session of a box, which is given as a raw pointer.
+    /// A handle that owns the session of a box. `raw` is this box as a raw pointer.
     pub(crate) fn from_raw_box(raw: RawBox<Session, Global>) -> Handle
         ensures { result.session ≡ Some raw.value }
     {

@@ -26,7 +26,7 @@ impl<T: Drop, A: Allocator> RawBox<T, A> {
         RawBox { at, alloc }
     }
 
-    /// The box of the raw pointer. `Box::from_raw` is allowed, since a `RawBox` owns what a box at its pointer owns.
+    /// The box of the raw pointer. `Box::from_raw` is allowed, since a `RawBox` owns all that a box with the same pointer owns.
     pub(crate) fn into_box(self) -> Box<T, A>
         ensures { result.value ≡ self.value }
     {

@@ -180,9 +180,10 @@ impl Session {
         }
     }
 
-    /// How many packets at the front of a batch a `bound` on executed instructions allows; all if `bound` is 0. The batch has `contexts`
-    /// contexts and `packets` packets, and runs the program at descriptor `fd` of `tenant`. If it has neither one context nor one for each
-    /// packet, the result is `packets` too: such a batch is rejected as a whole.
+    /// How many packets at the front of a batch a `bound` on executed instructions allows, as `Host::allowed_packets` computes it; all if
+    /// `bound` is 0. The batch has `contexts` contexts and `packets` packets, and runs the program at descriptor `fd` of `tenant`. The
+    /// result is `packets` too for a batch that is rejected as a whole: it has neither one context nor one for each packet, `fd` names no
+    /// program, or `tenant` is not served.
     fn allowed_packets(
         &self,
         tenant: usize,
@@ -202,9 +203,9 @@ impl Session {
         self.host.allowed_packets(tenant, fd, bound, packets)
     }
 
-    /// Runs the program at descriptor `fd` of a tenant on the packets at the front of a batch, as many as a `bound` on executed
-    /// instructions allows; 0 is no bound. Their results are written to the front of `results`, and `Ran` has status 0 and the number of
-    /// these packets. If the batch is rejected, `Ran` has the status of the error and 0 packets; then nothing has changed.
+    /// Runs the program at descriptor `fd` of a tenant on the packets at the front of a batch, as many as `allowed_packets` returns for
+    /// `bound`; 0 is no bound. Their results are written to the front of `results`, and `Ran` has status 0 and the number of these packets.
+    /// If `run_packets` rejects these packets, `Ran` has the status of the error and 0 packets; then nothing has changed.
     pub(crate) fn run_bounded(
         &mut self,
         tenant: usize,

@@ -61,14 +61,14 @@ impl Descriptors {
         &self.named
     }
 
-    /// Appends an open descriptor. Returns `open`, which is written below the line that opens it.
+    /// Appends an open descriptor. Returns `open`, which is written below the line that opens it. The error is out of memory.
     fn open(&mut self, new: Named) -> Result<String, CaseError> {
         self.named.push(new)?;
         Ok("open".to_string(self.alloc)?)
     }
 
-    /// Plays a line that opens a descriptor, or `new`, which closes all. Returns what is written below the line; `UnknownWord` if it is
-    /// another line.
+    /// Plays a line that opens a descriptor, or `new`, which closes all. Returns what is written below the line. `UnknownWord` if the line
+    /// has another first word; the errors of `map` and `program` are those of `named_map` and `named_program`.
     pub fn play(&mut self, line: &str) -> Result<String, CaseError> {
         let (word, rest) = first_word(line);
         match word {

@@ -40,8 +40,8 @@ fn append_escaped(bytes: &mut Vec<u8>, text: &str) -> Result<(), CaseError> {
     Ok(())
 }
 
-/// Appends the bytes of a text without repetitions. It is split at each `\x`, so each piece but the first begins with two hex digits.
-/// `Notation` or `Digits` if one does not (`append_escaped`).
+/// Appends the bytes of a text without repetitions. It is split at each `\x`, and each piece but the first has to begin with two hex
+/// digits. If a piece does not, the error is that of `append_escaped`, `Notation` or `Digits`.
 fn append_text(bytes: &mut Vec<u8>, text: &str) -> Result<(), CaseError> {
     for (index, piece) in text.split("\\x").enumerate() {
         if index == 0 {
@@ -53,7 +53,7 @@ fn append_text(bytes: &mut Vec<u8>, text: &str) -> Result<(), CaseError> {
     Ok(())
 }
 
-/// Appends what a repetition repeats, `part`, once: these decimal digits for each `#`, and the other bytes unchanged.
+/// Appends `part`, what a repetition repeats, once: `digits` instead of each `#`, and the other bytes unchanged.
 fn append_numbered(bytes: &mut Vec<u8>, part: &[u8], digits: &str) -> Result<(), AllocError> {
     for byte in part {
         if *byte == b'#' {
@@ -65,7 +65,8 @@ fn append_numbered(bytes: &mut Vec<u8>, part: &[u8], digits: &str) -> Result<(),
     Ok(())
 }
 
-/// Appends what a repetition repeats, `part`, as often as `times` says. Each `#` in it becomes the number of repetitions before, from 0 on.
+/// Appends `part`, the bytes that a repetition repeats, `times` times. Each `#` in `part` becomes the number of repetitions before, from 0
+/// on. `AllocError`: out of memory.
 fn append_times(
     alloc: Global,
     bytes: &mut Vec<u8>,
@@ -90,8 +91,9 @@ fn append_repeated(alloc: Global, bytes: &mut Vec<u8>, text: &str) -> Result<(),
     append_text(bytes, rest)
 }
 
-/// The bytes that a text in the notation of cases represents, with its `;`, `\xHH` and `{COUNT*PART}`. It is split at each `{`, so each
-/// piece but the first begins with a repetition. `Notation` or `Digits` if the notation is wrong.
+/// The bytes that a text in the notation of cases represents, with its `;`, `\xHH` and `{COUNT*PART}`. The text is split at each `{`, so
+/// each piece but the first begins with a repetition. `Notation` if a `}` or `*` is missing, COUNT is wrong (`times`), or two bytes can't
+/// be split off after a `\x`; `Digits` if the two bytes are no hex digits; `Memory` if out of memory.
 pub fn written(alloc: Global, text: &str) -> Result<Vec<u8>, CaseError> {
     let mut bytes = Vec::new(alloc);
     for (index, piece) in text.split('{').enumerate() {
@@ -142,7 +144,8 @@ pub fn hex_groups(alloc: Global, bytes: &[u8], size: usize) -> Result<String, Al
     Ok(text)
 }
 
-/// Appends equal lines, at least one, with `;` for the line feed at their end: one line as it is, more as a repetition.
+/// Appends equal lines, at least one, to `shown`, with `;` for the line feed at their end: one line as it is, more as `{COUNT*PART}`.
+/// `AllocError`: out of memory.
 fn append_lines(alloc: Global, shown: &mut String, lines: &[&str]) -> Result<(), AllocError> {
     let line = lines.first().copied().unwrap_or("");
     let line = line.replace(alloc, '\n', ";")?;

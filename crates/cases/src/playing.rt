@@ -6,8 +6,8 @@ use std::io;
 
 /// Plays the lines of a file of cases in order. Its state is what earlier lines have made.
 pub trait Player {
-    /// Does what a line that is no remark asks for. Returns the lines of its outcome, or the empty text, or an error; `play_lines` writes
-    /// these below the line.
+    /// Does what a line that is no remark asks for. Returns the lines of its outcome, the empty text if it has none, or an error.
+    /// `play_lines` writes the lines or the error below the line.
     fn play(&mut self, line: &str) -> Result<String, CaseError>;
 }
 

@@ -6,7 +6,8 @@ use std::alloc::{AllocError, Global};
 /// The most bytes that are all written in an outcome; of more, it has the first 16, so that its line stays short.
 const MOST_WRITTEN: usize = 64;
 
-/// The hex digits of bytes; of more than `MOST_WRITTEN` bytes, only those of the first 16, and how many there are.
+/// The hex digits of bytes, with a blank between groups of `GROUP` bytes. Of more than `MOST_WRITTEN` bytes, only those of the first 16,
+/// and then the number of all bytes. `AllocError`: out of memory.
 pub fn shown(alloc: Global, bytes: &[u8]) -> Result<String, AllocError> {
     if bytes.len() <= MOST_WRITTEN {
         return hex_groups(alloc, bytes, GROUP);

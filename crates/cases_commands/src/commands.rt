@@ -65,8 +65,8 @@ fn command_text(alloc: Global, command: Command<'_>) -> Result<String, AllocErro
     }
 }
 
-/// The text of the command of a frame, given as hex digits, with the command's fields; or why `parse` rejects the frame. For a frame
-/// without a head, which `parse` does not take, the text is `no head`. Fails as `bytes_of` does, or if out of memory.
+/// The hex digits are a frame's bytes. The result is the text of the frame's command with its fields, or why `parse` rejects the frame. For
+/// a frame without a head, which `parse` does not take, the text is `no head`. Fails as `bytes_of` does, or if out of memory.
 pub fn parse_line(alloc: Global, digits: &str) -> Result<String, CaseError> {
     let frame = bytes_of(alloc, digits)?;
     if frame.len() < HEAD_LENGTH {

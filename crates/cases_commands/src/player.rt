@@ -16,7 +16,7 @@ pub struct CommandPlayer {
 }
 
 impl CommandPlayer {
-    /// A player with nothing open.
+    /// A player with nothing open. `AllocError`: out of memory.
     pub fn new(alloc: Global) -> Result<CommandPlayer, AllocError> {
         Ok(CommandPlayer {
             alloc,
@@ -25,8 +25,9 @@ impl CommandPlayer {
         })
     }
 
-    /// The bytes of a reply, for the words of a line: a tenant, a command, a status, and the hex digits of the payload. `OutOfRange` if the
-    /// payload is longer than `LONGEST_PAYLOAD`.
+    /// The bytes of a reply, for the words of a line: a tenant, a command, a status, and the hex digits of the payload. `Number` if one of
+    /// the first three is no number of its type, `OutOfRange` if the payload is longer than `LONGEST_PAYLOAD`. It also fails as `bytes_of`
+    /// does, or if out of memory.
     fn reply(&mut self, rest: &str) -> Result<String, CaseError> {
         let (tenant, rest) = first_word(rest);
         let (command, rest) = first_word(rest);
@@ -68,8 +69,8 @@ impl CommandPlayer {
         }
     }
 
-    /// What the call that `word` names returns for each number in `rest`, with commas between them. `play` gives only the words `place`,
-    /// `get` and `close`, so the last arm is that of `close`.
+    /// The results, with commas between them, of the function that `word` names, for each number in `rest`. `play` gives only the words
+    /// `place`, `get` and `close`, so the last arm is that of `close`. `Number` if a word of `rest` is no number of 32 bits.
     fn each(&mut self, word: &str, rest: &str) -> Result<String, CaseError> {
         let mut text = String::new(self.alloc);
         for number in rest.split_whitespace() {

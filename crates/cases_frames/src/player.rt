@@ -47,7 +47,8 @@ pub fn new_host(alloc: Global, tenants: &str) -> Result<Host, CaseError> {
     Ok(Host::new(alloc, tenants, HashSeed::new(1, 2))?)
 }
 
-/// A frame without its length field: the tenant, the command, a number at the front of the body, and the rest of the body.
+/// A frame without its length field: the tenant, the command, a number at the front of the body, and the rest of the body. `AllocError`:
+/// out of memory.
 fn frame(
     alloc: Global,
     tenant: u16,
@@ -82,7 +83,8 @@ fn before(alloc: Global, front: &[u8], digits: &str) -> Result<Vec<u8>, CaseErro
     Ok(bytes)
 }
 
-/// The bytes of the slots of a program, given as text in the notation of cases.
+/// The bytes of the slots of the program to which `text`, in the notation of cases, assembles. The errors are those of `written` and
+/// `text_of`, and `Text` if the text does not assemble.
 fn slots_of(alloc: Global, text: &str) -> Result<Vec<u8>, CaseError> {
     let text = written(alloc, text)?;
     let program = assemble(alloc, text_of(&text)?)?;
@@ -114,14 +116,14 @@ impl HostPlayer {
         hex_groups(self.alloc, reply.bytes(), GROUP)
     }
 
-    /// The reply to a frame that is given as hex digits.
+    /// The reply to a frame that is given as hex digits. It fails like `bytes_of`, which reads them.
     fn reply_to_digits(&mut self, digits: &str) -> Result<String, CaseError> {
         let frame = bytes_of(self.alloc, digits)?;
         Ok(self.reply(&frame)?)
     }
 
-    /// The reply to a command of `tenant`, as hex digits. The command's body is `number` and then `rest`. `tenant` and `number` are decimal
-    /// digits; `Number` if `tenant` is no number of 16 bits, or `number` none of 32 bits.
+    /// The reply, as hex digits, to the command of `tenant` with the number `command`. Its body is `number`, four bytes, and then `rest`.
+    /// `tenant` and `number` are decimal digits; `Number` if `tenant` is no number of 16 bits, or `number` none of 32 bits.
     fn command(
         &mut self,
         tenant: &str,
@@ -134,7 +136,8 @@ impl HostPlayer {
         Ok(self.reply(&frame)?)
     }
 
-    /// The reply to a command on a descriptor, for the words of a line: a tenant, the descriptor, and the bytes that follow it.
+    /// The reply to a command on a descriptor, as hex digits. `rest` has a tenant, the descriptor, and the hex digits of the bytes that
+    /// follow the descriptor in the frame. It fails like `bytes_of` and `command`.
     fn on_descriptor(&mut self, command: u16, rest: &str) -> Result<String, CaseError> {
         let (tenant, rest) = first_word(rest);
         let (descriptor, digits) = first_word(rest);
@@ -142,8 +145,9 @@ impl HostPlayer {
         self.command(tenant, command, descriptor, &bytes)
     }
 
-    /// The reply to MAP_CREATE, for the words of a line: a tenant, the kind of map, the sizes of a key and of a value, `max_entries`, and
-    /// the flags.
+    /// The reply to MAP_CREATE, as hex digits, for the words of a line: a tenant, the number of the map's kind, the sizes of a key and of a
+    /// value, `max_entries`, and the flags, all in decimal digits. `Number` if the tenant is no number of 16 bits, or another word none of
+    /// 32 bits.
     fn create(&mut self, rest: &str) -> Result<String, CaseError> {
         let (tenant, rest) = first_word(rest);
         let (kind, sizes) = first_word(rest);
@@ -151,7 +155,8 @@ impl HostPlayer {
         self.command(tenant, MAP_CREATE, kind, &bytes)
     }
 
-    /// The reply to an update, for the words of a line: a tenant, a descriptor, the flags, and the bytes of the key and the value.
+    /// The reply to an update, for the words of a line: a tenant, a descriptor, the flags, and the bytes of the key and the value. `Number`
+    /// if the flags are no number; other errors are those of `before` and `command`.
     fn update(&mut self, rest: &str) -> Result<String, CaseError> {
         let (tenant, rest) = first_word(rest);
         let (descriptor, rest) = first_word(rest);
@@ -167,7 +172,8 @@ impl HostPlayer {
         self.reply(&frame)
     }
 
-    /// The reply to a load, for the words of a line: a tenant, and the program's text.
+    /// The reply to a load, for the words of a line: a tenant, and the program's text. `Number` if the tenant is missing or wrong, else the
+    /// errors of `slots_of`, as `Text` if the text does not assemble.
     fn load(&mut self, rest: &str) -> Result<String, CaseError> {
         let (tenant, text) = first_word(rest);
         let tenant = tenant.parse()?;
@@ -175,7 +181,8 @@ impl HostPlayer {
         Ok(self.load_slots(tenant, &slots)?)
     }
 
-    /// The reply to a load, for the words of a line: a tenant, and the bytes of the slots in hex digits (`bytes_of`).
+    /// The reply to a load, for the words of a line: a tenant, and the bytes of the slots in hex digits (`bytes_of`). `Number` if the
+    /// tenant is no number of 16 bits, and the errors of `bytes_of`.
     fn load_digits(&mut self, rest: &str) -> Result<String, CaseError> {
         let (tenant, digits) = first_word(rest);
         let tenant = tenant.parse()?;
@@ -183,8 +190,8 @@ impl HostPlayer {
         Ok(self.load_slots(tenant, &slots)?)
     }
 
-    /// The reply to a test run, for the words of a line: a tenant, a descriptor and a packet. Its context words are those of the last line
-    /// `words`, or zeros if there was none.
+    /// The reply to a test run, for the words of a line: a tenant, a descriptor, and the hex digits of a packet. The context words are
+    /// those of the last line `words`, or zeros if there was none. It fails like `command`, and on the digits like `before`.
     fn run(&mut self, rest: &str) -> Result<String, CaseError> {
         let (tenant, rest) = first_word(rest);
         let (descriptor, packet) = first_word(rest);
@@ -193,7 +200,7 @@ impl HostPlayer {
     }
 
     /// The reply to the frame that a line asks for: `word` is the line's first word, `rest` the text after it. `UnknownWord` if a line with
-    /// this first word asks for no frame.
+    /// this first word asks for no frame; the other errors are those of the function that makes the frame.
     fn reply_to_line(&mut self, word: &str, rest: &str) -> Result<String, CaseError> {
         match word {
             "frame" => self.reply_to_digits(rest),
@@ -210,7 +217,8 @@ impl HostPlayer {
         }
     }
 
-    /// The replies to lines that are separated by `|`, which also separates the replies.
+    /// The replies to lines that are separated by `|`, which also separates the replies. The error is that of `reply_to_line` for the first
+    /// line that has one, or out of memory.
     fn round(&mut self, lines: &str) -> Result<String, CaseError> {
         let mut replies = String::new(self.alloc);
         for line in lines.split('|') {
@@ -224,7 +232,8 @@ impl HostPlayer {
     }
 
     /// Plays the lines again, until they have been played `count` times, round 0 included, or until a round has other replies than round 0,
-    /// which had `first`. Returns the number of this round and its replies; `None` if there is none.
+    /// which had `first`. Returns the number and the replies of the round that has others, as one text; `None` if no round has others.
+    /// Fails like `round`.
     fn other_round(
         &mut self,
         lines: &str,
@@ -241,7 +250,8 @@ impl HostPlayer {
     }
 
     /// Plays lines a number of times, but at least once, for the words of a line: the number, and the lines with `|` between them. Returns
-    /// the replies of round 0 if each round has the same; otherwise those of the first round that has other replies.
+    /// the number and the replies of round 0 if each round has the same; otherwise the number of the first round that has other replies,
+    /// and these. `Number` if the number is missing or wrong, and the errors of `reply_to_line`.
     fn rounds(&mut self, rest: &str) -> Result<String, CaseError> {
         let (count, lines) = first_word(rest);
         let count: u32 = count.parse()?;
@@ -259,7 +269,8 @@ impl HostPlayer {
         Ok(String::new(self.alloc))
     }
 
-    /// Sets the context words of the runs that follow. Returns the empty text, so nothing is written below the line.
+    /// Sets the context words of the runs that follow to the bytes of the hex digits. Fails like `bytes_of`. Returns the empty text, so
+    /// nothing is written below the line.
     fn set_words(&mut self, digits: &str) -> Result<String, CaseError> {
         self.words = bytes_of(self.alloc, digits)?;
         Ok(String::new(self.alloc))

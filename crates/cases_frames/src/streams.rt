@@ -29,8 +29,9 @@ fn ended(alloc: Global, end: Result<u32, ServeFault>, output: &[u8]) -> Result<S
     format!(in alloc; "{end}\n{output}")
 }
 
-/// How `serve` ends on the bytes `input`, and below it the hex digits of what it wrote. It serves at most `limit` frames, a number in
-/// decimal digits. `Number` if `limit` is no number of 32 bits, `OutOfRange` if it is above `MOST_FRAMES`.
+/// How `serve` ends on the bytes `input`, also if with a fault, and below it the hex digits of what it wrote. It serves at most `limit`
+/// frames, a number in decimal digits. `Number` if `limit` is no number of 32 bits, `OutOfRange` if it is above `MOST_FRAMES`, `Memory` if
+/// out of memory for the text.
 fn served(alloc: Global, host: &mut Host, limit: &str, input: &[u8]) -> Result<String, CaseError> {
     let limit: u32 = limit.parse()?;
     if limit > MOST_FRAMES {
@@ -42,8 +43,8 @@ fn served(alloc: Global, host: &mut Host, limit: &str, input: &[u8]) -> Result<S
     Ok(ended(alloc, end, &writer.into_inner())?)
 }
 
-/// How `serve` ends in a new host, and below it what it wrote (`served`). The words of `line` are a number of tenants, a limit of frames,
-/// and the stream's bytes as hex digits. The errors are those of `new_host`, `bytes_of` and `served`.
+/// How `serve` ends in a new host, and in the next line the hex digits of what `serve` wrote (`served`). The words of `line` are a number
+/// of tenants, a limit of frames, and the stream's bytes as hex digits. The errors are those of `new_host`, `bytes_of` and `served`.
 pub fn stream(alloc: Global, line: &str) -> Result<String, CaseError> {
     let (tenants, rest) = first_word(line);
     let (limit, digits) = first_word(rest);
@@ -52,15 +53,17 @@ pub fn stream(alloc: Global, line: &str) -> Result<String, CaseError> {
     served(alloc, &mut host, limit, &input)
 }
 
-/// Of the bytes that the hex digits represent, the first `count`, a number in decimal digits; all of them if there are fewer.
+/// Of the bytes that the hex digits represent, the first `count`, a number in decimal digits; all of them if there are fewer. `Number` if
+/// `count` is no number, and the errors of `bytes_of`.
 fn front(alloc: Global, count: &str, digits: &str) -> Result<Vec<u8>, CaseError> {
     let mut input = bytes_of(alloc, digits)?;
     input.truncate(count.parse()?);
     Ok(input)
 }
 
-/// How `serve` ends in a new host on the front of a stream, for the words of a line: a number of tenants, a limit of frames, how many bytes
-/// the front has, and the bytes of the whole stream.
+/// How `serve` ends in a new host on the front of a stream, and below it what it wrote (`served`). The words of `line` are a number of
+/// tenants, a limit of frames, how many bytes the front has, and the bytes of the whole stream as hex digits. The errors are those of
+/// `new_host`, `front` and `served`.
 pub fn cut(alloc: Global, line: &str) -> Result<String, CaseError> {
     let (tenants, rest) = first_word(line);
     let (limit, rest) = first_word(rest);
@@ -70,8 +73,9 @@ pub fn cut(alloc: Global, line: &str) -> Result<String, CaseError> {
     served(alloc, &mut host, limit, &input)
 }
 
-/// Reads the bytes of hex `digits` by one call of a reader, into a buffer of `ROOM` bytes, and writes those that it gives by one call of a
-/// writer. Returns how many bytes the writer took, how many the reader gave, and the writer's bytes in hex digits; or which call failed.
+/// Reads the bytes of hex `digits` by one call of a reader, into a buffer of `ROOM` bytes, and writes the bytes read by one call of a
+/// writer. Returns the text of how many bytes the writer took, how many the reader gave, and the writer's bytes in hex digits; or of which
+/// call failed. The errors are those of `bytes_of`.
 pub fn relay(alloc: Global, digits: &str) -> Result<String, CaseError> {
     let input = bytes_of(alloc, digits)?;
     let mut reader = Counted::new(input.as_slice());
@@ -115,7 +119,7 @@ fn ran(alloc: Global, words: &[&str], input: &[u8]) -> Result<String, CaseError>
 }
 
 /// How a run of the program ends (`ran`). The line has the program's arguments and, after `<`, its input in hex digits; `Notation` if it
-/// has no `<`.
+/// has no `<`. Other errors are those of `bytes_of` for the input, and of `ran`.
 pub fn program(alloc: Global, line: &str) -> Result<String, CaseError> {
     let (words, digits) = input_of(line)?;
     let words: Vec<&str> = words.split_whitespace().map(word_of).collect(alloc)?;

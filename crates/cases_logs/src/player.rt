@@ -34,8 +34,9 @@ impl LogPlayer {
         Ok(text)
     }
 
-    /// Runs the program `verifier_log` on the arguments and the input of a line, which are separated by `<`. Returns its exit status, its
-    /// output and its fault as a text (`outcome`).
+    /// Runs the program `verifier_log` on the arguments of a line and on its input, which follows `<` in the notation of cases. Returns the
+    /// program's exit status, its output and its fault as a text (`outcome`). `Notation` if `<` is missing, the errors of `written` for the
+    /// input, `NoText` if the output or the fault is not UTF-8, or out of memory.
     fn run(&self, case: &str) -> Result<String, CaseError> {
         let (arguments, text) = input_of(case)?;
         let arguments: Vec<&str> = arguments.split_whitespace().collect(self.alloc)?;

@@ -93,8 +93,9 @@ impl LiveMapsPlayer {
         Ok(self.keys.len() - 1)
     }
 
-    /// Makes a new map, for the words of a line: its shape, and the number of references that are added to its first one. Returns its
-    /// number and the offset of its first value in the part, or the name of the fault of the creation, as text.
+    /// Makes a new map, for the words of a line: its shape, and the number of references that are added to its first one. Returns the map's
+    /// number and the offset of its first value in the part, or the name of the fault of the creation, as text. `Map` if the first word
+    /// means no shape, `Number` if the second is no number of 8 bits.
     fn create(&mut self, rest: &str) -> Result<String, CaseError> {
         let (shape, holds) = first_word(rest);
         let shape = shape_of(self.alloc, shape)?;
@@ -110,7 +111,8 @@ impl LiveMapsPlayer {
         }
     }
 
-    /// Drops a reference to a map. Returns `live`, or `gone` if that was the last reference.
+    /// Drops a reference to the map whose number in the lines is `number`. Returns `live`, or `gone` if that was the last reference. The
+    /// errors are those of `live_map`, and `Memory`.
     fn release(&mut self, number: &str) -> Result<String, CaseError> {
         let map = self.live_map(number)?;
         // A law, which does nothing when it runs: the size of the memory is that of its part.
@@ -124,7 +126,8 @@ impl LiveMapsPlayer {
         Ok(text.to_string(self.alloc)?)
     }
 
-    /// The shape of the live map with this number, as text: kind, sizes, `max_entries`. `NoMap` if no live map has the number.
+    /// The shape of the live map with this number, as text: kind, sizes, `max_entries`. `NoMap` if no live map has the number, `Number` if
+    /// the text is no number.
     fn shape(&self, number: &str) -> Result<String, CaseError> {
         let map = self.live_map(number)?;
         let shape = self.maps.shape(map);
@@ -156,7 +159,8 @@ impl LiveMapsPlayer {
         Ok(format!(in self.alloc; "at {offset}")?)
     }
 
-    /// The value of a key as hex digits, for the words of a line: the map and the key; `absent` if the map does not have the key.
+    /// The value of a key as hex digits, for the words of a line: the map and the key; `absent` if the map does not have the key. The
+    /// errors are those of `live_map` and of `bytes_of_size`, and out of memory.
     fn find(&self, rest: &str) -> Result<String, CaseError> {
         let (number, digits) = first_word(rest);
         let map = self.live_map(number)?;
@@ -170,8 +174,9 @@ impl LiveMapsPlayer {
         Ok(hex_groups(self.alloc, value, GROUP)?)
     }
 
-    /// An update, for the words of a line: the map, the flags, the key and the value. It claims an element, and writes the value there.
-    /// Returns `claimed`, or the name of the map's fault.
+    /// An update, for the words of a line: the number of the map, the flags, the key and the value. It claims an element, and writes the
+    /// value there. Returns `claimed`, or the name of the map's fault. The errors are those of `live_map`, `Number` if the flags are no
+    /// number, and those of `bytes_of_size` for the key and the value.
     fn claim(&mut self, rest: &str) -> Result<String, CaseError> {
         let (number, rest) = first_word(rest);
         let (flags, rest) = first_word(rest);
@@ -194,7 +199,8 @@ impl LiveMapsPlayer {
         }
     }
 
-    /// Removes a key, for the words of a line: the map and the key. Returns `removed`, or the name of the map's fault.
+    /// Removes a key, for the words of a line: the map and the key. Returns `removed`, or the name of the map's fault. The errors are those
+    /// of `live_map` and `bytes_of_size`.
     fn remove(&mut self, rest: &str) -> Result<String, CaseError> {
         let (number, digits) = first_word(rest);
         let map = self.live_map(number)?;
@@ -202,8 +208,9 @@ impl LiveMapsPlayer {
         Ok(done(self.alloc, self.maps.remove(map, &key), "removed")?)
     }
 
-    /// The hex digits of the key that follows a key of a map, or the name of the fault. The words of a line are the map's number and the
-    /// key; without a key, it is the map's first key. `NoMap` if the map is not live, `Size` if the key has not the size of the map's keys.
+    /// The hex digits of the key that follows a key of a map, or the name of the fault of `next_key`. The words of a line are the map's
+    /// number and the key in hex digits; without a key, the result is the map's first key. `NoMap` if the map is not live, `Size` if the
+    /// key has not the size of the map's keys, and the errors of `bytes_of`.
     fn next(&self, rest: &str) -> Result<String, CaseError> {
         let (number, digits) = first_word(rest);
         let map = self.live_map(number)?;
@@ -217,14 +224,16 @@ impl LiveMapsPlayer {
         key_text(self.alloc, outcome, &buffer, size)
     }
 
-    /// Ends a run on a map, so that the elements of removed keys are free again. Returns the empty text.
+    /// Ends a run on the map that has this number in the lines, so that the elements of removed keys are free again. Returns the empty
+    /// text. Fails like `live_map`.
     fn end(&mut self, number: &str) -> Result<String, CaseError> {
         let map = self.live_map(number)?;
         self.maps.end_run(map);
         Ok(nothing(self.alloc))
     }
 
-    /// The result of a test run, for the words of a line: the map, the packet and the program's text.
+    /// The result of a test run, as text. The words of `rest` are the map's number, the packet as hex digits, and the program's text. The
+    /// errors are those of `live_map`, `bytes_of` and `run_text`.
     fn run(&mut self, rest: &str) -> Result<String, CaseError> {
         let (number, rest) = first_word(rest);
         let (packet, text) = first_word(rest);
@@ -245,7 +254,7 @@ impl LiveMapsPlayer {
     }
 
     /// Plays the line of a call on live maps, the call's name and the words after it, and returns the line's output. `UnknownWord` if no
-    /// call has this name.
+    /// call has this name; else the errors are those of the function for the call.
     pub fn play(&mut self, call: &str, rest: &str) -> Result<String, CaseError> {
         match call {
             "new" => self.begin(),

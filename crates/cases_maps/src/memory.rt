@@ -38,7 +38,7 @@ fn size_of(text: &str) -> Result<usize, CaseError>
     }
 }
 
-/// A memory of this number of parts of this size. `OutOfRange` if one is 0, or above `MOST_PARTS` or `LARGEST_PART`.
+/// A memory of `parts` parts of `size` bytes. `OutOfRange` if `parts` is 0 or above `MOST_PARTS`, or `size` is 0 or above `LARGEST_PART`.
 fn new_memory(alloc: Global, parts: usize, size: usize) -> Result<Arena, CaseError> {
     if parts < 1 || parts > MOST_PARTS || size < 1 || size > LARGEST_PART {
         return Err(CaseError::OutOfRange);
@@ -63,14 +63,15 @@ impl MemoryPlayer {
     }
 
     /// Makes a new memory, on which the lines that follow are played, for the words of a line: the number of its parts, and their size.
+    /// Returns the empty text. `Number` if a word is no number; other errors are those of `new_memory`.
     fn begin(&mut self, rest: &str) -> Result<String, CaseError> {
         let (parts, size) = first_word(rest);
         self.arena = new_memory(self.alloc, parts.parse()?, size.parse()?)?;
         Ok(nothing(self.alloc))
     }
 
-    /// The number that a load reads, in decimal digits, for the words of a line: the address and the size. `outside` if the memory does not
-    /// have all these bytes.
+    /// The number that a load reads, in decimal digits, for the words of a line: the address and the size. The text `outside` if the memory
+    /// does not have all these bytes. The errors are those of `address` and `size_of`.
     fn load(&self, rest: &str) -> Result<String, CaseError> {
         let (at, size) = first_word(rest);
         match self
@@ -82,7 +83,8 @@ impl MemoryPlayer {
         }
     }
 
-    /// A store, for the words of a line: the address, the size and the number. `outside` if the memory does not have all these bytes.
+    /// Stores a number. `rest` has the words of a line: the address, the size and the number. Returns the text `stored`, or `outside` if
+    /// the memory does not have all these bytes. The errors are those of `address` and `size_of`, and `Number` if the number is none.
     fn store(&mut self, rest: &str) -> Result<String, CaseError> {
         let (at, rest) = first_word(rest);
         let (size, value) = first_word(rest);
@@ -92,7 +94,8 @@ impl MemoryPlayer {
     }
 
     /// Copies bytes. `rest` has the address of the target, that of the source, and the length. Returns the text `copied`, or `outside` if
-    /// the memory does not have all these bytes. `OutOfRange` if the length is 0: `Arena::copy` requires at least 1.
+    /// the memory does not have all these bytes. The errors are those of `address`, `Number` if the length does not parse, and `OutOfRange`
+    /// if it is 0: `Arena::copy` requires at least 1.
     fn copy(&mut self, rest: &str) -> Result<String, CaseError> {
         let (to, rest) = first_word(rest);
         let (from, length) = first_word(rest);
@@ -128,7 +131,7 @@ impl MemoryPlayer {
     }
 
     /// Plays the line of a call on the memory: the call's name, and the words after it. Returns the call's result as text. `UnknownWord` if
-    /// no call has this name.
+    /// no call has this name; the other errors are those of the call's function.
     pub fn play(&mut self, call: &str, rest: &str) -> Result<String, CaseError> {
         match call {
             "new" => self.begin(rest),

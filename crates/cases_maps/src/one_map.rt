@@ -21,7 +21,8 @@ fn find<M: ValueMap>(alloc: Global, map: &M, size: u32, digits: &str) -> Result<
 }
 
 /// Claims an element for a key. `rest` has the flags, and the key as hex digits; `size` is the size of the map's keys. Returns the text
-/// `claimed`, without the element, or the name of the map's fault.
+/// `claimed`, without the element, or the name of the map's fault. `Number` if the flags do not parse; the errors of `bytes_of_size` for
+/// the key.
 fn claim<M: ValueMap>(
     alloc: Global,
     map: &mut M,
@@ -36,8 +37,8 @@ fn claim<M: ValueMap>(
     Ok(done(alloc, map.claim(&key, flags), "claimed")?)
 }
 
-/// Removes a key, given as hex digits. Returns `removed`, or the name of the map's fault. `size` is the size of the map's keys; `Size` for
-/// a key of another size.
+/// Removes a key, given as hex digits. Returns `removed`, or the name of the map's fault. `size` is the size of the map's keys. The errors
+/// are those of `bytes_of_size`.
 fn remove<M: ValueMap>(
     alloc: Global,
     map: &mut M,
@@ -51,7 +52,8 @@ fn remove<M: ValueMap>(
 }
 
 /// The key that follows the key of these hex digits, as hex digits too, or the name of the fault if no key follows. If there are no digits,
-/// or the map does not have the key, it is the first key. `size` is the size of the map's keys; `Size` for a key of another size.
+/// or the map does not have the key, the result is the first key. `size` is the size of the map's keys; `Size` for a key of another size,
+/// and the errors of `bytes_of`.
 fn next<M: ValueMap>(alloc: Global, map: &M, size: u32, digits: &str) -> Result<String, CaseError>
     requires { size ≡ (M.keys map.now).shape.key_size }
 {
@@ -64,7 +66,8 @@ fn next<M: ValueMap>(alloc: Global, map: &M, size: u32, digits: &str) -> Result<
     key_text(alloc, outcome, &buffer, size)
 }
 
-/// What a call on a map returns, as text, by the call's name and the words after it. `size` is the size of the map's keys.
+/// What a call on a map returns, as text, by the call's name and the words after it. `size` is the size of the map's keys. `UnknownWord` if
+/// no call has this name, and the errors of `find`, `claim`, `remove` and `next`.
 fn play_call<M: ValueMap>(
     alloc: Global,
     map: &mut M,
@@ -101,15 +104,16 @@ impl OneMapPlayer {
     }
 
     /// Makes a new map of this shape, on which the lines that follow are played. The seed of a hash map is always the same. Returns the
-    /// empty text.
+    /// empty text. `Map` if the text means no shape.
     fn begin(&mut self, shape: &str) -> Result<String, CaseError> {
         let shape = shape_of(self.alloc, shape)?;
         self.map = Some(BpfMap::new(self.alloc, shape, HashSeed::new(1, 2))?);
         Ok(nothing(self.alloc))
     }
 
-    /// Plays a line: `new` and a shape, or a call on the map and the words after its name. Returns what the call returns, as text, and for
-    /// `new` the empty text. `NoMap` for a call before the first `map new`.
+    /// Plays a line: `call` is `new` and `rest` a shape, or `call` names a call on the map and `rest` has its words. Returns what the call
+    /// returns, as text, and for `new` the empty text. `NoMap` if `call` is not `new` and no map was made before, else `UnknownWord` if no
+    /// call has this name. It also fails as `begin` and the call do.
     pub fn play(&mut self, call: &str, rest: &str) -> Result<String, CaseError> {
         if call == "new" {
             return self.begin(rest);

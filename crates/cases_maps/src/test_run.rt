@@ -37,8 +37,9 @@ fn accepted(alloc: Global, text: &str, shape: MapShape) -> Result<Verified, Case
 }
 
 /// Runs a program, given as text, on this packet, with zeros as the other words of the context, and returns its result. `map` is live, and
-/// the program has to load it, by `DESCRIPTOR`: `NoMap` if it loads none. `OutOfRange` if the packet is too long. First the last run on the
-/// map is ended, since no element of a map may be kept apart when a run begins. The map's values are in part 0 of the arena.
+/// the program has to load it, by `DESCRIPTOR`. Before the run, the last run on the map is ended, since no element of a map may be kept
+/// apart when a run begins. The map's values are in part 0 of the arena. Fails like `accepted`; with `NoMap` if the program loads no map;
+/// with `OutOfRange` if the packet is too long.
 pub fn run_text(
     alloc: Global,
     text: &str,

@@ -24,7 +24,8 @@ pub fn ran(alloc: Global, case: &str) -> Result<String, CaseError> {
     outcome(alloc, status, text_of(&output)?, &faults)
 }
 
-/// `map`: the descriptor and the shape of the map that an argument names, as Rust prints them for debugging.
+/// A line `map`: the descriptor and the shape of the map that an argument names, as Rust prints them for debugging. `Map` if the argument
+/// names no map (`read_shape`).
 pub fn map_named(alloc: Global, argument: &str) -> Result<String, CaseError> {
     let map = read_shape(argument)?;
     Ok(format!(in alloc; "{map:?}")?)

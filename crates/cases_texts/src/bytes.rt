@@ -23,8 +23,8 @@ fn encoded(alloc: Global, insn: &Insn, slots: usize) -> Result<String, AllocErro
     format!(in alloc; "{insn:?} in {slots}: {written}")
 }
 
-/// `codec`: the instruction at the front of the bytes, the number of its slots, and the bytes to which it is encoded; `Slots` if there is
-/// no instruction.
+/// `codec`: the instruction at the front of the bytes, the number of its slots, and the bytes to which it is encoded; `Slots` if no
+/// instruction begins there. The other errors are those of `bytes_of`.
 pub fn decoded(alloc: Global, text: &str) -> Result<String, CaseError> {
     let bytes = bytes_of(alloc, text)?;
     match &decode(&bytes) {
@@ -33,7 +33,8 @@ pub fn decoded(alloc: Global, text: &str) -> Result<String, CaseError> {
     }
 }
 
-/// `dis`: the text, on one line (`shown`), of the program that the bytes spell; their fault as an error if they spell none.
+/// `dis`: the text, on one line (`shown`), of the program that the bytes, given as hex digits, spell. `Slots` with their fault if they
+/// spell none, and the errors of `bytes_of`.
 pub fn disassembled(alloc: Global, text: &str) -> Result<String, CaseError> {
     let bytes = bytes_of(alloc, text)?;
     let program = read_program(alloc, &bytes)?;
@@ -65,7 +66,8 @@ fn append_place(text: &mut String, program: &Program, slot: usize) -> Result<(),
 }
 
 /// `places`: for each slot of a program, given as hex digits, and for the slot after its last one, the instruction that begins there, or
-/// `none`. They are read from a clone of a program that is made of the instructions, so that `Program::new` and `clone` are played too.
+/// `none`. The instructions are read from a clone of a program that is made of them, so that `Program::new` and `clone` are played too.
+/// `Slots` if the bytes spell no program, and the errors of `bytes_of`.
 pub fn places(alloc: Global, text: &str) -> Result<String, CaseError> {
     let bytes = bytes_of(alloc, text)?;
     let program = read_program(alloc, &bytes)?;
@@ -78,8 +80,8 @@ pub fn places(alloc: Global, text: &str) -> Result<String, CaseError> {
     Ok(answer)
 }
 
-/// `exits`: the number of slots of a program of as many exits as the decimal number `digits` says, or the fault of a program that is empty
-/// or too long.
+/// `exits`: the number of slots of a program of as many exits as the decimal number `digits` says. Fails like `times`, with `Slots` if the
+/// program is empty or too long, or if out of memory.
 pub fn made_of_exits(alloc: Global, digits: &str) -> Result<String, CaseError> {
     let exits = vec![in alloc; Insn::Exit; times(digits)? as usize]?;
     let program = Program::new(alloc, &exits)?;
@@ -99,7 +101,7 @@ fn is_known(opcode: u8) -> bool {
     }
 }
 
-/// `opcodes`: how many opcodes are the first byte of an instruction.
+/// `opcodes`: how many opcodes are the first byte of an instruction, as text. The error is out of memory.
 pub fn known_opcodes(alloc: Global) -> Result<String, CaseError> {
     let known = (0u8..=255).filter(|opcode| is_known(*opcode)).count();
     let answer = format!(in alloc; "{known} opcodes")?;

@@ -6,14 +6,16 @@ use cases::{CaseError, shown, text_of, written};
 use insn_codec::{Program, write_program};
 use std::alloc::Global;
 
-/// Assembles the program whose text is given in the notation of cases.
+/// Assembles the program whose text is given in the notation of cases. `Notation` or `Digits` if it is not in this notation (`written`),
+/// `NoText` if its bytes are not UTF-8, `Text` if it does not assemble, `Memory` if out of memory.
 fn program_of(alloc: Global, text: &str) -> Result<Program, CaseError> {
     let text = written(alloc, text)?;
     let program = assemble(alloc, text_of(&text)?)?;
     Ok(program)
 }
 
-/// `asm`: the hex lines of the program whose text is given in the notation of cases, on one line (`shown`).
+/// `asm`: the program whose text is given in the notation of cases, as hex lines that `shown` writes on one line. `Text` if the text does
+/// not assemble, `NoText` if it is not UTF-8, the errors of `written`, or out of memory.
 pub fn assembled(alloc: Global, text: &str) -> Result<String, CaseError> {
     let program = program_of(alloc, text)?;
     let lines = hex_lines(alloc, &program)?;
@@ -21,8 +23,9 @@ pub fn assembled(alloc: Global, text: &str) -> Result<String, CaseError> {
     Ok(answer)
 }
 
-/// `round`: the text to which the program is disassembled. This text is assembled again: if that gives other slots, the result is
-/// `another program`. An error if one of the two texts does not assemble.
+/// `round`: disassembles the program whose text is given in the notation of cases, and returns the new text (`shown`). The new text is
+/// assembled again: if that gives other slots, the result is `another program`. An error if the notation is wrong, or one of the two
+/// texts does not assemble.
 pub fn printed(alloc: Global, text: &str) -> Result<String, CaseError> {
     let program = program_of(alloc, text)?;
     let text = disassemble(alloc, &program)?;
@@ -34,7 +37,8 @@ pub fn printed(alloc: Global, text: &str) -> Result<String, CaseError> {
     Ok(answer)
 }
 
-/// `hex`: the bytes of the slots that the hex lines spell, as hex digits.
+/// `hex`: the bytes of the slots on hex lines that are given in the notation of cases, as hex digits. The errors are those of `written`,
+/// `text_of` and `from_hex_lines`.
 pub fn read_hex_lines(alloc: Global, text: &str) -> Result<String, CaseError> {
     let text = written(alloc, text)?;
     let bytes = from_hex_lines(alloc, text_of(&text)?)?;

@@ -6,7 +6,7 @@ use std::alloc::{AllocError, Global};
 const JUMPS: usize = 2047;
 
 /// The text of a program of 4,096 slots with a jump in every second one: by `ahead` slots from the next one on, or to the last slot if this
-/// is nearer (`left`). The last slot has the instruction `end`.
+/// is nearer (`left`). The last slot has the instruction `end`. `AllocError`: out of memory.
 pub fn jumping(alloc: Global, ahead: usize, end: &str) -> Result<String, AllocError> {
     let mut lines = String::new(alloc);
     lines.push_str("r0 = *(u32 *)(r1 + 0)")?;

@@ -23,28 +23,30 @@ impl VerdictPlayer {
         }
     }
 
-    /// The verified program to which `text`, in the notation of cases, assembles. `Text` if it does not assemble, `Refused` if it is
-    /// rejected with the open descriptors, and the errors of `written` and `text_of`.
+    /// The verified program to which `text` assembles. `text` is in the notation of cases: `Notation` or `Digits` if it is not (`written`),
+    /// `NoText` if its bytes are not UTF-8, `Text` if it does not assemble, `Refused` if the program is rejected with the open
+    /// descriptors, `Memory` if out of memory.
     fn accepted(&self, text: &str) -> Result<Verified, CaseError> {
         let text = written(self.alloc, text)?;
         let program = assemble(self.alloc, text_of(&text)?)?;
         Ok(verify(self.alloc, &program, self.descriptors.named())?)
     }
 
-    /// The text `accepted` for an accepted program, given as text; a rejected one is an error with its slot and its reason.
+    /// The word `accepted` if the program to which `text` assembles is accepted; `Refused`, with slot and reason, if it is rejected.
+    /// The other errors are those of the function `accepted`, and out of memory.
     fn verdict(&self, text: &str) -> Result<String, CaseError> {
         self.accepted(text)?;
         Ok("accepted".to_string(self.alloc)?)
     }
 
-    /// The verdict on a program that begins with `text` and then returns 0.
+    /// The verdict on a program that begins with `text`, in the notation of cases, and then returns 0. The function fails like `accepted`.
     fn verdict_of_start(&self, text: &str) -> Result<String, CaseError> {
         let whole = format!(in self.alloc; "{text}; r0 = 0; exit")?;
         self.verdict(whole.as_str())
     }
 
     /// The verdict on a program with a jump in every second slot (`jumping`), for the words of a line: by how many slots each jump goes
-    /// ahead at most, and the last instruction.
+    /// ahead at most, and the last instruction. `Number` if the first word is no number; else it fails like `accepted`.
     fn verdict_of_jumps(&self, text: &str) -> Result<String, CaseError> {
         let (ahead, end) = first_word(text);
         let whole = jumping(self.alloc, ahead.parse()?, end)?;

@@ -71,7 +71,7 @@ word_at at body = little_number 4 (drop at body)
 abbrev pub long_at : ℕ → List ℕ → ℕ
 long_at at body = little_number 8 (drop at body)
 
--- the numbers of the first n words of these bytes, four bytes each
+-- the little-endian numbers of the first n words of these bytes, four bytes each
 unfoldable pub words : ℕ → List ℕ → List ℕ
 words zero bytes = []
 words (suc n) bytes = little_number 4 bytes ∷ words n (drop 4 bytes)

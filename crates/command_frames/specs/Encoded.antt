@@ -17,7 +17,8 @@ command_code (prog_load kind slots) = 5
 command_code (prog_test_run fd words packet) = 10
 command_code (close fd) = 256
 
--- the bytes of a command's frame after the head
+-- the bytes of a command's frame after the head. `bytes` of an update are the key and then the
+-- value; `key` and `value` of a new map are their sizes
 abbrev pub body_of : Command → List ℕ
 body_of (map_create kind key value max flags) =
     little_bytes 4 kind

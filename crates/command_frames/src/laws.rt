@@ -8,7 +8,7 @@ pub fn each_is_stream()
     ensures { EachIsStream }
 {}
 
-/// A law: bytes can be split into frames and a rest that does not begin with a whole frame in one way at most.
+/// A law: in at most one way, bytes can be split into frames and a rest that does not begin with a whole frame.
 pub fn one_stream()
     ensures { OneStream }
 {}

@@ -27,8 +27,9 @@ pub(crate) fn bytes_fit(bytes: &[u8])
     let _ = bytes.len();
 }
 
-/// A law: if the slots begin with an instruction that has a step with these maps and this memory (`HasNext`), then they also do if only the
-/// maps are known, only the memory, or neither. So each arm of `dispatch` requires no more than its step reads.
+/// A law: if the slots begin with an instruction that has a step with these maps and this memory (`HasNext`), they also begin with one that
+/// has a step with these maps and some memory, with some maps and this memory, and with some maps and some memory. So each arm of
+/// `dispatch` requires no more than its step reads.
 #[inline(always)]
 pub(crate) fn has_some_next(maps: BoundMaps, rest: &[RawSlot], registers: &Registers, arena: &Arena)
     requires { HasNext rest.now registers.now
@@ -42,7 +43,7 @@ pub(crate) fn has_some_next(maps: BoundMaps, rest: &[RawSlot], registers: &Regis
     let _ = arena;
 }
 
-/// If words and bytes represent a state, those after a step represent the state after the tagged machine's step, if it has one.
+/// A law: if words and bytes represent a state from which the tagged machine has a step, the step on them simulates the machine's.
 fn steps_follow()
     ensures { StepsFollow }
 {

@@ -100,8 +100,8 @@ fn first_fault(many: usize, ends: &[usize]) -> Option<PacketFault>
     None
 }
 
-/// Why packets with these ends, in `many` bytes, are refused; `None` if they are not. If `are_plain` is false for them, `first_fault`
-/// tests each packet. It is also false if a packet has exactly `LONGEST_PACKET` bytes, which is no fault.
+/// Why packets with these ends, in `many` bytes, are refused; `None` if they are not. `first_fault` tests each packet, but only if the
+/// quick test `are_plain` is false. The quick test may be false without a fault: a packet of exactly `LONGEST_PACKET` bytes has none.
 #[inline(always)]
 fn fault_of(many: usize, ends: &[usize]) -> Option<PacketFault>
     ensures { result ≡ packets_fault many 0 ends.now }

@@ -27,8 +27,9 @@ refusal_for None fd contexts many ends room = Some NotPermitted
 refusal_for (Some s) fd contexts many ends room =
     batch_refusal (named s.objects fd) contexts many ends room
 
--- n is how many of the `packets` of a batch a bound on executed instructions allows; all for a
--- tenant that is not served, since such a batch is rejected as a whole
+-- a batch of the program at descriptor fd has `packets` packets, and a bound on executed
+-- instructions allows n of them: all for a tenant that is not served (None), since its batch is
+-- rejected as a whole
 abbrev pub IsAllowedFor : Option TenantState → ℕ → ℕ → ℕ → ℕ → Type 0
 IsAllowedFor None fd bound packets n = n ≡ packets
 IsAllowedFor (Some s) fd bound packets n = IsAllowed (named s.objects fd) bound packets n

@@ -14,7 +14,7 @@ pub fn unrefused_are_served_alone()
     tenant::laws::clear_flag_means_alone();
 }
 
-/// A law, for a caller of `Host::handle`, whose contract is about one call. Over a sequence of calls, each tenant gets replies that its
+/// A law about a sequence of calls of `Host::handle`; the contract of `Host::handle` is about one call. Each tenant gets replies that its
 /// machine may give to its own frames, and if no memory was refused to it, exactly those of its machine without refusals; and no test
 /// run faults.
 pub fn calls_are_served_alone()
@@ -51,7 +51,7 @@ pub fn same_frames_same_replies()
 }
 
 /// A law: two streams with the same frames have the same output, whatever hosts serve them, if each tenant of these frames has the same
-/// state at the beginning of both, and neither refuses memory to it. Replaying a recorded stream relies on this.
+/// state at the beginning of both streams, and neither host refuses memory to it. Replaying a recorded stream relies on this.
 pub fn same_frames_same_output()
     ensures { SameFramesSameOutput }
 {
@@ -72,9 +72,9 @@ pub fn batch_is_its_calls()
     ensures { BatchIsItsCalls }
 {}
 
-/// A law: after any calls of `Host::handle` and `Host::run_packets` on a new host, the saved parts of a tenant are frames, and a new tenant
-/// to which no memory is refused succeeds at each of them and then replies as the saved one does. `Host::tenants_are_restored` promises
-/// this of any host, whatever calls it had.
+/// A law: after any calls of `Host::handle` and `Host::run_packets` on a new host, the parts of a save of a tenant are frames, and a new
+/// tenant to which no memory is refused succeeds at each of these frames and then replies as the saved one does.
+/// `Host::tenants_are_restored` promises this of any host, whatever calls it had.
 pub fn tenants_are_restored()
     ensures { TenantsAreRestored }
 {

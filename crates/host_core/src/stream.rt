@@ -133,7 +133,7 @@ impl<W: Write> Sink for Counted<W> {
         outcome
     }
 
-    /// Flushes the writer of std, and counts the call if it fails.
+    /// Flushes the writer of std and returns its outcome. After a success the output counts as flushed; an error counts as a failed call.
     fn flush(&mut self) -> io::Result<()> {
         let outcome = self.inner.flush();
         match outcome {

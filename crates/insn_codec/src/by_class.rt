@@ -46,10 +46,10 @@ pub(crate) fn check_fields(is_listed: bool, slot: &RawSlot) -> Result<(), FaultK
     Ok(())
 }
 
-/// Reads an operation on two operands, of 64 bits (`wide`) or 32, into `entry`; it has no second slot (`None`). `op` is the operator that
-/// the opcode has at offset 0. Another offset makes a division or a remainder signed; of a move it is the number of bits from which the
-/// sign is extended, 8, 16 or 32: `check_fields` rejects any other, so `_` is 32. `source` says which field has the second operand. The
-/// faults are those of `check_fields`: `Reserved`, `Register`.
+/// Reads an operation on two operands, of 64 bits (`wide`) or 32, into `entry`. The result is `None`: no second slot is read. `op` is the
+/// operator that the opcode has at offset 0. Another offset makes a division or a remainder signed; of a move it is the number of bits from
+/// which the sign is extended, 8, 16 or 32: `check_fields` rejects any other, so `_` is 32. `source` says which field has the second
+/// operand. `Reserved` if a field has a value that the form of the opcode does not allow, else `Register` if a register is above 10.
 #[inline(always)]
 fn read_operation(
     wide: bool,
@@ -148,9 +148,10 @@ fn read_byte_order(
     Ok(None)
 }
 
-/// Reads a negation (code 8, the upper four bits of the opcode) or a byte-order conversion (code 13) into `entry`; it has no second slot
-/// (`None`). `wide` is true of class ALU64, false of ALU. No operator of two operands has the opcode's code (precondition `code`). So an
-/// opcode without an arm here is no instruction's, and the fault is `Opcode`; the other faults are `Reserved` and `Register`.
+/// Reads a negation (code 8, the upper four bits of the opcode) or a byte-order conversion (code 13) into `entry`; neither has a second
+/// slot (`None`). `wide` is true of class ALU64, false of ALU. No operator of two operands has the opcode's code (precondition `code`). So
+/// an opcode without an arm here is no instruction's, and the fault is `Opcode`; the other faults are those of `check_fields`: `Reserved`,
+/// `Register`.
 fn read_one_operand(
     wide: bool,
     entry: &mut Insn,
@@ -288,9 +289,9 @@ fn read_exit(entry: &mut Insn, slot: &RawSlot) -> Result<Option<RawSlot>, FaultK
 }
 
 /// Reads an unconditional jump (code 0, the upper four bits of the opcode), a call (code 8) or the exit (code 9) into `entry`; it has no
-/// second slot (`None`). `wide` is true of class JMP, which has all three, false of JMP32, which has only the jump. No condition has the
-/// opcode's code (precondition `code`), so no instruction has an opcode without an arm here, and the fault is `Opcode`. The fault is
-/// `Reserved` if a field that the instruction does not use is not 0.
+/// second slot (`None`). `wide` is true of class JMP, which has all three, false of JMP32, which has only the jump. The fault is `Opcode`
+/// for any other opcode, also if the source bit is 1: no instruction has it, since its code is that of no condition (precondition `code`).
+/// Else the fault is `Reserved` if a field that the instruction does not use is not 0.
 fn read_unconditional(
     wide: bool,
     entry: &mut Insn,
@@ -313,8 +314,9 @@ fn read_unconditional(
     }
 }
 
-/// Reads an instruction of class JMP (`wide`) or JMP32 into `entry` (RFC 9669, section 4.3); it has no second slot (`None`). The faults are
-/// `Opcode`, `Reserved` and `Register`. Each source bit has an arm of its own, so that the inlined `read_branch` has it as a constant.
+/// Reads an instruction of class JMP (`wide`) or JMP32 into `entry` (RFC 9669, section 4.3); it has no second slot (`None`). The fault is
+/// `Opcode` if no instruction has the opcode, else `Reserved` if a field that the instruction does not use is not 0, else `Register` if a
+/// register is above 10. Each source bit has an arm of its own, so that the inlined `read_branch` has it as a constant.
 #[inline(always)]
 pub(crate) fn read_jump(
     wide: bool,
@@ -389,8 +391,9 @@ pub(crate) fn read_store(
     Ok(None)
 }
 
-/// Reads an atomic operation into `entry` (RFC 9669, section 5.3); it has no second slot (`None`). The immediate selects the operation; if
-/// it selects none, `check_fields` has returned `Reserved` before `op` is taken. Its other fault is `Register`.
+/// Reads an atomic operation into `entry` (RFC 9669, section 5.3). Returns `None`, since the operation has no second slot. The immediate
+/// selects the operation; if it selects none, `check_fields` has returned `Reserved` before `op` is taken. The faults are those of
+/// `check_fields`: `Reserved`, `Register`.
 fn read_atomic(
     size: AtomicSize,
     entry: &mut Insn,
@@ -418,7 +421,7 @@ fn read_atomic(
 }
 
 /// Reads an instruction of class STX into `entry`: an atomic operation on four bytes (opcode 0xc3) or eight (0xdb), or else a store of a
-/// register. It has no second slot (`None`). The faults are `Opcode`, `Reserved` and `Register`.
+/// register. It has no second slot (`None`). The faults are those of `read_atomic` and `read_store`.
 #[inline(always)]
 pub(crate) fn read_register_store(
     entry: &mut Insn,

@@ -24,8 +24,8 @@ fn kinds_of_faults() {
     prove!(last == 8);
 }
 
-/// The exit is written in 8 bytes, and the byte after them is unchanged. A wide load of 0xffff_ffff_0000_0007 is written in 16: the low
-/// half of the number begins at byte 4, and the high half ends at byte 15.
+/// `encode` spells the exit in 8 bytes, and leaves the byte after them unchanged. It spells a wide load of 0xffff_ffff_0000_0007 in 16: the
+/// low half of the number begins at byte 4, and the high half ends at byte 15.
 #[tactic(auto, unfolding(insn_set::specs::Spelling::spelling))]
 fn written_instructions() {
     let mut out = [0x55; 16];
@@ -106,7 +106,8 @@ fn read_program_of_an_exit(alloc: Global) -> Result<(), CodecFault> {
     Ok(())
 }
 
-/// A program of a wide load and an exit is written in 24 bytes, and the opcode of the exit is byte 16. It fails only if memory is refused.
+/// The spelling of a program of a wide load and an exit has 24 bytes, and byte 16 is the opcode of the exit. This function fails only if
+/// memory is refused.
 #[tactic(auto, unfolding(insn_set::specs::Spelling::spelling))]
 fn written_program(alloc: Global) -> Result<(), CodecFault> {
     let program = Program::new(alloc, &[wide(7), Insn::Exit])?;

@@ -8,7 +8,7 @@ use Rattle.insn_set.specs.View.{view, IsView}
 use Rattle.insn_set.specs.Profile.{profile}
 use Rattle.insn_set.specs.Spelling.{slots, IsInsn}
 
--- the number of slots in the row of an instruction is that of its spelling
+-- the number of slots in the profile of an instruction is that of its spelling
 pub profile_slots : (i : Insn) → (profile i).slots ≡ length (slots i)
 profile_slots (Alu wide op dst src) = refl
 profile_slots _ = refl

@@ -110,8 +110,9 @@ fn are_alu_constants(op: AluOp, a: Range, b: Range) -> bool
     }
 }
 
-/// The range of the results of an operator on 64 bits (`wide`) or 32, for operands of that width, to which `alu32` truncates them. A change
-/// of sign may give all numbers. If the operands that the operator reads are constants, callers compute the result instead.
+/// The range of an operator's results on operands in the ranges `a` and `b`, all of 64 bits (`wide`) or 32; `alu32` has truncated the
+/// operands. A change of sign may give all numbers. If the operands that the operator reads are constants, callers compute the result
+/// instead.
 fn general_range(wide: bool, op: Operator, a: Range, b: Range) -> Range
     requires first { a.hi < 2 ^ width wide }
     requires second { b.hi < 2 ^ width wide }

@@ -12,8 +12,8 @@ pub(crate) fn and(a: Range, b: Range) -> Range
     Range::new(0, a.hi.min(b.hi))
 }
 
-/// The range of the bitwise OR of members: from the greater of the two least members to the greatest number with as many binary digits as
-/// the greatest member of both ranges (`digits_end`).
+/// The range of the bitwise OR of a member of `a` and one of `b`: from the greater of the two low ends to the greatest number with as many
+/// binary digits as the greater of the two high ends (`digits_end`).
 pub(crate) fn or(a: Range, b: Range) -> Range
     ensures { result ≡ or_range a b }
 {
@@ -21,15 +21,16 @@ pub(crate) fn or(a: Range, b: Range) -> Range
 }
 
 /// The range for the bitwise XOR of a member of `a` and one of `b`: from 0 to the greatest number with as many binary digits as the
-/// greatest member of both.
+/// greater of their greatest members (`digits_end`).
 pub(crate) fn exclusive_or(a: Range, b: Range) -> Range
     ensures { result ≡ xor_range a b }
 {
     Range::new(0, digits_end(a, b))
 }
 
-/// The greatest number with as many binary digits as the greatest member of either range, so that no OR or XOR of members is above it. The
-/// number 0 has a case of its own, as a shift by 64 bits is not defined. By `first` and `second`, no lower end of `or` is above it.
+/// The greatest number with as many binary digits as the greatest member of both ranges, so that no OR or XOR of members is above it. The
+/// number 0 has a case of its own, as a shift by 64 bits is not defined. By `first` and `second`, the lower end of the range that `or`
+/// returns is at most this number, its upper end.
 fn digits_end(a: Range, b: Range) -> u64
     ensures value { result ≡ digits_end a b }
     ensures first { a.hi ≤ result }

@@ -17,7 +17,7 @@ fn places(wide: bool, by: u64) -> u64
 }
 
 /// The range of the members of `a`, numbers of 64 bits (`wide`) or 32, shifted left by `places` bits; all numbers of that width if the
-/// shifted greatest member does not fit it. `shift_left` gets `places` from the function of this name, so it is below the width.
+/// shifted greatest member does not fit it. `places` is below the width: `shift_left` gets it from the function `places`.
 fn scaled(wide: bool, a: Range, places: u64) -> Range
     requires first { a.hi < 2 ^ width wide }
     requires bound { places < 64 }
@@ -44,7 +44,7 @@ pub(crate) fn shift_left(wide: bool, a: Range, b: Range) -> Range
 }
 
 /// The range of the members of `a` shifted right by members of `b`, modulo 64 (`wide`) or 32, with zeros from the left. If `b` is no
-/// constant, it is from 0 to the greatest member of `a`, as a shift by 0 leaves a member as it is.
+/// constant, the range is from 0 to the greatest member of `a`, as a shift by 0 leaves a member as it is.
 pub(crate) fn shift_right(wide: bool, a: Range, b: Range) -> Range
     ensures { result ≡ shift_right_range (width wide) a b }
 {
@@ -56,8 +56,8 @@ pub(crate) fn shift_right(wide: bool, a: Range, b: Range) -> Range
     }
 }
 
-/// The range of the members of `a`, on 64 bits (`wide`) or 32, shifted right by members of `b`, with the sign bit copied: all numbers if a
-/// sign bit may be 1 (the greatest member is above half of `greatest`), else that of shifts without sign.
+/// The range of the members of `a`, on 64 bits (`wide`) or 32, shifted right by members of `b`, with the sign bit copied. If a sign bit may
+/// be 1 (the greatest member of `a` is above half of `greatest`), the range has all numbers; else it is that of `shift_right`.
 pub(crate) fn signed_shift_right(wide: bool, a: Range, b: Range) -> Range
     ensures { result ≡ signed_shift_right_range (width wide) a b }
 {

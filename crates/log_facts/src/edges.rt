@@ -43,8 +43,8 @@ impl Edges {
     }
 
     /// Sets which edges out of an instruction a run may take, and refines the facts on them. `flow` is the result of its transfer function.
-    /// A comparison sets the ranges of its operands on each edge. A null test settles its look-up: the result is null on one edge, and not
-    /// on the other. Before this, `falling` and `jumping` both have the facts after the instruction, without this refinement.
+    /// Before the call, `falling` and `jumping` both have the facts after the instruction. A comparison sets the ranges of its operands on
+    /// each edge. A null test settles its look-up: the look-up's result is null on one edge, and not on the other.
     fn take(&mut self, flow: &Flow) {
         (self.falls, self.jumps) = match *flow {
             Flow::Ends => (false, false),

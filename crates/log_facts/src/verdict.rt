@@ -21,7 +21,7 @@ fn write_fault(text: &mut String, fault: VerifyFault) -> Result<(), AllocError>
     writeln!(text, "{refusal}")
 }
 
-/// Writes the line of a refusal, and `why` after it. The error is out of memory.
+/// Writes the line of a refusal, and after it `why`, the reason in words. The error is out of memory.
 fn write_refusal(text: &mut String, fault: VerifyFault, why: &str) -> Result<(), AllocError>
     ensures { OnOk result (AddsVerdict (Err fault) (string_bytes text.old)
         (string_bytes text.new)) }

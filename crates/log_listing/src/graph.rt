@@ -60,8 +60,8 @@ fn write_style(text: &mut String, name: &str, edge: Edge<'_>) -> Result<(), Allo
     }
 }
 
-/// Writes the edge from the block with the first slot `from` to that with the first slot `to`. `edge`, what is known of it, determines its
-/// style or its label, which begins with `name` (`write_style`).
+/// Writes the edge from the block with the first slot `from` to that with the first slot `to`, with a style or a label (`write_style`).
+/// `edge` is what is known of this edge, and a label begins with `name`.
 fn write_edge(
     text: &mut String,
     from: usize,
@@ -105,7 +105,7 @@ fn write_edges(
     }
 }
 
-/// Writes the lines of a text into a label, aligned to the left.
+/// Appends `lines` to `text` inside a label: each line is aligned to the left. `AllocError`: out of memory.
 fn write_label(text: &mut String, lines: &str) -> Result<(), AllocError> {
     for line in lines.lines() {
         write!(text, "{line}\\l")?;
@@ -175,7 +175,8 @@ impl<'a> Graph<'a> {
         }
     }
 
-    /// Writes the end of the block: the end of its label, and its style.
+    /// Writes the end of the block: the end of its label, and its style: red if it has the rejected instruction, else dashed if
+    /// there was a pass and it did not reach the block.
     fn end(&self, text: &mut String) -> Result<(), AllocError> {
         text.push_str("\"")?;
         if self.block.is_refused {
@@ -199,8 +200,8 @@ impl<'a> Graph<'a> {
         self.write_fault(text, slot)
     }
 
-    /// Writes the instruction at a slot; before it the beginning of a block, if one begins there, and after it the block's end and its
-    /// edges, if it ends there.
+    /// Writes the instruction at a slot; before it the beginning of a block, if one begins there, and after it the end and the edges of the
+    /// block, if the block ends there. If an instruction of the block is rejected, `write_edges` gets no step.
     fn write_slot(
         &mut self,
         text: &mut String,

@@ -75,8 +75,8 @@ fn written(old: Slot, new: Slot) -> u8 {
     }
 }
 
-/// The mask of the bytes of a stack slot that are not readable any more; bit 0 is the lowest. A spill was readable in all bytes; 0 if there
-/// is a spill now.
+/// The mask of the bytes of a stack slot that are readable in `old` and not in `new`; bit 0 is the lowest byte. All bytes of a spill are
+/// readable, so the mask is 0 if `new` is a spill.
 fn lost(old: Slot, new: Slot) -> u8 {
     match (old, new) {
         (Slot::Bytes(before), Slot::Bytes(after)) => before & !after,
@@ -130,7 +130,8 @@ impl Row {
         Ok(())
     }
 
-    /// Adds each byte of stack slot `index` that is in a mask, as `take` does with `what`. Bit 0 of the mask is the lowest byte.
+    /// Adds each byte of stack slot `index` whose bit in `mask` is 1, by a call of `take` with the word `what`. Bit 0 is that of the lowest
+    /// byte.
     fn take_slot(
         &mut self,
         text: &mut String,
@@ -150,8 +151,9 @@ impl Row {
     }
 }
 
-/// Writes a note for each row of consecutive stack bytes that are newly written (`written`) from `old` to `new`, or if `are_lost`, that are
-/// not readable any more (`lost`). Notes begin at offset `start` of the text.
+/// Writes a note for each row of consecutive stack bytes that are written in the facts `new` and were not in `old` (`written`; all that are
+/// written, if `old` has a spill there), or if `are_lost`, that were readable in `old` and are not in `new` (`lost`). Notes begin at offset
+/// `start` of the text.
 fn write_stack_bytes(
     text: &mut String,
     start: usize,

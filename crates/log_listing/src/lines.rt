@@ -137,8 +137,9 @@ fn write_step(
     }
 }
 
-/// Writes the notes after the instruction at `slot`: those of its step if the pass reached it (`write_step`), else `not reached`. Writes
-/// nothing if there was no pass, since the program's shape has a fault. Moves the cursor past the step.
+/// Writes the notes after the instruction at `slot`. If the pass reached it, they are those of its step (`write_step`), and the cursor
+/// moves past this step. Else the note is `not reached`, or none without a pass, since the program's shape has a fault; and the cursor
+/// then has no instruction from which a run may fall through.
 fn write_notes(
     text: &mut String,
     story: &ListingInput<'_>,

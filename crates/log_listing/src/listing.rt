@@ -13,8 +13,8 @@ use std::alloc::{AllocError, Global};
 use tagged_model::Named;
 use verifier::{Cost, VerifyFault};
 
-/// The lines of a program's instructions, after a rejection only to the rejected one, with its own line; then the verdict, and after a
-/// rejection `why`, its reason in words. `AllocError`: out of memory.
+/// The lines of a program's instructions; after a rejection the line of the rejected instruction is the last of them. Then the verdict, and
+/// after a rejection `why`, its reason in words. `AllocError`: out of memory.
 fn lines_of(
     alloc: Global,
     story: &ListingInput<'_>,

@@ -61,9 +61,9 @@ impl StepMaker<'_> {
         Ok(())
     }
 
-    /// Adds to `step` the edges out of its instruction `insn`, before which these are the facts; an exit has none. An edge of a conditional
-    /// jump has the text of what is new on it; a conditional jump that is rejected has no edges (`branch`). Any other instruction has one
-    /// edge with the empty text, also if it is rejected: what it changes is new before the next instruction.
+    /// Adds to `step` the edges out of its instruction `insn`. `facts` are those before it. An exit has no edge. An edge of a conditional
+    /// jump has the text of what is new on it; an edge that no run takes is omitted, and so are both if the jump is rejected (`branch`).
+    /// Any other instruction has one edge with the empty text, also if it is rejected: what it changes is new before the next instruction.
     fn leave(&mut self, step: &mut Step, insn: &Insn, facts: &Facts) -> Result<(), AllocError> {
         match insn.profile().successors {
             Successors::Next => step.falling = Some(String::new(self.alloc)),
@@ -75,7 +75,7 @@ impl StepMaker<'_> {
     }
 
     /// The step of the instruction at the slot of `known`. It has what is new in the facts of `known` against `shown`, which are the facts
-    /// of the step before, or those in which nothing is known. At each slot with facts an instruction begins.
+    /// of the step before, or those in which nothing is known. At each slot with facts an instruction begins. `AllocError`: out of memory.
     fn step(&mut self, shown: &Facts, known: &KnownFacts) -> Result<Step, AllocError> {
         let KnownFacts { slot, facts } = known;
         let mut step = Step {

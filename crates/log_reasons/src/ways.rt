@@ -111,9 +111,9 @@ impl Finder<'_> {
         }
     }
 
-    /// Notes whether the value is present on the edge from slot `from` to slot `to`, which has these facts. If it is missing, `from` and a
-    /// cause are stored, unless they are stored for an earlier edge to `to`. The cause is why the value is missing before the instruction
-    /// at `from` or, if it is present there, that this instruction destroys it.
+    /// Notes whether the value (`wanted`) is present on the edge from slot `from` to slot `to`; `facts` are those on this edge. If it is
+    /// missing, `from` and a cause are stored, unless they are stored for an earlier edge to `to`. The cause is why the value is missing
+    /// before the instruction at `from` or, if it is present there, that this instruction destroys it.
     fn arrive(&mut self, from: usize, to: usize, facts: &Facts) {
         let is_there = self.wanted.is_in(facts);
         let cause = self.cause.unwrap_or(Cause::Destroyed(from));
@@ -152,8 +152,8 @@ impl Finder<'_> {
     }
 }
 
-/// The arrivals before any edge is followed, by slot. Only slot 0, the program entry, has a lack: the value was never written. This lack
-/// names slot 0 as the slot from which its edge leads, but there is no such edge, and the number is never used.
+/// The arrivals before any edge is followed, by slot, for a program of `slots` slots. Only slot 0, at which a run begins, has a lack: the
+/// value was never written. No edge leads to slot 0, so the slot that this lack names, 0, is never used.
 fn first_arrivals(alloc: Global, slots: usize) -> Result<Vec<Arrival>, AllocError> {
     let nothing = Arrival {
         is_there: false,
@@ -166,7 +166,8 @@ fn first_arrivals(alloc: Global, slots: usize) -> Result<Vec<Arrival>, AllocErro
     Ok(arrivals)
 }
 
-/// Why a value is missing before the rejected instruction, the last that the pass reached; `None` if it is present there.
+/// Why the value `wanted` is missing before the rejected instruction, the last that the pass reached; `None` if this value is present
+/// there.
 fn cause_of(refusal: &RefusedProgram<'_>, wanted: Wanted) -> Result<Option<Cause>, AllocError> {
     let (alloc, program, named) = (refusal.alloc, refusal.program, refusal.named);
     let mut finder = Finder {

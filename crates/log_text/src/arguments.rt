@@ -47,7 +47,8 @@ fn with_styles<'a>(alloc: Global, program: Command<'a>) -> Result<Command<'a>, A
     program.arg(dot.conflicts_with("all")?)
 }
 
-/// Adds `--hex` and `--text`, the options for the form of the input, of which at most one may be given. `AllocError`: out of memory.
+/// Adds to `program` the options `--hex` and `--text`, which say whether the input is hex lines or the text of a program. At most one of
+/// them may be given. `AllocError`: out of memory.
 fn with_forms<'a>(alloc: Global, program: Command<'a>) -> Result<Command<'a>, AllocError> {
     let hex = flag(alloc, "hex", "Read hex lines, whatever the first line is");
     let program = program.arg(hex.conflicts_with("text")?)?;
@@ -78,7 +79,7 @@ pub(crate) fn parse_arguments<'a>(
     with_maps(alloc, program)?.try_get_matches_from(arguments)
 }
 
-/// The style of the log that the options ask for; without one it is what is new before each instruction.
+/// The style of the log: with `--dot` the graph, with `--all` all that is known, without these options what is new before each instruction.
 pub(crate) fn style_of(matches: &ArgMatches<'_>) -> LogStyle {
     if matches.get_flag("dot") {
         LogStyle::Graph

@@ -15,8 +15,8 @@ struct Output {
     status: u8,
 }
 
-/// The maps that the map arguments name; an empty list if there are none (`None`). Fails if an argument names no map, or the descriptor of
-/// an earlier one, and if out of memory.
+/// The maps that the map arguments name; an empty list without map arguments. `MapArgument` if an argument names no map, or the descriptor
+/// of an earlier argument; `Memory` if out of memory.
 fn maps_given(alloc: Global, matches: &ArgMatches<'_>) -> Result<Vec<Named>, Failure> {
     match matches.get_strs("map") {
         Some(arguments) => maps_named(alloc, arguments),
@@ -33,7 +33,7 @@ impl Output {
 }
 
 /// The output for an input, by the parsed arguments `matches`: the log of its program, or why the slots on its hex lines are no program.
-/// Fails if a map argument or a line has a fault, if the input can't be read or is too long, and if out of memory.
+/// Fails like `maps_given`, `whole_input`, and `hex_slots` or `text_program`, and if out of memory.
 fn log_output<I: Read + Drop>(
     alloc: Global,
     matches: &ArgMatches<'_>,
@@ -87,7 +87,8 @@ fn write_out<O: Write>(output: &mut O, text: &str) -> Result<(), Failure> {
     Ok(())
 }
 
-/// Writes the output for the arguments, and returns the exit status. Nothing is written if the output can't be made.
+/// Writes the output for the arguments, and returns the exit status. Fails like `output_of`, before anything is written, or like
+/// `write_out`.
 fn run<I: Read + Drop, O: Write + Drop>(
     alloc: Global,
     arguments: &[&str],
@@ -100,9 +101,9 @@ fn run<I: Read + Drop, O: Write + Drop>(
 }
 
 /// Runs the program on its arguments, those after its name, and returns its exit status: 0 if the input's program is accepted,
-/// or help or the version is asked for, 1 if it or the input is rejected, 2 if arguments are wrong, 3 if input or output failed,
-/// 4 if out of memory. A fault is one line on `faults`, that of `bpfhost verify`; if that line can't be written, the status is
-/// still the fault's. The log is written only once it is complete.
+/// or help or the version is asked for, 1 if the input or its program is rejected, 2 if arguments are wrong, 3 if input or output
+/// failed, 4 if out of memory. A fault is one line on `faults`, that of `bpfhost verify`; if that line can't be written, the status
+/// is still the fault's. The log is written only once it is complete.
 pub fn run_log_words<I: Read + Drop, O: Write + Drop, F: Write + Drop>(
     alloc: Global,
     arguments: &[&str],

@@ -110,8 +110,8 @@ impl<K: Eq + Hash + Copy, S: BuildHasher> OrderedMap<K, S> {
         Some((key, next))
     }
 
-    /// Adds a key at the end. The caller has found the key absent, and gives it an element less than the bound that no key has. It
-    /// allocates nothing: `new` made room for `bound` keys.
+    /// Adds a key with its element at the end. The caller has found the key absent, no key has the element, and the element and the
+    /// number of keys are less than the bound. It allocates nothing: `new` made room for `bound` keys.
     pub fn insert(&mut self, key: K, element: u32)
         requires absent { lookup (K.eq key) self.old.entries ≡ None }
         requires within { element < self.old.bound }
@@ -151,8 +151,9 @@ impl<K: Eq + Hash + Copy, S: BuildHasher> OrderedMap<K, S> {
     }
 }
 
-/// Whether the entry at the index that `indices` has for an element has this element; in an `OrderedMap`, whether a key has the element.
-/// For an element out of range index 0 is taken. In an `OrderedMap` the entry at 0 has an element in range, so the result is then false.
+/// Whether the entry at the index that `indices` has for `element` has this element; false if `table` has no entry at this index. In an
+/// `OrderedMap`: whether a key has the element. For an element that `indices` does not have, the index is 0. The element of the entry at 0
+/// of an `OrderedMap` is one that `indices` has, so the two differ, and the result is false.
 fn has_element<K: Eq + Hash, S: BuildHasher>(
     table: &IndexMap<K, u32, S>,
     indices: &[u32],
@@ -167,7 +168,8 @@ fn has_element<K: Eq + Hash, S: BuildHasher>(
     }
 }
 
-/// The element after the given one, or the first if none is given. `None` if no element follows, or if no key has the given one.
+/// The element after `element` in the order, or the first one if `element` is `None`. The result is `None` if no element follows, if no key
+/// has `element`, or if the order is empty.
 fn next_element<K: Eq + Hash, S: BuildHasher>(
     table: &IndexMap<K, u32, S>,
     indices: &[u32],
@@ -235,8 +237,8 @@ fn put_last<K: Eq + Hash + Copy, S: BuildHasher>(
 }
 
 /// Takes out the entry at an index, and returns it; the last entry gets the index. The table keeps room for `bound` entries in all. A
-/// removal may give up room for one, so a table with a capacity of only `bound` is filled anew, through `rows`, which is empty before and
-/// after.
+/// removal may give up room for one, so if the table's capacity is only `bound`, `rebuild_without` puts the second half of the entries back
+/// from `rows`, which is empty before and after and has room for half of `bound` (`buffer`).
 fn take_out<K: Eq + Hash + Copy, S: BuildHasher>(
     table: &mut IndexMap<K, u32, S>,
     rows: &mut Vec<(K, u32)>,

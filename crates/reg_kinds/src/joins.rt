@@ -233,8 +233,9 @@ fn join_slot(known: &mut Slot, edge: &Slot) -> bool
     }
 }
 
-/// Joins the stack slot `edge` into `known`, a spill that the join may change. A program can force joins of two kinds in many slots: of
-/// offsets into values of one map, and of a spill with bytes. This function does these, and `join_any_slots`, out of line, the others.
+/// Joins the stack slot `edge` into `known`, a spill that the join may change. A program can force two cases in many slots: both slots are
+/// spilled pointers into values of one map, or `edge` has bytes. This function joins in these cases; in all others it calls
+/// `join_any_slots`, which is not inlined.
 #[inline(never)]
 fn join_other_slots(known: &mut Slot, edge: &Slot)
     ensures { known.new ≡ slot_join known.old edge.now }

@@ -19,7 +19,8 @@ fn registers_at_entry() {
     prove!(is_context);
 }
 
-/// A join of stack slots counts the bytes that are written in both, and a join of facts has the hull of a register's two ranges.
+/// In the join of two stack slots a byte is written if it is written in both. In the join of two facts a register has the hull of its two
+/// ranges.
 #[tactic(auto, unfolding(crate::specs::Kinds::tabulate))]
 fn joins() {
     let both = Slot::Bytes(0x0f).join(Slot::Bytes(0x3c));

@@ -34,8 +34,8 @@ fn ones(count: usize, from: usize) -> u8
     (((1_u16 << count) - 1) << from) as u8
 }
 
-/// The mask of those of `count` bytes, from byte index `start` on, that lie in stack slot `index`; 0 if none does. The bytes may end past
-/// the stack; the bound of `count`, which comes from a `u32`, keeps their end from overflowing.
+/// The mask of the bytes of stack slot `index` that are among the `count` bytes from byte index `start` on; 0 if none is. The bytes may end
+/// past the stack. `count` comes from a `u32`, so that their end does not overflow (precondition `count`).
 fn bits_in(start: usize, count: usize, index: usize) -> u8
     requires start { start ≤ stack_size }
     requires count { count < 2 ^ 32 }
@@ -152,8 +152,8 @@ pub fn fill_stack(facts: &mut Facts, offset: i32, least: u32, most: u32) -> Resu
 
 /// What is known of stack slot `index`, which was `slot` before, after a write of `least` to `most` bytes from byte index `start` on. The
 /// first `least` bytes count as written. If `most` bytes touch a spill, it is lost, and its other bytes count as unwritten; a slot that
-/// they don't touch is unchanged. `most` bytes lie in the stack; `least` may be above `most`, and comes from a `u32`, so its sum with
-/// `start` can't overflow.
+/// they don't touch is unchanged. `most` bytes lie in the stack. `least` may be above `most`: then no write has such a length, and the
+/// result describes no run. `least` comes from a `u32`, so its sum with `start` can't overflow.
 fn filled_slot(slot: Slot, start: usize, least: usize, most: usize, index: usize) -> Slot
     requires least { least < 2 ^ 32 }
     requires within { start + most ≤ stack_size }

@@ -18,8 +18,8 @@ pub fn settle(facts: &mut Facts, site: usize, null: bool)
     settle_stack(facts, site, null);
 }
 
-/// Settles the kind of each register with the result of the look-up at slot `site`: the number 0 if `null`, else a pointer to the start of
-/// a value.
+/// Settles the kind of each register that has the result of the look-up at slot `site`: it becomes the number 0 if `null`, else a pointer
+/// to the start of a value. All other kinds are unchanged.
 fn settle_registers(facts: &mut Facts, site: usize, null: bool)
     ensures { facts.new ≡ with_registers facts.old
         (λ r. kind_settled site null (kind_at facts.old r)) }
@@ -100,8 +100,9 @@ fn settle_both_registers(facts: &mut Facts, taken: &mut Facts, site: usize, null
     }
 }
 
-/// Splits the stack in `facts` before a null test of the look-up at slot `site`: `taken` gets that on the jumping edge, on which the result
-/// is null exactly if `null`, and `facts` that on the falling edge, on which it is the opposite. No register changes.
+/// Settles the stack for both edges of a null test of the look-up at slot `site`. `facts` has the stack before the test, and gets that on
+/// the falling edge; `taken` gets that on the jumping edge. The look-up's result is null on the jumping edge if `null`, else on the falling
+/// edge. No register changes.
 fn settle_both_stacks(facts: &mut Facts, taken: &mut Facts, site: usize, null: bool)
     ensures taken { taken.new ≡ with_slots taken.old
         (λ i. slot_settled site null (slot_at facts.old i)) }
@@ -115,8 +116,8 @@ fn settle_both_stacks(facts: &mut Facts, taken: &mut Facts, site: usize, null: b
 }
 
 /// Settles a register's kind for both edges of a null test of the look-up at slot `site`: `kind` for the falling edge, and its copy `taken`
-/// for the jumping one. The kind of the look-up's result is settled in `taken` for null exactly if `null`, and in `kind` for the opposite.
-/// Any other kind is unchanged in both.
+/// for the jumping one. `null`: whether the look-up's result is null on the jumping edge; on the falling edge the opposite holds. A kind
+/// that is not that of the look-up's result is unchanged in both.
 #[inline(always)]
 fn settle_both_kinds(kind: &mut Kind, taken: &mut Kind, site: usize, null: bool)
     requires { taken.now ≡ kind.now }

@@ -50,8 +50,9 @@ made s (OfProgram fd) = made_program (named s.objects fd)
 
 -- ---- the walk
 
--- n loads of the filler, a program that returns 0: in a new tenant they open n descriptors. `most`
--- loads open all: if one is closed then, the next object gets it
+-- n loads of the filler, a program that returns 0: in a new tenant they open n descriptors. If n is
+-- `most`, the number of all descriptors, none is free then: if one is closed, the next object gets
+-- it
 unfoldable pub filled : ℕ → List Command
 filled zero = []
 filled (suc n) = load_of filler ∷ filled n

@@ -183,7 +183,8 @@ impl FrameWriter {
         }
     }
 
-    /// Appends the frames that close the descriptors that are not open in the saved tenant. `AllocError`: out of memory.
+    /// Appends the frames that close the descriptors that are not open in the saved tenant. The tenant that is restored has all descriptors
+    /// open until then. `AllocError`: out of memory.
     fn append_closing(&mut self, tenant: &Tenant) -> Result<(), AllocError>
         ensures written { OnOk result (self.new.frames.items
             ≡ self.old.frames.items ++ frames_of self.old.number

@@ -55,16 +55,16 @@ pub fn restored_is_alike()
     verifier::laws::maps_are_listed();
 }
 
-/// A law: each test run with ten words of context and a packet that is not too long has a frame, which is parsed as this test run. So the
-/// runs of a batch, which has no frames, are those of some frames.
+/// A law: each test run whose context words and packet fit into a frame (`FitsFrame`) has a frame, which is parsed as this test run. So
+/// each run of a batch, which comes by a call and not as frames, is that of a frame.
 pub fn test_runs_have_frames()
     ensures { TestRunsHaveFrames }
 {
     command_frames::laws::encoding_inverts_parsing();
 }
 
-/// A law: a new tenant to which no memory is refused succeeds at each of the frames that restore a state, and its state is then alike to
-/// the restored one.
+/// A law: if a state can be restored (`IsRestorable`), a new tenant to which no memory is refused succeeds at each of the frames that
+/// restore it, and the state after them is alike to it (`IsAlike`).
 pub fn restored_by_frames()
     ensures { RestoredByFrames }
 {

@@ -62,8 +62,8 @@ pub data MapAfterCall (t : RunMap) : RunMap → Type 0 where
       → MapAfterCall t (updated t key value flags).map
   after_delete : (key : List ℕ) → MapAfterCall t (removed t key).map
 
--- the map of one descriptor before a call and after it: no map both times, or a map and one that a
--- call may leave of it (`MapAfterCall`)
+-- the map of one descriptor before a call and after it: no map both times (None), or a call may
+-- make the second map of the first one (`MapAfterCall`)
 abbrev pub EntryAfterCall : Option RunMap → Option RunMap → Type 0
 EntryAfterCall None None = Unit {0}
 EntryAfterCall (Some t) (Some u) = MapAfterCall t u
@@ -93,9 +93,8 @@ entry_same (Some t) = unchanged
 state_same : (s : RunState) → IsAfterCall s s
 state_same s = record { words = refl; maps = λ m. entry_same (s.maps m) }
 
--- if u replaces t, the map of descriptor m, and a call may leave u of t (`MapAfterCall`), then each
--- descriptor k has no map before and after, or its map after is one that a call may leave of its
--- map before
+-- if s has the map t at descriptor m, and a call may change t to u (`MapAfterCall`), then for each
+-- descriptor k a call may change what s has at k to what s with u at m has there (`EntryAfterCall`)
 entry_set : (s : RunState) (m : ℕ) (t u : RunMap)
     → s.maps m ≡ Some t
     → MapAfterCall t u
@@ -108,8 +107,8 @@ entry_set s m t u there change k =
     (sym (ap s.maps (eqb-true k m b) ∙ there)) change)
     (λ _. entry_same (s.maps k))
 
--- if s has the map t at descriptor m, and a call may leave the map u of t (`MapAfterCall`), then s
--- with u at m can be the state after a call that begins in s
+-- if s has the map t at descriptor m, and a call may change t to u (`MapAfterCall`), then s with u
+-- at m can be the state after a call that begins in s
 map_changed : (s : RunState) (m : ℕ) (t u : RunMap)
     → s.maps m ≡ Some t
     → MapAfterCall t u
@@ -121,8 +120,8 @@ map_changed s m t u there change = record { words = refl; maps = entry_set s m t
 returned : (s t : RunState) (v : Tagged) → IsAfterCall s t → IsAfterCall s (returns t v)
 returned s t v h = record { words = h.words; maps = h.maps }
 
--- if descriptor m has the map t in s, and a call may leave the reply's map of t (`MapAfterCall`),
--- `replies s m reply` can be the state after a call that begins in s: s with the reply's map for m,
+-- if s has the map t at descriptor m, and a call may change t to the reply's map (`MapAfterCall`),
+-- `replies s m reply` can be the state after a call that begins in s: s with the reply's map at m,
 -- the reply's result in register 0, and registers 1 to 5 empty
 replied : (s : RunState) (m : ℕ) (t : RunMap) (reply : MapReply)
     → s.maps m ≡ Some t
@@ -152,8 +151,8 @@ return_leaves s (Some t) v h = returned s t v h
 
 -- ---- arguments
 
--- a computation reads the map in register r, and continues with f: `LeavesAfterCall` permits its
--- result if it permits that of f for each map of state s
+-- if `LeavesAfterCall` permits what f gives for each map of state s, it permits the result of the
+-- computation that reads the map in register r and continues with f
 map_leaves : (s : RunState) (r : ℕ) (f : GivenMap → Option RunState)
     → ((m : ℕ) (t : RunMap)
     → s.maps m ≡ Some t
@@ -176,7 +175,7 @@ map_leaves s r f h = by (argument s r map_given)
     by None = tt
     by (Some m) = at m (s.maps m) refl
 
--- a read gave n bytes, or None, a fault
+-- the result of a read is n bytes, or it is None, since the read is a fault
 abbrev HasLength : ℕ → Option (List ℕ) → Type 0
 HasLength n None = Unit {0}
 HasLength n (Some bs) = length bs ≡ n
@@ -216,8 +215,8 @@ input_long s (Pointer object.Stack x) n =
 input_long s (Pointer (object.Value m number) x) n = object_long (s.maps m) number x n
 input_long s p n = tt
 
--- a computation reads n bytes at the pointer in register r, and continues with f: `LeavesAfterCall`
--- permits its result if it permits that of f for any n bytes
+-- a computation reads n bytes at the pointer in register r, and continues with f. If
+-- `LeavesAfterCall` permits the result of f for any n bytes, it permits that of the computation
 bytes_leave : (s : RunState) (r n : ℕ) (f : List ℕ → Option RunState)
     → ((bs : List ℕ) → length bs ≡ n → LeavesAfterCall s (f bs))
     → LeavesAfterCall s (and_then (argument s r (λ p. input s p n)) f)
@@ -231,9 +230,9 @@ bytes_leave s r n f h = by (s.registers r)
     by None = tt
     by (Some p) = read (input s p n) (input_long s p n)
 
--- if a helper's write of bytes at p in state s is no fault, the state after it can be the one after
--- a call that begins in s (`IsAfterCall`). If p is no pointer into the stack or a value, it is a
--- fault
+-- if a helper's write of bytes at p in state s is no fault, it leads to a state that can be the one
+-- after a call that begins in s (`IsAfterCall`). If p is no pointer into the stack or a value, the
+-- write is a fault
 output_leaves : (s : RunState) (p : Tagged) (bs : List ℕ) → LeavesAfterCall s (output s p bs)
 output_leaves s (Pointer object.Stack x) bs =
     cond_both (is_in_stack x (length bs))

@@ -3,9 +3,9 @@
 ghost use Rattle.std.specs.Prelude.{ℕ, List};
 ghost use Rattle.tagged_model.specs.MapLaws.{CallsRefineValues, MapVerdictsMatchLookUps};
 
-/// A law: a call of a map of objects and the same call of the map of the values that they represent give the same result, but for values
-/// instead of objects, and change both maps alike. An object is a number; a value is a number, such as an element, or bytes. So a map of
-/// elements or of numbered objects can be used instead of a map of bytes.
+/// A law: take a map from keys to numbers, and the map that has instead of each number the value that a function assigns to it, a number
+/// (`numbers`) or bytes (`bytes`). Each call gives the same result on both, but for values instead of numbers, and changes both alike. So a
+/// map from keys to elements can be used instead of a map from keys to bytes.
 pub fn calls_refine_values()
     ensures numbers { CallsRefineValues ℕ ℕ }
     ensures bytes { CallsRefineValues ℕ (List ℕ) }

@@ -45,7 +45,8 @@ RunsBatch fd before inputs room written after =
 
 -- ---- the refusals
 
--- why what a descriptor names cannot be run; None if it is a program
+-- the error of a run of what a descriptor names: `BadDescriptor` if it names nothing (None),
+-- `Invalid` if it names a map; the result is None if it names a program
 abbrev pub object_refusal : Option OpenObject → Option Errno
 object_refusal None = Some BadDescriptor
 object_refusal (Some (object.Map handle)) = Some Invalid

@@ -7,8 +7,8 @@ use Rattle.tenant.specs.declared.object.OpenObject.{OpenObject}
 use Rattle.tenant.specs.declared.object.OpenObject.TheVariants as object
 use Rattle.tenant.specs.State.{TenantState}
 
--- the cost of what a descriptor names: of a program that of its instructions; None for a map, or if
--- the descriptor is not open
+-- `cost` is that of what a descriptor names, the first argument: the cost of a program's
+-- instructions; None for a map, or if the first argument is None, since nothing is open
 abbrev pub HasCost : Option OpenObject → Option Cost → Type 0
 HasCost None cost = cost ≡ None
 HasCost (Some (object.Map handle)) cost = cost ≡ None

@@ -23,7 +23,7 @@ counts_of s = record {
   memory_refused = s.refused;
 }
 
--- the counts of a tenant, all 0 if it is not served
+-- the counts of a tenant; if it is not served, all are 0, and `memory_refused` is false
 abbrev pub counts_if_served : Option TenantState → Counts
 counts_if_served (Some s) = counts_of s
 counts_if_served None = record {

@@ -365,8 +365,8 @@ unfoldable pub maps_left : MapsByDescriptor → List (ℕ × ℕ) → List (Opti
 maps_left left [] maps = maps
 maps_left left (m ∷ ms) maps = maps_left left ms (slice_set maps m.1 (left m.0))
 
--- the result of a test run: a number in four bytes, or the error of a fault, which no accepted
--- program has
+-- the result of a test run with this outcome, and with the state s after it: a number in four
+-- bytes, or the error of a fault, which no run of an accepted program has
 abbrev pub outcome_answer : Outcome → TenantState → Answer
 outcome_answer (Value n) s = gives (little_bytes 4 n) s
 outcome_answer Fault s = refuses BadAddress s

@@ -22,9 +22,9 @@ shown_answer (Ok (reply.Number number)) s = gives (little_bytes 4 number) s
 shown_answer (Ok (reply.Refused refusal)) s = refuses_load refusal s
 shown_answer (Err errno) s = refuses errno s
 
--- what the code returns can be written as a reply: a descriptor is one of the table's, a payload is
--- no longer than the longest, a slot fits in four bytes, and the error is not that of a run that
--- faults
+-- what a command may return, so that its reply can be written: a descriptor is below the end of the
+-- table, a payload is no longer than the longest, and a slot fits in four bytes. Its error is not
+-- BadAddress, which only a run that faults would have: so no reply reports a fault
 abbrev pub IsWritable : Result Reply Errno → Type 0
 IsWritable (Ok reply.Done) = Unit {0}
 IsWritable (Ok (reply.Opened fd)) = fd < first_descriptor + most

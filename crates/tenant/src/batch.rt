@@ -39,8 +39,9 @@ fn run_weight(cost: Cost) -> u64
     u64::from(cost.instructions) + u64::from(CALL_WEIGHT) * u64::from(cost.calls)
 }
 
-/// The number of packets that a bound other than 0 allows a batch of `packets` packets, if a run counts for `cost` instructions: as many
-/// runs as fit, at least one, but no more than there are packets. `cost` is not 0, since each run executes its exit.
+/// The number of packets that `bound` instructions allow a batch of `packets` packets, if a run counts for `cost` instructions: as many
+/// runs as fit, at least one, but at most `packets`. The caller has tested that `bound` is not 0, which would bound nothing. `cost` is not
+/// 0, since each run executes its exit.
 fn allowed(bound: u64, cost: u64, packets: usize) -> usize
     requires { 1 ≤ cost }
     ensures allowed { result ≡ allowed bound cost packets }

@@ -56,7 +56,7 @@ impl Described {
         }
     }
 
-    /// The description of a loaded program: its kind, and the slots that its instructions take.
+    /// The description of a loaded program: that it is a program, and how many slots its instructions take.
     fn of_program(program: &LoadedProgram) -> Described
         ensures { result ≡ described_program program.now.insns }
     {

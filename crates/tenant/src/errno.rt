@@ -52,9 +52,9 @@ fn errno_of_codec(kind: FaultKind) -> Errno
     }
 }
 
-/// The error of a load whose program is not accepted, by the rule that it breaks. For its shape it is `BadDescriptor` if a descriptor is
-/// not open, and `Invalid` by any other rule. It is `AccessDenied` if the program is unsafe or writes the frame pointer. No rule has the
-/// reason `Memory`, which `verify` gives if out of memory; its error is `NoMemory`.
+/// The error of a load whose program is rejected for this reason. `BadDescriptor`: a descriptor is not open. `AccessDenied`: the program is
+/// unsafe or writes the frame pointer. `Invalid`: any other fault of its shape. `NoMemory` for `Memory`, which is the reason of no rule:
+/// `verify` gives it if out of memory.
 fn errno_of_verdict(reason: Reason) -> Errno
     ensures { result ≡ verdict_errno reason }
 {

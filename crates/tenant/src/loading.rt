@@ -94,7 +94,7 @@ impl Tenant {
 
     /// Verifies the program that the slots spell, with the tenant's open descriptors, in the memory `working`. Returns it with the handles
     /// of its maps if it is accepted, else why the slots are rejected. `AllocError`: out of memory. By the clause `slot` the slot of a
-    /// refusal is at most the number of slots: a reply has four bytes for it.
+    /// refusal is at most the number of slots. `load` needs this for its clause `writable`, since a reply has four bytes for the slot.
     fn program_of(
         &self,
         slots: &[u8],

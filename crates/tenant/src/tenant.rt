@@ -209,14 +209,14 @@ impl Tenant {
     }
 
     /// MAP_UPDATE_ELEM: writes the value of a key to the tenant's part, `PART` bytes. `key_and_value` has the bytes of the key, and then
-    /// those of the value. The value of a present key is written in place; a new key goes to the end. Takes no memory.
+    /// those of the value. The value of a present key is overwritten; a new key comes last in the order of keys. Takes no memory.
     ///
     /// # Errors
     ///
     /// `BadDescriptor` if the descriptor is not open; `Invalid` if it names no map, if there are not as many bytes as in a key and a value
     /// of the map, or if `flags` is none of 0, 1 (the key must be absent) and 2 (it must be present); `Exists` if it is 1 and the key is
     /// present; `TooBig` for an index out of range; for an absent key of a hash map `NoEntry` if `flags` is 2, else `TooBig` if the map is
-    /// full. Then no key and no value has changed.
+    /// full. Then nothing has changed.
     pub fn update(
         &mut self,
         fd: u32,

@@ -53,8 +53,8 @@ written (Const dst n) = form.WideLoad dst (value.Number (Some n))
 written (MapFd dst fd) = form.WideLoad dst (value.MapFd (number_of fd))
 written (MapValue dst fd off) = form.WideLoad dst (value.MapValue (number_of fd) (Some off))
 
--- the bytes of a token, a number in decimal. A number without a value (2 ^ 64 or more) has
--- none here: no printed line has such a number.
+-- the bytes of a token; those of a number are its decimal digits. A number without a value (2 ^ 64
+-- or more) has none here: no printed line has such a number.
 abbrev pub lexeme : Token → List ℕ
 lexeme (name n) = n
 lexeme (number (Some n)) = decimal n

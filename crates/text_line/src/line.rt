@@ -23,8 +23,8 @@ use insn_set::{
 
 // ---- operations
 
-/// The operation `op`, an operator of two operands or a move, with the source that the tokens spell: a constant, or a register, `r` if
-/// `wide`, else `w`. `None` if they are anything else.
+/// The operation `op`, an operator of two operands or a move, with the source that is written in the tokens: a constant, or a register, `r`
+/// if `wide`, else `w`. `None` if the tokens are anything else.
 #[tactic(auto, unfolding(crate::specs::inside::Reading::parsed_binary))]
 fn binary(wide: bool, op: AluOp, tokens: &[Token<'_>]) -> Option<Operation>
     ensures { result ≡ parsed_binary wide op (shown_tokens tokens.now) }

@@ -159,9 +159,9 @@ fn name(text: &str) -> Option<(Token<'_>, &str)>
     Some((Token::Name(name), rest))
 }
 
-/// The number at the front, decimal, or hexadecimal after `0x`, and the text after it; `None` if no digit is at the front. If no
-/// hexadecimal digit follows `0x`, the number is 0, and the text after it begins with the `x`. The text is ASCII, as `tokens` has checked,
-/// so it can be split at any byte.
+/// The number at the front, decimal, or hexadecimal after `0x`, and the text after it. The result is `None` if no digit is at the front;
+/// the value in the token is `None` from 2^64 on. If no hexadecimal digit follows `0x`, the number is 0, and the text after it begins with
+/// the `x`. The text is ASCII, as `tokens` has checked, so it can be split at any byte.
 #[tactic(auto, unfolding(crate::specs::inside::Tokens::number_at))]
 fn number(text: &str) -> Option<(Token<'_>, &str)>
     requires { IsAscii text.now }

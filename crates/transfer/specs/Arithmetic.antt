@@ -106,8 +106,8 @@ abbrev pub of_scalars : Bool → Operator → Kind → Kind → Result Kind Reas
 of_scalars wide op (Scalar a) (Scalar b) = Ok (Scalar (range_of (width wide) op a b))
 of_scalars wide op a b = Err PointerArithmetic
 
--- the kind of a 64-bit sum: of two numbers, or of a pointer and a number in either order;
--- PointerArithmetic for other operands, or the reason of `pointer_moved`
+-- the kind of a 64-bit sum: of two numbers, or of a pointer and a number in either order. The error
+-- is PointerArithmetic if neither operand is a number, else that of `pointer_moved`
 abbrev pub sum_kind : Kind → Kind → Result Kind Reason
 sum_kind (Scalar a) (Scalar b) = of_scalars true (Binary alu.Add) (Scalar a) (Scalar b)
 sum_kind (Scalar a) b = pointer_moved Forwards b a

@@ -113,8 +113,8 @@ fn value_by(
     }
 }
 
-/// The kind of `pointer` after it is moved by a number in `range`. `OffsetTooLarge` if its offset may then be farther than
-/// `FARTHEST_OFFSET` from 0, or if the range has numbers of both signs.
+/// The kind of `pointer` after it is moved by a number in `range`, forwards or backwards (`way`). `OffsetTooLarge` if its offset may then
+/// be more than `FARTHEST_OFFSET` from 0, or if the range has numbers of both signs.
 fn value_moved(way: Direction, pointer: ValuePointer, range: Range) -> Result<Kind, Reason>
     ensures { result ≡ value_moved way pointer range }
 {
@@ -127,9 +127,9 @@ fn value_moved(way: Direction, pointer: ValuePointer, range: Range) -> Result<Ki
     }
 }
 
-/// The kind of `pointer` after it is moved by a number in `range`, forwards or backwards (`way`). `PointerArithmetic` unless it is a
-/// pointer into a value, or it is a stack pointer and `range` has only one number. Otherwise `OffsetTooLarge` if the offset may then be
-/// more than `FARTHEST_OFFSET` from 0, or if the range has numbers of both signs.
+/// The kind of `pointer` after it is moved by a number in `range`, forwards or backwards (`way`). Only a pointer into a value may be moved,
+/// and, if `range` has only one number, a stack pointer: any other kind is `PointerArithmetic`. `OffsetTooLarge` if the moved offset may be
+/// more than `FARTHEST_OFFSET` from 0, or if `range` has numbers of both signs.
 fn pointer_moved(way: Direction, pointer: Kind, range: Range) -> Result<Kind, Reason>
     ensures { result ≡ pointer_moved way pointer range }
 {
@@ -162,8 +162,8 @@ fn of_scalars(wide: bool, op: Operator, a: Kind, b: Kind) -> Result<Kind, Reason
     }
 }
 
-/// The kind of an operator's result on one number, of 64 bits (`wide`) or 32. `PointerArithmetic` if it is no number. The operator has one
-/// operand, which `of_scalars` gets as the first and as the second.
+/// The kind of an operator's result on one operand, whose kind is `kind`, of 64 bits (`wide`) or 32. `PointerArithmetic` if the operand is
+/// no number. `of_scalars` gets the operand as the first and as the second.
 pub(crate) fn of_scalar(wide: bool, op: Operator, kind: Kind) -> Result<Kind, Reason>
     ensures { result ≡ of_scalar wide op kind }
 {
@@ -196,17 +196,17 @@ fn difference(a: Kind, b: Kind) -> Result<Kind, Reason>
     }
 }
 
-/// Whether the kind is that of a look-up's result before its null test, which may be null.
+/// Whether the kind is that of a look-up's result that may be null, since no null test has settled it.
 fn is_maybe(kind: Kind) -> bool
     ensures { result ≡ is_maybe kind }
 {
     matches!(kind, Kind::MaybeValue { .. })
 }
 
-/// The kind of an operator's result on two operands, of 64 bits (`wide`) or 32, which the caller has found readable. A 64-bit move copies
-/// any value, 64-bit sums and differences move pointers, and everything else is for numbers. `MaybeNull` if an operand of a 64-bit sum or
-/// difference is a look-up's result that may be null; `OffsetTooLarge` if a pointer may be moved too far (`pointer_moved`);
-/// `PointerArithmetic` for all else that is not allowed.
+/// The kind of an operator's result on the destination, of kind `a`, and the source, of kind `b`, of 64 bits (`wide`) or 32. The caller has
+/// found both readable. Allowed are a 64-bit move of any value, each operator on two numbers, and 64-bit sums and differences that move a
+/// pointer by a number (`sum`, `difference`). `MaybeNull` if an operand of a 64-bit sum or difference is a look-up's result that may be
+/// null, `OffsetTooLarge` if a pointer may be moved too far (`pointer_moved`), `PointerArithmetic` for all other operands.
 pub(crate) fn arithmetic(wide: bool, op: AluOp, a: Kind, b: Kind) -> Result<Kind, Reason>
     ensures { result ≡ arithmetic_kind wide op a b }
 {

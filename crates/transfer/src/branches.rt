@@ -66,7 +66,8 @@ fn is_same(dst: Reg, src: Operand) -> bool
     }
 }
 
-/// The edges of a comparison of `dst` with `src`, with the ranges of both on each edge; `None` for one that can't be taken.
+/// The edges of a comparison of `dst` with `src`. `falls` and `jumps` are the ranges of `dst` and `src` on the falling and on the jumping
+/// edge; `None` for an edge that can't be taken.
 fn compared(
     dst: Reg,
     src: &Operand,

@@ -75,9 +75,9 @@ pub(crate) fn room_of(
     room_in(low, last, count, shape.value_size)
 }
 
-/// Checks that an argument of this kind points to `count` bytes that a helper may read. The error is `OutsideStack`, `PartOfSpill` or
-/// `UnwrittenStack` in the stack, `OutsideValue` in a value, `MaybeNull` for a look-up that may be null, and `HelperArgument` for anything
-/// else.
+/// Checks that an argument of this kind points to `count` bytes that a helper may read. `named` has the maps by descriptor. The error is
+/// that of `read_many` for a pointer into the stack, `OutsideValue` for one into a value (`room_of`), `MaybeNull` for a look-up's result
+/// that may be null, and `HelperArgument` for anything else.
 fn input(named: &[Named], facts: &Facts, count: u32, kind: Kind) -> Result<(), Reason>
     ensures { result ≡ input_kind (shapes_named named.now) facts.now count kind }
 {
@@ -90,8 +90,9 @@ fn input(named: &[Named], facts: &Facts, count: u32, kind: Kind) -> Result<(), R
 }
 
 /// Updates the facts for a write of `length.lo` to `length.hi` bytes at an address of this kind; in the value of a map no fact changes.
-/// `check_length` has bounded the length, so it fits in 32 bits. The errors, after which no fact has changed, are `OutsideStack` in the
-/// stack, `OutsideValue` in a value, `MaybeNull` for a look-up that may be null, and `HelperArgument` for anything else.
+/// `check_length` has bounded the length, so it fits in 32 bits. The errors, after which no fact has changed: `OutsideStack` or
+/// `OutsideValue` if `length.hi` bytes don't all lie in the stack or in the value, or the value's descriptor names no map (`room_of`);
+/// `MaybeNull` for a look-up that may be null; `HelperArgument` for any other kind.
 fn output(facts: &mut Facts, named: &[Named], length: Range, kind: Kind) -> Result<(), Reason>
     requires { length.hi < lengths_end }
     ensures ok { OnOk result (output_facts (shapes_named named.now) facts.old length kind

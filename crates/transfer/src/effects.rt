@@ -96,8 +96,8 @@ fn stack_offset(from: i32, offset: i16) -> Result<i32, Reason>
 }
 
 /// The kind of a value that is loaded `offset` bytes from an address of the kind `base`, which the caller has found readable. A number is
-/// sign-extended (`signed`) or zero-extended. The error is that of `read_stack` for the stack, `ContextAccess`, `OutsideValue`, `MaybeNull`
-/// for a look-up's result that may be null, or `NotPointer`. `named` lists the objects of descriptors.
+/// sign-extended (`signed`) or zero-extended. `named` lists the objects of descriptors. The error is that of `read_stack` for the stack, of
+/// `context_read` for the context, and of `room_of` for a value; `MaybeNull` for a look-up's result that may be null; else `NotPointer`.
 #[inline(always)]
 fn load(
     facts: &Facts,
@@ -138,9 +138,10 @@ fn store_outside(value: Kind) -> Result<(), Reason>
 }
 
 /// Updates the facts for a store of a value of the kind `value`, `offset` bytes from an address of the kind `base`; both may be read, as
-/// the caller has tested. Returns the one stack slot that it may change; `None` for a store into the value of a map, which changes no fact.
-/// The error, after which no fact has changed, is that of `write_stack` for the stack, `ContextAccess`, `OutsideValue`, `PointerStored`,
-/// `MaybeNull` for a look-up's result that may be null, or `NotPointer`. `named` lists the objects of descriptors.
+/// the caller has tested. `named` lists the objects of descriptors. Returns the one stack slot that it may change; `None` for a store into
+/// the value of a map, which changes no fact. After an error no fact has changed. In the stack it is that of `stack_offset` or
+/// `write_stack`, and in a value that of `room_of` (`OutsideValue`) or `store_outside` (`PointerStored`). It is `ContextAccess` in the
+/// context, `MaybeNull` for a look-up's result that may be null, and `NotPointer` for any other kind.
 #[inline(always)]
 fn store(
     facts: &mut Facts,
@@ -217,11 +218,11 @@ fn is_known_multiple(pointer: ValuePointer, offset: i16, size: AccessSize) -> bo
 }
 
 /// Updates the facts for an atomic operation with an operand of the kind `value`, `offset` bytes from an address of the kind `base`; both
-/// may be read, as the caller has tested. `named` lists the objects of descriptors. Returns the stack slot that it may change; `None` in
-/// the value of a map, since no fact changes. After an error no fact has changed. In the stack and in a value the error is
-/// `PointerArithmetic` if the operand is no number, else in the stack that of `stack_offset` or `change_stack`, and in a value
-/// that of `room_of` (`OutsideValue`) or `UnalignedAtomic`. It is `ContextAccess` in the context, `MaybeNull` for a look-up's result that
-/// may be null, and `NotPointer` for any other kind.
+/// may be read, as the caller has tested. `named` lists the objects of descriptors. Returns the stack slot that the operation may change;
+/// `None` in the value of a map, since no fact changes. After an error no fact has changed. In the stack and in a value the error is
+/// `PointerArithmetic` if the operand is no number. Otherwise, in the stack, it is that of `stack_offset` or `change_stack`; in a value it
+/// is that of `room_of` (`OutsideValue`), or `UnalignedAtomic` if the offset is not known or no multiple of the size. It is `ContextAccess`
+/// in the context, `MaybeNull` for a look-up's result that may be null, and `NotPointer` for any other kind.
 fn change(
     facts: &mut Facts,
     named: &[Named],
@@ -335,8 +336,8 @@ fn numbers(facts: &Facts, wide: bool, dst: Reg, src: &Operand) -> Option<(Range,
 }
 
 /// Updates the facts for an operator of two operands, of 64 bits (`wide`) or 32. The error, after which no fact has changed, is
-/// `UnreadableRegister` if it reads an operand that may not be read, else that of `arithmetic`. Out of line: `operate`, which is inlined,
-/// calls it only for a move of 32 bits, and for another operator with an operand that is no number.
+/// `UnreadableRegister` if the operator reads an operand that may not be read, else that of `arithmetic`. Out of line: `operate`, which is
+/// inlined, calls it only for a move of 32 bits, and for another operator with an operand that is no number.
 #[inline(never)]
 fn operate_on_any(
     facts: &mut Facts,
@@ -359,8 +360,8 @@ fn operate_on_any(
 }
 
 /// Updates the facts for an operator of two operands, of 64 bits (`wide`) or 32. The error, after which no fact has changed, is
-/// `UnreadableRegister` if it reads an operand that may not be read, else that of `arithmetic`. This function does 64-bit moves itself, and
-/// each other operator that is no move if both operands are numbers; `operate_on_any` does the rest.
+/// `UnreadableRegister` if the operator reads an operand that may not be read, else that of `arithmetic`. This function does a 64-bit move
+/// itself, and if both operands are numbers, any operator but a move; `operate_on_any` does the rest.
 #[inline(always)]
 fn operate(facts: &mut Facts, wide: bool, op: AluOp, dst: Reg, src: Operand) -> Result<(), Reason>
     ensures ok { OnOk result (operator_edges wide op dst src facts.old ≡ falls facts.new) }

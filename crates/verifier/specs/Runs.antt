@@ -21,8 +21,8 @@ executed_by i (goes t) rest = i ∷ rest t
 executed_by i (ends n) rest = i ∷ []
 executed_by i faults rest = []
 
--- what a run executes from state s: the instruction that begins at its slot, and what is executed
--- after it (`rest`); nothing if none begins there
+-- what a run executes from state s, by the step of the instruction at its slot (`executed_by`);
+-- nothing if no instruction begins there (None); `rest` is what is executed from the next state on
 abbrev pub executed_at : Option Insn → RunState → (RunState → List Insn) → List Insn
 executed_at None s rest = []
 executed_at (Some i) s rest = executed_by i (act i s) rest

@@ -114,7 +114,8 @@ impl Paths {
     }
 
     /// Joins `jumping`, the counts of the paths that end with a jump to the slot at which the pass is, into those along the falling edge:
-    /// of each count the greater one is kept. Nothing changes if no jump leads there.
+    /// of each count the greater one is kept. `jumping` is `NO_COUNTS` if there are no such paths. Then nothing changes, so the test only
+    /// saves the comparisons.
     #[inline(always)]
     pub(crate) fn join(&mut self, jumping: Counts)
         ensures instructions { self.new.here.instructions
@@ -135,7 +136,8 @@ impl Paths {
         self.have_instructions() || slot == 0
     }
 
-    /// Whether a path with an instruction leads to the slot at which the pass is. The path to slot 0 has none.
+    /// Whether a path of at least one instruction, the one at the slot not counted, leads to the slot at which the pass is; before `join`,
+    /// whether one does by the falling edge. The path to slot 0 has none.
     #[inline(always)]
     pub(crate) fn have_instructions(&self) -> bool
         ensures { result ≡ nat_lt 0 self.now.here.instructions }

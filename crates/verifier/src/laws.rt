@@ -50,8 +50,8 @@ pub fn safety_follows_shape()
     transfer::laws::transfer_reasons();
 }
 
-/// A law: each descriptor by which an accepted program loads a map, or a value of one, names a map, and so has a shape: in the list of all
-/// open descriptors, and in that which is kept with the program.
+/// A law: each descriptor by which an accepted program loads a map, or a value of one, names a map. So it has a shape in both lists: that
+/// of all open descriptors, and that which is kept with the program.
 pub fn loaded_maps_have_shapes()
     ensures { LoadedMapsHaveShapes }
 {}

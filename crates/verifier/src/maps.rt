@@ -39,7 +39,7 @@ fn add_at(maps: &mut Vec<u32>, program: &Program, slot: usize) -> Result<(), All
     }
 }
 
-/// Whether the instruction is a load of a map, or of a value of one.
+/// Whether the instruction loads, by a descriptor, a map or an address in a map's first value.
 fn names_map(insn: &Insn) -> bool
     ensures { result ≡ is_some (descriptor insn.now) }
 {

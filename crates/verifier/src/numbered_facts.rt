@@ -88,8 +88,9 @@ impl NumberedFacts {
         self.includes[group] = edge.numbers[group];
     }
 
-    /// Joins the group of eight stack slots of index `group` of `edge`, the facts on another edge, into that of these facts. If the group
-    /// changes, it gets the new number `fresh`. A join that by `includes` would change nothing is left out.
+    /// Joins a group of eight stack slots in `edge`, the facts on another edge, into the group of the same index, `group`, in these facts.
+    /// If the latter changes, it gets the new number `fresh`. The join is left out if by `includes` it would repeat the last join into this
+    /// group, and so change nothing.
     #[inline(always)]
     fn join_stack_group(&mut self, edge: &NumberedFacts, fresh: usize, group: usize)
         requires { group < stack_groups }

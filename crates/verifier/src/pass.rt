@@ -43,10 +43,10 @@ pub(crate) struct Pass {
 }
 
 /// Joins the facts on the jumping edge of a comparison of `dst` with `src` into those that `entries` has for `target`, a slot of the
-/// program, since the program's shape has no fault. `jumps` has the operands' ranges on this edge; if it is `None`, the edge can't be
-/// taken, and nothing is done. `hand` has the facts before the jump. Only the operands' ranges in it change, to `jumps`; the caller then
-/// sets those of the falling edge. Each group of eight stack slots at the target that the join changes gets the new number `fresh`. The
-/// error is out of memory.
+/// program, since the program's shape has no fault; if `target` is `None`, nothing is joined. `jumps` has the operands' ranges on this
+/// edge; if `jumps` is `None`, the edge can't be taken, and nothing is done. `hand` has the facts before the jump. Only the operands'
+/// ranges in it change, to `jumps`; the caller then sets those of the falling edge. Each group of eight stack slots at the target that the
+/// join changes gets the new number `fresh`. The error is out of memory.
 #[inline(always)]
 fn send_compared(
     hand: &mut NumberedFacts,
@@ -80,10 +80,10 @@ struct Compared {
 }
 
 /// Passes the facts in `hand`, those before a jump by a comparison, along its two edges. `falls` and `jumps` have the operands' ranges on
-/// the falling and on the jumping edge; `None` for one that can't be taken. The facts on the jumping edge are joined into those that
-/// `entries` has for `target`, a slot of the program. Each group of eight stack slots there that the join changes gets the new number
-/// `fresh`. Then `hand` has the facts on the falling edge. Returns whether this edge can be taken; if not, nothing is promised of `hand`.
-/// The error is out of memory.
+/// the falling and on the jumping edge; they are `None` if the edge can't be taken. The facts on the jumping edge are joined into those
+/// that `entries` has for `target`, a slot of the program; a `target` of `None` gets none. Each group of eight stack slots there that the
+/// join changes gets the new number `fresh`. Then `hand` has the facts on the falling edge. Returns whether this edge can be taken; if not,
+/// nothing is promised of `hand`. The error is out of memory.
 #[inline(always)]
 fn leave_comparison(
     hand: &mut NumberedFacts,
@@ -114,8 +114,9 @@ fn leave_comparison(
 
 /// Settles the look-up at slot `site` on both edges of the null test at `slot`. If `jumps_on_null`, the test jumps if the result is null,
 /// else if it is not. Changes `hand` from the facts before the test to those on the falling edge. Those on the jumping edge, for which
-/// `taken` is space, are joined into those that `entries` has for `target`, a slot of the program, since the program's shape has no fault.
-/// The groups of eight stack slots get new numbers on both edges. The error is out of memory.
+/// `taken` is space, are joined into those that `entries` has for `target`; without a target (`None`) they are not joined. A target is a
+/// slot of the program, since the program's shape has no fault. The groups of eight stack slots get new numbers on both edges. The error is
+/// out of memory.
 fn leave_null_test(
     hand: &mut NumberedFacts,
     entries: &mut TargetFacts,
@@ -137,10 +138,10 @@ fn leave_null_test(
     entries.send(target, taken, 8 * slot + 6)
 }
 
-/// Joins the facts on the jumping edge of `flow` into those that `entries` has for `target`, a slot of the program, as its shape has no
-/// fault. Changes `hand` from the facts after the instruction at `slot` to those on the falling edge. Returns whether this edge can be
-/// taken: `false` after an exit, a jump that is always taken, and a comparison that always holds; `hand` means nothing then. `taken` is
-/// space for a null test. The error is out of memory.
+/// Joins the facts on the jumping edge of `flow` into those that `entries` has for `target`, or nothing if `target` is `None` or the edge
+/// is never taken. `target` is a slot of the program, as the program's shape has no fault. Changes `hand` from the facts after the
+/// instruction at `slot` to those on the falling edge. Returns whether this edge can be taken: `false` after an exit, a jump that is always
+/// taken, and a comparison that always holds; `hand` means nothing then. `taken` is space for a null test. The error is out of memory.
 #[inline(always)]
 fn leave_by(
     hand: &mut NumberedFacts,
@@ -291,10 +292,11 @@ impl Pass {
         self.entries.clear();
     }
 
-    /// Passes the facts before the instruction at `slot`, which are in `falling`, to the watcher, and changes them to those on its falling
-    /// edge. If it may jump, the facts on its jumping edge are joined into those that `entries` has for the target, which is a slot of the
-    /// program, as the shape has no fault. If `falling` has no facts, no run reaches the instruction, and nothing is done. The error is why
-    /// the instruction may not be run with these facts, or out of memory. `named` has the program's maps.
+    /// Passes the facts before the instruction at `slot`, which are in `falling`, to the watcher. Then `falling` has those on the falling
+    /// edge, or none if this edge can't be taken. If the instruction may jump, the facts on its jumping edge are joined into those that
+    /// `entries` has for the target, which is a slot of the program, as the shape has no fault. If `falling` has no facts before, no run
+    /// reaches the instruction, and nothing is done. The error is why the instruction may not be run with these facts, or out of memory.
+    /// `named` has the program's maps.
     #[inline(always)]
     fn go_past<W: Watcher>(
         &mut self,
@@ -330,10 +332,11 @@ impl Pass {
         Ok(())
     }
 
-    /// Joins the facts on all edges to `slot` into `falling`, and calls `go_past` for the instruction there: it passes the facts to the
-    /// watcher, changes them to those on the falling edge, and joins the facts on the jumping edge into those that `entries` has for the
-    /// jump's target, a slot of the program. The error is why the instruction may not be run with the joined facts, or out of memory.
-    /// `named` has the program's maps. The proof needs `absorb` and `numbered`: joins that are left out would change no stack slot.
+    /// Joins the facts on all edges to `slot` into `falling`, and calls `go_past` for `insn`, the instruction there: this function passes
+    /// the facts to the watcher, changes them to those on the falling edge, and joins the facts on the jumping edge into those that
+    /// `entries` has for the jump's target, a slot of the program. The error is why the instruction may not be run with the joined facts,
+    /// or out of memory. `named` has the program's maps. The proof needs `absorb` and `numbered`: by them, a join of `NumberedFacts` leaves
+    /// out only joins of stack slots that would change nothing.
     fn step<W: Watcher>(
         &mut self,
         named: &[Named],
@@ -366,10 +369,10 @@ impl Pass {
     }
 }
 
-/// Finds the first instruction that may not be run with the facts before it, in one pass over the slots: the error is this fault, or out of
-/// memory. `named` has the program's maps, and `pass` is memory for the facts. Nothing is done at the second slot of a wide instruction.
-/// The watcher receives the facts before each instruction that a run may reach, up to the fault. Each jump leads to a slot of the program,
-/// as the caller has checked its shape.
+/// Finds the first instruction that may not be run with the facts before it, in one pass over the slots. The error is its slot and why, or
+/// out of memory. `named` has the program's maps, and `pass` is memory for the facts. Nothing is done at the second slot of a wide
+/// instruction. The watcher receives the facts before each instruction that a run may reach, up to and with the one that the error names.
+/// Each jump leads to a slot of the program, as the caller has checked its shape.
 pub(crate) fn check_safety<W: Watcher>(
     program: &Program,
     named: &[Named],

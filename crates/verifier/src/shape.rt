@@ -45,8 +45,8 @@ fn is_unknown_helper(reference: Reference) -> bool
     }
 }
 
-/// Whether an instruction loads a value of a map directly, without a call, and the map has none at this offset: `false` also if the
-/// descriptor names no map, which is another fault.
+/// Whether an instruction loads the address of a map's value without a call, and may not, by `has_direct_value` of the map and the offset.
+/// `false` also if the descriptor names no map, which is another fault.
 fn is_no_value(named: &[Named], reference: Reference) -> bool
     ensures { result ≡ is_no_value named.now reference }
 {
@@ -150,8 +150,8 @@ fn reason_against(
 }
 
 /// Makes all checks of shape of the instruction at `slot`. The error is its first fault. An instruction without a fault is added to
-/// `paths`, the paths that lead to it; if it may jump, the new counts are joined into those of its target in `jumping`. `jumping` has, by
-/// slot, the most instructions and calls on the paths that end with a jump there.
+/// `paths`, the counts on the paths that lead to it; if it may jump, the counts with it are joined into those of its target in `jumping`.
+/// `jumping` has, by slot, the most instructions and calls on the paths that end with a jump there.
 #[inline(always)]
 fn pass_checked(
     program: &Program,

@@ -138,7 +138,7 @@ impl TargetFacts {
         Ok(())
     }
 
-    /// Appends empty entries (`None`) until the list has an entry for `slot`. This is a slot of a program, so `slot + 1` can't overflow.
+    /// Appends `None` to the list of facts until `slot` is one of its indices. `slot` is a slot of a program, so `slot + 1` can't overflow.
     /// The error is out of memory.
     fn reach(&mut self, slot: usize) -> Result<(), AllocError>
         requires { slot < MAX_SLOTS }

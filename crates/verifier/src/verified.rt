@@ -56,7 +56,7 @@ impl Verified {
         &self.program
     }
 
-    /// The descriptors of the maps that it loads, each once, in the order of their first loads.
+    /// The descriptors of the maps that the program loads, or of which it loads values, each once, in the order of their first loads.
     pub fn maps(&self) -> &[u32]
         ensures { result.now ≡ maps_of self.now.code }
     {

@@ -109,7 +109,8 @@ abbrev pub IsNoneOrWellFormed : Option Line → Type 0
 IsNoneOrWellFormed None = Unit {0}
 IsNoneOrWellFormed (Some line) = IsWellFormed line
 
--- the name of the label that a line defines; `None` if it defines none
+-- the name of the label that a line defines. The result is None if the line defines none, or if it
+-- was not parsed (None)
 abbrev pub defined_label : Option Line → Option (List ℕ)
 defined_label None = None
 defined_label (Some blank) = None

@@ -38,7 +38,7 @@ enum Task<'m, 'a> {
     Verify { maps: Option<&'m [&'a str]> },
 }
 
-/// A number of tenants in decimal digits; `None` if it is not from 1 to `MOST_TENANTS`.
+/// The number of tenants in decimal digits. `None` if `digits` is no decimal number, or this number is not from 1 to `MOST_TENANTS`.
 fn tenant_count(digits: &str) -> Option<usize>
     ensures { result ≡ tenant_number digits.now }
 {
@@ -167,8 +167,8 @@ fn rewrite_streams<I: Read + Drop, O: Write + Drop>(
     rewrite(alloc, task, &mut reader, &mut writer)
 }
 
-/// The maps that the map arguments name; an empty list if there are none (`None`). `MapArgument` with the number, from 1, of the first
-/// wrong argument, `Memory` if out of memory.
+/// The maps that the map arguments name; an empty list if `arguments` is `None`, without map arguments. The errors are those of
+/// `named_maps`.
 fn maps_given(alloc: Global, arguments: Option<&[&str]>) -> Result<Vec<Named>, Failure>
     ensures named { IfOk result (λ maps. AreMapArguments (texts_given arguments.entry) maps.items) }
     ensures wrong { FailsOnly result (IsWrongMapArgument (texts_given arguments.entry)) }
@@ -179,9 +179,9 @@ fn maps_given(alloc: Global, arguments: Option<&[&str]>) -> Result<Vec<Named>, F
     }
 }
 
-/// Reads the map arguments and the input, and writes the verdict on its program. Returns the exit status: 0 if the program is accepted,
-/// else 1. It fails like `maps_given` or `judge`. It consumes the streams, so only the contract of `judge` says what is read and written,
-/// and how `judge` fails.
+/// Reads the map arguments (`None`: no argument) and the input, and writes the verdict on its program. Returns the exit status: 0 if
+/// the program is accepted, else 1. It fails like `maps_given` or `judge`. It consumes the streams, so only the contract of `judge` says
+/// what is read and written, and how `judge` fails.
 fn judge_streams<I: Read + Drop, O: Write + Drop>(
     alloc: Global,
     arguments: Option<&[&str]>,
@@ -204,7 +204,7 @@ fn judge_streams<I: Read + Drop, O: Write + Drop>(
 }
 
 /// Runs the subcommand that the arguments name, and returns the exit status: 1 if `verify` rejects a program, else 0. Every other end is
-/// a `Failure`. The arguments are those after the name of the program.
+/// a `Failure`. The arguments are those after the name of the program. Only `serve` needs `seed`: it fails with `Seed` if that is `None`.
 fn run<I: Read + Drop, O: Write + Drop>(
     alloc: Global,
     seed: Option<HashSeed>,
@@ -260,8 +260,9 @@ pub fn run_words<I: Read + Drop, O: Write + Drop, F: Write + Drop>(
     }
 }
 
-/// Reports arguments that could not be read, like `run_words`: the line `out of memory` and status 4 if out of memory, else
-/// (if one is not UTF-8) `wrong words` and 2. A line that can't be written is left out.
+/// Writes a line to `faults` for arguments that could not be read, with this error, and returns the exit status: `out of memory`
+/// and 4 if out of memory, else (if an argument is not UTF-8) `wrong words` and 2. If the line can't be written, the status is
+/// the same.
 pub fn refuse_unread_words<F: Write + Drop>(error: &io::Error, mut faults: F) -> u8
     ensures memory { error_kind error.now ≡ OutOfMemory → result ≡ 4 }
     ensures wrong { error_kind error.now ≢ OutOfMemory → result ≡ 2 }

@@ -30,7 +30,7 @@ pub fn whole_input<I: Read + Drop>(alloc: Global, input: I) -> Result<Vec<u8>, F
 ///
 /// # Errors
 ///
-/// `MapArgument` with the number, from 1, of the first argument that names no map, or the descriptor of an earlier one;
+/// `MapArgument` with the number, from 1, of the first argument that names no map, or a map at the descriptor of an earlier map;
 /// `Memory` if out of memory.
 pub fn maps_named(alloc: Global, arguments: &[&str]) -> Result<Vec<Named>, Failure>
     ensures { IfOk result (λ maps. AreMapArguments (texts arguments.now) maps.items) }

@@ -29,8 +29,8 @@ fn first_field(text: &str) -> Option<(&str, &str)>
     text.split_once(':')
 }
 
-/// The first four fields of an argument, and the text after the fourth colon; `None` if it has fewer colons. A colon in that text is
-/// rejected later, since it is no digit.
+/// The first four fields of an argument, and the text after the fourth colon; `None` if the argument has fewer than four colons. A colon in
+/// that text is rejected later, since it is no digit.
 fn five_parts(argument: &str) -> Option<(&str, &str, &str, &str, &str)>
     ensures parts { IfSome result (λ cut. map_fields argument.now
         ≡ cut.0.now ∷ cut.1.now ∷ cut.2.now ∷ cut.3.now ∷ map_fields cut.4.now) }

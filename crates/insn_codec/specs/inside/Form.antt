@@ -18,8 +18,8 @@ use Rattle.insn_codec.specs.declared.opcode.SourceBit.TheVariants.{Imm, Reg}
 use Rattle.insn_codec.specs.inside.OpcodeForm.{OpcodeForm}
 use Rattle.insn_codec.specs.inside.OpcodeForm as form
 
--- whether some opcode has this form: none has that of a signed division or remainder, whose opcode
--- is that of the unsigned one, or that of a load of a double word that extends the sign
+-- whether some opcode has this form. Two forms have none: a signed division or remainder (its
+-- opcode has the form of the unsigned one), and a sign-extending load of a double word
 abbrev pub is_form : OpcodeForm → Bool
 is_form (form.Alu wide op source) = alu_offset op == 0
 is_form (form.Load size signed) = not (signed && is_double size)

@@ -62,7 +62,7 @@ fn access_at(base: Reg, off: i16, size: AccessSize, given: Option<u8>, deed: Acc
     }
 }
 
-/// What a load does, which extends the sign if `is_signed`.
+/// What a load does: `SignedLoad` if the load extends the sign (`is_signed`), else `Load`.
 fn load_deed(is_signed: bool) -> AccessKind {
     if is_signed {
         AccessKind::SignedLoad
@@ -183,7 +183,8 @@ fn spill_among(facts: &Facts, first: i64, last: i64) -> Option<(i64, Kind)> {
     None
 }
 
-/// Writes that the eight stack bytes from `lowest` on are a spilled pointer of this kind, as the rest of a sentence.
+/// Writes the end of a sentence: the eight stack bytes from the offset `lowest` on are a spilled pointer of the kind `kind`, and only a
+/// load of all eight reads it.
 fn write_spill(text: &mut String, lowest: i64, kind: Kind) -> Result<(), AllocError> {
     let highest = lowest.saturating_add(7);
     write!(
@@ -211,7 +212,8 @@ pub(crate) fn write_part_of_spill(
     }
 }
 
-/// Writes the kind of a register, a pointer or a map, which only a store of eight bytes may store; the rejected one stores `bytes`.
+/// Writes the kind of a register, which is a pointer or a map, and that only a store of eight bytes may store the register. The
+/// rejected store stores `bytes` bytes, and this is written too.
 fn write_part_stored(
     text: &mut String,
     facts: &Facts,
@@ -231,8 +233,8 @@ pub(crate) fn value_size_of(named: &[Named], fd: u32) -> u32 {
     }
 }
 
-/// Writes which bytes the instruction reads, writes or changes (`verb`), not all of which lie in a value of the map of descriptor `map`,
-/// and the size of the value. The bytes are those from `first` to `last`, counted from the start of the value.
+/// Writes which bytes the instruction reads, writes or changes (`verb`): those from `first` to `last`, counted from the start of a value of
+/// the map of descriptor `map`. Then it writes the size of the value, since not all these bytes lie in it.
 pub(crate) fn write_outside_value(
     text: &mut String,
     named: &[Named],
@@ -264,8 +266,8 @@ fn write_context(text: &mut String, access: Access) -> Result<(), AllocError> {
     write!(text, "where words of 4 bytes are read at 0, 4, .. {last}")
 }
 
-/// Writes what is known of the source register `given`, and then `needed`, the text that requires a number. `None` can't occur: the fault
-/// is a source that is no number, so it is not a constant.
+/// Writes what is known of the source register `given`, and then `needed`, which says that a number is required. `given` is `None` for a
+/// constant source. This can't occur: the fault is that the source is no number.
 fn write_given(
     text: &mut String,
     facts: &Facts,
@@ -281,8 +283,8 @@ fn write_given(
     }
 }
 
-/// Writes the offset of an atomic operation in a map's value, which is wrong: it is no multiple of the operation's size, or it is not
-/// known, and then its range is written. `pointer` is what is known of the operation's base register.
+/// Writes the wrong offset of an atomic operation in a map's value: it is no multiple of the operation's size, or it is not known, and then
+/// its range is written. `pointer` is what is known of the operation's base register.
 fn write_unaligned_atomic(
     text: &mut String,
     access: Access,

@@ -76,7 +76,7 @@ pub(crate) fn write_need(
     }
 }
 
-/// Writes what is known of an operator's only operand, a register, which has to be a number.
+/// Writes what is known of `register`, an operator's only operand, and that this operator takes only numbers.
 pub(crate) fn write_number_needed(
     text: &mut String,
     refusal: &RefusedProgram<'_>,

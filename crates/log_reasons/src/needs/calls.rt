@@ -164,7 +164,7 @@ fn argument_reason(named: &[Named], facts: &Facts, argument: Argument) -> Option
     }
 }
 
-/// The first argument of the helper that is rejected, in the order of the checks; `None` if all are allowed.
+/// The first rejected argument of the helper, in the order of the checks; `None` if all arguments are allowed.
 fn refused_argument(refusal: &RefusedProgram<'_>, helper: Helper) -> Option<Argument> {
     for argument in arguments_of(helper) {
         if argument_reason(refusal.named, refusal.facts, *argument).is_some() {
@@ -229,8 +229,9 @@ fn write_argument(
     }
 }
 
-/// Writes what is known of the rejected argument of the helper with this number, and what is required. `None` can't occur: the helper is
-/// known, since the shape has no fault, and all arguments are readable, so one of them breaks another rule.
+/// Writes what is known of the rejected argument of the helper with the number `id`, and what is required. An argument is always found: the
+/// helper is known, since the shape has no fault, and all arguments are readable, since the caller has tested that, so one of them breaks
+/// another rule.
 pub(crate) fn write_need(
     text: &mut String,
     refusal: &RefusedProgram<'_>,

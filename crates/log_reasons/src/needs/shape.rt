@@ -46,7 +46,7 @@ fn write_backward(
     write!(text, "it leads to slot {target}, and jumps go forward only")
 }
 
-/// The descriptor by which an instruction names a map. 0 if it names none: then it has none of the reasons for which this is called.
+/// The descriptor by which an instruction names a map; 0 if it names none, but no such instruction is rejected for the callers' reasons.
 fn fd_of(insn: &Insn) -> u32 {
     insn.profile().reference.descriptor().unwrap_or(0)
 }
@@ -80,8 +80,8 @@ fn write_unknown_helper(text: &mut String, insn: &Insn) -> Result<(), AllocError
     }
 }
 
-/// Writes why the address of a direct value can't be loaded: the map is a hash map, has not exactly one element, or the offset is
-/// not in its value. The `else` can't occur: that the descriptor names no map is another reason.
+/// Writes why the address of a direct value can't be loaded: the map is a hash map, has not exactly one element, or the offset is not in
+/// its value. The `else` of the `let` can't occur: that the descriptor names no map is another reason.
 fn write_no_value(text: &mut String, named: &[Named], insn: &Insn) -> Result<(), AllocError> {
     let fd = fd_of(insn);
     let reference = insn.profile().reference;

@@ -6,8 +6,7 @@ use Rattle.ordered_keys.specs.Orders.{Order, occurrences, first_element, followi
 use Rattle.ordered_keys.specs.inside.Links.{AreWithin}
 
 -- the element of a list that follows p, or the first one if p is not given (None); None if no
--- element follows p, if the list does not have p, or if the list is empty; None if no
--- element follows, if the list does not have the given one, or if the list is empty
+-- element follows p, if the list does not have p, or if the list is empty
 abbrev pub next_of_elements : Option ℕ → List ℕ → Option ℕ
 next_of_elements None ps = first_element ps
 next_of_elements (Some p) ps = following p ps

@@ -84,14 +84,16 @@ registers =
 
 -- ---- one token
 
--- the first token, if it is a symbol, and the tokens after it; `None` if it is no symbol
+-- the first token, if it is a symbol, and the tokens after it; `None` if it is no symbol, or if
+-- there are no tokens
 abbrev pub leading_symbol : List Token → Option (List ℕ × List Token)
 leading_symbol [] = None
 leading_symbol (name n ∷ ts) = None
 leading_symbol (number v ∷ ts) = None
 leading_symbol (symbol t ∷ ts) = Some (t, ts)
 
--- the first token, if it is a name, and the tokens after it; `None` if it is no name
+-- the name that the first token is, and the tokens after it; `None` for no tokens, or if the first
+-- is no name
 abbrev pub leading_name : List Token → Option (List ℕ × List Token)
 leading_name [] = None
 leading_name (name n ∷ ts) = Some (n, ts)

@@ -148,7 +148,7 @@ IsPut slot fresh y old new =
 
 -- the facts y on a jump are joined into the entry of its target, which has the facts on all jumps
 -- to it; without a target (None) no entry changes. `old` has the entries before this, `new` those
--- after it
+-- after it. `fresh` is the new number of each group of eight stack slots that the join changes
 abbrev pub IsSent : Option ℕ → ℕ → NumberedFacts → List (Option NumberedFacts)
     → List (Option NumberedFacts) → Type 0
 IsSent None fresh y old new = new ≡ old

@@ -21,7 +21,7 @@ abbrev pub IsJudgedLine : List Named → List ℕ → List ℕ → Type 0
 IsJudgedLine maps input output =
     (refusal : Option Refusal) × IsJudgementLine maps refusal input output
 
--- the exit status of a run that wrote a verdict: 0 for an accepted program, which has no refusal, 1
+-- the exit status of `verify` when it has written a verdict: 0 if the program is accepted (None), 1
 -- if the slots are rejected
 abbrev pub judgement_status : Option Refusal → ℕ
 judgement_status None = 0

@@ -11,7 +11,7 @@ use Rattle.tagged_model.specs.Table.{of_absent, of_found, look_up, verdict, remo
 use Rattle.tagged_model.specs.State.{RunMap, set_at, with_value}
 use Rattle.tagged_model.specs.Helpers.{with_object, put, updated, taken_out, removed}
 use Rattle.tagged_model.specs.StateInvariant.{AreBytes, IsMapOf}
-use Rattle.abstraction.specs.Laws.{KeepsShape}
+use Rattle.abstraction.specs.Laws.{KeepsShapeAndObjects}
 use Rattle.tagged_model.specs.StateLaws.{owns_more, owns_with, owns_without}
 use Rattle.abstraction.proofs.Objects.{values_small}
 use Rattle.std.proofs.lemmas.Bool.{cond_both, eqb-false}
@@ -49,7 +49,7 @@ no_array k e f = let same : Hash ≡ Array = sym e ∙ f in cc
 
 module _ (shape : MapShape) (t : RunMap) (is : IsMapOf shape t)
     (bytes : (number : ℕ) → AreBytes (t.values number)) where
-  unchanged : KeepsShape shape t t
+  unchanged : KeepsShapeAndObjects shape t t
   unchanged = record { is = is; more = omega arith; bytes = bytes }
 
   module _ (value : List ℕ) (size : length value ≡ shape.value_size) (small : AreBytes value) where
@@ -61,7 +61,7 @@ module _ (shape : MapShape) (t : RunMap) (is : IsMapOf shape t)
         cond_both (number == k) value (t.values number) (λ v. length v ≡ shape.value_size)
         (λ _. size) (λ e. all number (other (eqb-false number k e)))
 
-    valued : (number : ℕ) → KeepsShape shape t (with_value t number value)
+    valued : (number : ℕ) → KeepsShapeAndObjects shape t (with_value t number value)
     valued number = record {
       is = record {
         shaped = is.shaped;
@@ -73,7 +73,7 @@ module _ (shape : MapShape) (t : RunMap) (is : IsMapOf shape t)
       bytes = values_small t number value small bytes;
     }
 
-    with_new_object : (key : List ℕ) → t.table.shape.kind ≡ Hash → KeepsShape shape t (with_object t key value)
+    with_new_object : (key : List ℕ) → t.table.shape.kind ≡ Hash → KeepsShapeAndObjects shape t (with_object t key value)
     with_new_object key hash = record {
       is = record {
         shaped = is.shaped;
@@ -88,18 +88,18 @@ module _ (shape : MapShape) (t : RunMap) (is : IsMapOf shape t)
     }
 
     put_keeps : (key : List ℕ) (v : Verdict ℕ)
-        → (v ≡ New → t.table.shape.kind ≡ Hash) → KeepsShape shape t (put t key value v).map
+        → (v ≡ New → t.table.shape.kind ≡ Hash) → KeepsShapeAndObjects shape t (put t key value v).map
     put_keeps key (Refused fault) h = unchanged
     put_keeps key (Present number) h = valued number
     put_keeps key New h = with_new_object key (h refl)
 
     -- an update of a map with bytes of the size of a value keeps its shape and its objects
-    pub updated_keeps : (key : List ℕ) (flags : ℕ) → KeepsShape shape t (updated t key value flags).map
+    pub updated_keeps : (key : List ℕ) (flags : ℕ) → KeepsShapeAndObjects shape t (updated t key value flags).map
     updated_keeps key flags = put_keeps key (verdict t.table key flags) (new_of_hash t.table key flags)
 
   taken_keeps : (key : List ℕ) (r : Result ℕ MapFault)
       → ((number : ℕ) → r ≡ Ok number → t.table.shape.kind ≡ Hash)
-      → KeepsShape shape t (taken_out t key r).map
+      → KeepsShapeAndObjects shape t (taken_out t key r).map
   taken_keeps key (Err fault) h = unchanged
   taken_keeps key (Ok number) h = record {
     is = record {
@@ -114,7 +114,7 @@ module _ (shape : MapShape) (t : RunMap) (is : IsMapOf shape t)
   }
 
   -- a delete from a map keeps its shape and its objects
-  pub removed_keeps : (key : List ℕ) → KeepsShape shape t (removed t key).map
+  pub removed_keeps : (key : List ℕ) → KeepsShapeAndObjects shape t (removed t key).map
   removed_keeps key =
       taken_keeps key (removal t.table key)
       (λ number e. removed_of_hash t.table.shape.kind (look_up t.table key) number e)

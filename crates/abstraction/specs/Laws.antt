@@ -146,7 +146,7 @@ ValueStoreAdmits =
 
 -- the map u has the shape `shape`, and at least as many objects as t, deleted ones included; each
 -- byte of u's objects is below 256
-pub record KeepsShape (shape : MapShape) (t u : RunMap) : Type 0 where
+pub record KeepsShapeAndObjects (shape : MapShape) (t u : RunMap) : Type 0 where
   pub is : IsMapOf shape u
   pub more : t.count ≤ u.count
   pub bytes : (number : ℕ) → AreBytes (u.values number)
@@ -167,11 +167,11 @@ pub record MapCallsKeep : Type 0 where
       → ((number : ℕ) → AreBytes (t.values number))
       → length value ≡ shape.value_size
       → AreBytes value
-      → KeepsShape shape t (helpers.updated t key value flags).map
+      → KeepsShapeAndObjects shape t (helpers.updated t key value flags).map
   pub removed : (shape : MapShape) (t : RunMap) (key : List ℕ)
       → IsMapOf shape t
       → ((number : ℕ) → AreBytes (t.values number))
-      → KeepsShape shape t (helpers.removed t key).map
+      → KeepsShapeAndObjects shape t (helpers.removed t key).map
 
 -- if a map changes to one that keeps its shape and its objects, the facts still describe the state
 abbrev pub MapChangeAdmits : Type 0
@@ -181,7 +181,7 @@ MapChangeAdmits =
     → Describes witness f shapes s
     → s.maps m ≡ Some t
     → shapes m ≡ Some shape
-    → KeepsShape shape t u
+    → KeepsShapeAndObjects shape t u
     → Describes witness f shapes (with_map s m u)
 
 -- if facts f describe a state, and a call there returns a value v of kind k, the facts after the

@@ -18,7 +18,7 @@ use Rattle.arena.specs.Memory.{part_start, with_bytes}
 use Rattle.arena.specs.Apart.{WritesStayInside}
 use Rattle.bpf_helpers.specs.Layout.{Layout, IsWord}
 use Rattle.bpf_helpers.specs.Stands.{IsRoom, Simulates}
-use Rattle.bpf_helpers.specs.Calls.{LoadsNameBytes}
+use Rattle.bpf_helpers.specs.Calls.{LoadedBytesAreInside}
 use Rattle.bpf_helpers.specs.Named.{named_offset}
 use Rattle.bpf_helpers.specs.inside.Laws.{LoadKeepsSimulation}
 use Rattle.bpf_helpers.proofs.Many.{also_some}
@@ -136,6 +136,6 @@ module _ (env : Environment) (l : Layout) (flat : FlatState) (s : RunState)
         written b.0 c.0 u d.0 (number_word 2 b.0 (omega arith) b.1) (length_word 4 c.0 (omega arith) c.1) d.1 d.2
 
 -- the bytes that a load of packet bytes writes are in the part
-pub loads_name_bytes : WritesStayInside → LoadsNameBytes
-loads_name_bytes writes env l flat s u room stands e =
+pub loaded_bytes_are_inside : WritesStayInside → LoadedBytesAreInside
+loaded_bytes_are_inside writes env l flat s u room stands e =
     subst IsSome (sym (load_stands env l flat s room stands writes u e).offset_is) refl

@@ -1,7 +1,7 @@
 //! Laws of the words and bytes that represent a state. Each law is the contract of a function that does nothing.
 
-ghost use Rattle.bpf_helpers.specs.Accesses.{LoadsGiveWords, StoresKeepSimulation, PointersAreLow};
-ghost use Rattle.bpf_helpers.specs.Calls.{LoadsNameBytes};
+ghost use Rattle.bpf_helpers.specs.Accesses.{LoadsGiveWords, StoresKeepSimulation, ObjectAddressesAreBounded};
+ghost use Rattle.bpf_helpers.specs.Calls.{LoadedBytesAreInside};
 ghost use Rattle.bpf_helpers.specs.Runs.{RunsBegin, RunsEnd, OthersStay};
 ghost use Rattle.bpf_helpers.specs.inside.Below.{LawsBelow};
 ghost use Rattle.bpf_helpers.specs.inside.Laws.{ReturnsKeepSimulation};
@@ -31,15 +31,15 @@ pub fn stores_keep_simulation()
 
 /// If the tagged machine's call of bpf_skb_load_bytes has a result, the bytes to which it writes lie in the part. The words of registers 3
 /// and 4 are their address and their number.
-pub fn loads_name_bytes()
-    ensures { LoadsNameBytes }
+pub fn loaded_bytes_are_inside()
+    ensures { LoadedBytesAreInside }
 {
     arena::laws::writes_stay_inside();
 }
 
 /// The address of an object is at least 2^32, and at most 2^32 + 2^28.
-pub fn pointers_are_low()
-    ensures { PointersAreLow }
+pub fn object_addresses_are_bounded()
+    ensures { ObjectAddressesAreBounded }
 {}
 
 /// If words and bytes represent a state, and a word the result of a call, then with this word in register 0 they represent the state in

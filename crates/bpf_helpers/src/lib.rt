@@ -15,12 +15,12 @@
 //!   delete EINVAL, a load of bytes EFAULT, and nothing changes: `unnamed` of `call`.
 //! - A run that knows which of its maps are arrays, and the addresses of their elements, looks keys up like `call`, and so it loads
 //!   bytes of the packet without a test of the address, which is in its part: `follows`, `unnamed`, `kept` of `call_in_run`. If the
-//!   machine has a load of bytes, its words name bytes of the part: `loads_name_bytes`.
+//!   machine has a load of bytes, its words name bytes of the part: `loaded_bytes_are_inside`.
 //! - Each range that a call requests is in the tenant's part: `asks` of `call`.
 //! - When the machine loads or stores a value, the address of the access is in the part; the bytes there are a word that
 //!   simulates the loaded value, and with the word of the stored value they simulate the next state: `loads_give_words`,
 //!   `stores_keep_simulation`.
-//! - Objects begin at addresses from 2^32 on, and within 2^28 of it: `pointers_are_low`.
+//! - Objects begin at addresses from 2^32 on, and within 2^28 of it: `object_addresses_are_bounded`.
 //! - When a run begins, on live maps with the bytes of their values, words and bytes simulate the machine's first state. When
 //!   it ends, its maps have the pairs that the machine leaves, and the values of all other maps their bytes: `runs_begin`,
 //!   `runs_end`, `others_stay`.

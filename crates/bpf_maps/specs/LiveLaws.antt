@@ -55,7 +55,7 @@ record IsWithout {A : Type 0} (k : ℕ) (xs : List (Option A)) : Type 0 where
   others : (j : ℕ) → j ≢ k → get_or slots j None ≡ get_or xs j None
 
 -- makes of a list of options that has Some at index k the list that has None at this index, and no
--- other change (`IsWithout`); for the induction of `few_slots`
+-- other change (`IsWithout`); for the induction of `enough_present`
 without_position : {A : Type 0} (k : ℕ) (xs : List (Option A))
     → IsSome (get_or xs k None)
     → IsWithout k xs
@@ -87,15 +87,15 @@ without_position (suc k) (x ∷ xs) some =
 
 -- if a list of options has Some at each of n different indices, those that `at` gives, at least n
 -- of its options are Some
-few_slots : {A : Type 0} (n : ℕ) (at : ℕ → ℕ) (xs : List (Option A))
+enough_present : {A : Type 0} (n : ℕ) (at : ℕ → ℕ) (xs : List (Option A))
     → ((i : ℕ) → i < n → IsSome (get_or xs (at i) None))
     → ((i j : ℕ) → i < n → j < n → at i ≡ at j → i ≡ j)
     → n ≤ total (λ x. 1) xs
-few_slots zero at xs used apart = omega arith
-few_slots (suc m) at xs used apart =
+enough_present zero at xs used apart = omega arith
+enough_present (suc m) at xs used apart =
     let rest = without_position (at m) xs (used m (omega arith)) in
     let fewer = rest.fewer in
-    let most = few_slots m at rest.slots
+    let most = enough_present m at rest.slots
     (λ i lt.
     subst IsSome
     (sym
@@ -107,11 +107,11 @@ few_slots (suc m) at xs used apart =
     omega arith
 
 -- the number of Some in a list of options is at most the length of the list
-slots_most : {A : Type 0} (xs : List (Option A)) → total (λ x. 1) xs ≤ length xs
+most_present : {A : Type 0} (xs : List (Option A)) → total (λ x. 1) xs ≤ length xs
 unfolding total
-slots_most [] = omega arith
-slots_most (None ∷ xs) = let rest = slots_most xs in omega arith
-slots_most (Some x ∷ xs) = let rest = slots_most xs in omega arith
+most_present [] = omega arith
+most_present (None ∷ xs) = let rest = most_present xs in omega arith
+most_present (Some x ∷ xs) = let rest = most_present xs in omega arith
 
 -- if n different handles have live maps, n is at most the number of handles of a tenant
 pub few_handles : (n : ℕ) (handle : ℕ → ℕ) (tenant : LiveMaps)
@@ -119,8 +119,8 @@ pub few_handles : (n : ℕ) (handle : ℕ → ℕ) (tenant : LiveMaps)
     → ((i j : ℕ) → i < n → j < n → handle i ≡ handle j → i ≡ j)
     → n ≤ length tenant.maps
 few_handles n handle tenant live apart =
-    let few = few_slots n handle tenant.maps live apart in
-    let most = slots_most tenant.maps in omega arith
+    let few = enough_present n handle tenant.maps live apart in
+    let most = most_present tenant.maps in omega arith
 
 -- if a list of options has Some at index k, k is less than the length of the list
 some_within : {A : Type 0} (k : ℕ) (xs : List (Option A))

@@ -26,9 +26,9 @@ states (Some s) = s.host.states
 -- The bytes `reply` are the session's last reply: all bytes of its vector, which begins at address
 -- `at` and has `length` bytes. The session owns the vector, and the handle owns the session. False
 -- for an empty handle (None).
-abbrev pub StandsAt : Option Session → List ℕ → Ptr → ℕ → Type 0
-StandsAt None reply at length = ⊥
-StandsAt (Some s) reply at length =
+abbrev pub IsReplyAt : Option Session → List ℕ → Ptr → ℕ → Type 0
+IsReplyAt None reply at length = ⊥
+IsReplyAt (Some s) reply at length =
     (s.reply.items ≡ reply) × (at ≡ vec_ptr s.reply) × (length ≡ vec_len s.reply)
 
 -- The frames of the latest part of a save lie at address `at`, with `length` bytes: they are the

@@ -63,7 +63,7 @@ fn fit_all(
 }
 
 /// Whether a context has only zeros after its first `GIVEN_WORDS` words, which are those that a run is given.
-fn is_known(words: &[u32]) -> bool
+fn has_known_words(words: &[u32]) -> bool
     ensures { result ≡ has_known_words words.now }
 {
     if words.len() <= GIVEN_WORDS {
@@ -88,7 +88,7 @@ fn are_known(words: &[u32], size: usize, count: usize) -> bool
     let mut rest = words;
     for _ in 0..count {
         let (context, after) = rest.split_at(size);
-        if !is_known(context) {
+        if !has_known_words(context) {
             return false;
         }
         rest = after;

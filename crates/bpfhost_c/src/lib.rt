@@ -57,7 +57,7 @@
 //!
 //! An empty handle owns nothing, any other what a box of a session owns (`handle_owns`). So the library frees what it
 //! allocated, and an empty handle keeps no memory. For a lent reply a contract only gives the address: the vector of the
-//! session has its bytes there (`StandsAt`), the handle owns the session, and the owner of the handle may read them until the
+//! session has its bytes there (`IsReplyAt`), the handle owns the session, and the owner of the handle may read them until the
 //! next call changes it.
 //!
 //! The caller's obligations in C, which no contract can check: a pointer points to what its type says; a frame, a room and a
@@ -132,7 +132,7 @@ ghost use Rattle.host_core.specs.Handled.{Handles};
 ghost use Rattle.host_core.specs.Saving.{Call, AreRestored, saved_part};
 ghost use Rattle.host_core.specs.Served.{IsUnrefused};
 ghost use Rattle.host_core.specs.States.{new_host};
-ghost use Rattle.bpfhost_c.specs.Calls.{states, host_of, StandsAt, SavedAt, new_code, host_code, room_code, run_code, save_code};
+ghost use Rattle.bpfhost_c.specs.Calls.{states, host_of, IsReplyAt, SavedAt, new_code, host_code, room_code, run_code, save_code};
 ghost use Rattle.bpfhost_c.specs.Contexts.{contexts_of};
 ghost use Rattle.bpfhost_c.specs.Packets.{RunsBounded};
 ghost use Rattle.bpfhost_c.specs.declared.codes.TheConstants.{DONE, ERR_NO_HOST, ERR_NO_MEMORY};
@@ -256,7 +256,7 @@ pub extern "C" fn bpfhost_c_handle_lent(
 ) -> i32
     ensures done { result ≡ DONE → (reply : List ℕ)
         × Handles (states handle.old.session) frame.now reply (states handle.new.session)
-        × StandsAt handle.new.session reply lent.new.at lent.new.length }
+        × IsReplyAt handle.new.session reply lent.new.at lent.new.length }
     ensures bound { result ≡ DONE → lent.new.length ≤ longest_reply }
     ensures code { result ≡ host_code handle.old.session }
     ensures call { Call (host_of handle.old.session) (host_of handle.new.session) }

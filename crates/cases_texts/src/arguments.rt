@@ -7,7 +7,7 @@ use std::alloc::Global;
 /// A line `program`: the text of how `run_words` of `host` ends (`outcome`) on the arguments before the first `<` of `case` and the input
 /// after it. The seed of the hash maps is fixed. `Notation` if there is no `<`, the errors of `written` for the input, and `NoText` if what
 /// `run_words` writes is not UTF-8.
-pub fn ran(alloc: Global, case: &str) -> Result<String, CaseError> {
+pub fn program_ended(alloc: Global, case: &str) -> Result<String, CaseError> {
     let (arguments, text) = input_of(case)?;
     let arguments: Vec<&str> = arguments.split_whitespace().collect(alloc)?;
     let input = written(alloc, text)?;
@@ -26,7 +26,7 @@ pub fn ran(alloc: Global, case: &str) -> Result<String, CaseError> {
 
 /// A line `map`: the descriptor and the shape of the map that an argument names, as Rust prints them for debugging. `Map` if the argument
 /// names no map (`read_shape`).
-pub fn map_named(alloc: Global, argument: &str) -> Result<String, CaseError> {
+pub fn printed_map(alloc: Global, argument: &str) -> Result<String, CaseError> {
     let map = read_shape(argument)?;
     Ok(format!(in alloc; "{map:?}")?)
 }

@@ -55,7 +55,7 @@ fn insns_of(alloc: Global, program: &Program) -> Result<Vec<Insn>, AllocError> {
 }
 
 /// Appends the number of a slot, and the instruction that begins there, or `none`; before them a semicolon, unless it is slot 0.
-fn append_place(text: &mut String, program: &Program, slot: usize) -> Result<(), AllocError> {
+fn append_slot(text: &mut String, program: &Program, slot: usize) -> Result<(), AllocError> {
     if slot != 0 {
         text.push_str("; ")?;
     }
@@ -75,7 +75,7 @@ pub fn places(alloc: Global, text: &str) -> Result<String, CaseError> {
     let copy = Program::new(alloc, &insns)?.clone()?;
     let mut answer = String::new(alloc);
     for slot in 0..=copy.slots() {
-        append_place(&mut answer, &copy, slot)?;
+        append_slot(&mut answer, &copy, slot)?;
     }
     Ok(answer)
 }

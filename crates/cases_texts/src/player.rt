@@ -1,6 +1,6 @@
 //! Plays lines, each by itself.
 
-use crate::arguments::{map_named, ran};
+use crate::arguments::{printed_map, program_ended};
 use crate::bytes::{decoded, disassembled, known_opcodes, made_of_exits, places};
 use crate::texts::{assembled, printed, read_hex_lines};
 use cases::{CaseError, Player, first_word};
@@ -31,8 +31,8 @@ impl Player for TextPlayer {
             "asm" => assembled(self.alloc, rest),
             "round" => printed(self.alloc, rest),
             "hex" => read_hex_lines(self.alloc, rest),
-            "program" => ran(self.alloc, rest),
-            "map" => map_named(self.alloc, rest),
+            "program" => program_ended(self.alloc, rest),
+            "map" => printed_map(self.alloc, rest),
             _ => Err(CaseError::UnknownWord),
         }
     }

@@ -122,7 +122,7 @@ fn prog_load(body: &[u8]) -> Result<Command<'_>, BadFrame>
 
 /// Reads the words of a context from the front of `bytes`, in order. A frame has `GIVEN_WORDS` of them: all but the first, the packet's
 /// length. The caller has tested that `bytes` is long enough.
-fn given_words(bytes: &[u8]) -> [u32; GIVEN_WORDS]
+fn read_words(bytes: &[u8]) -> [u32; GIVEN_WORDS]
     requires { context_length ≤ length bytes.now }
     ensures { result ≡ words given_words bytes.now }
 {
@@ -141,7 +141,7 @@ fn prog_test_run(body: &[u8]) -> Result<Command<'_>, BadFrame>
     }
     Ok(Command::ProgTestRun {
         fd: word(body, 0),
-        words: given_words(&body[WORD_LENGTH..]),
+        words: read_words(&body[WORD_LENGTH..]),
         packet: &body[BEFORE_PACKET..],
     })
 }

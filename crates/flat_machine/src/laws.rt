@@ -47,7 +47,7 @@ pub(crate) fn has_some_next(maps: BoundMaps, rest: &[RawSlot], registers: &Regis
 fn steps_follow()
     ensures { StepsFollow }
 {
-    bpf_helpers::laws::pointers_are_low();
+    bpf_helpers::laws::object_addresses_are_bounded();
     bpf_helpers::laws::loads_give_words();
     bpf_helpers::laws::stores_keep_simulation();
 }
@@ -67,7 +67,7 @@ pub(crate) fn run_premises()
 {
     steps_follow();
     steps_stay_inside();
-    bpf_helpers::laws::loads_name_bytes();
+    bpf_helpers::laws::loaded_bytes_are_inside();
     bpf_helpers::laws::runs_begin();
     bpf_helpers::laws::runs_end();
     bpf_helpers::laws::others_stay();

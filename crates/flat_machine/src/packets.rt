@@ -55,7 +55,7 @@ impl<'a> Model for Packets<'a> {
 
 /// Whether `contexts`, a number of arrays of context words, is 1, one array for all packets, or `packets`, one for each.
 #[inline(always)]
-fn are_enough(contexts: usize, packets: usize) -> bool
+fn fit_packets(contexts: usize, packets: usize) -> bool
     ensures { result ≡ are_contexts contexts packets }
 {
     contexts == 1 || contexts == packets
@@ -132,7 +132,7 @@ impl<'a> Packets<'a> {
         ensures fault { result_err result
             ≡ batch_fault (length contexts.now) (length bytes.now) ends.now }
     {
-        if !are_enough(contexts.len(), ends.len()) {
+        if !fit_packets(contexts.len(), ends.len()) {
             return Err(PacketFault::Contexts);
         }
         if let Some(fault) = fault_of(bytes.len(), ends) {

@@ -65,7 +65,8 @@ fn read_operation(
     ensures none { IfOk result (λ second. second ≡ None) }
     ensures fault { IfErr result (IsFaultOf (form.Alu wide op source) (fields slot.now)) }
 {
-    let is_listed = source.lists_operand(slot) && allows_offset(op, wide, source, slot.offset);
+    let is_listed = source.unused_field_is_zero(slot)
+        && allows_offset(op, wide, source, slot.offset);
     check_fields(is_listed, slot)?;
     let (dst, src) = (Reg::new(slot.dst()), Reg::new(slot.src()));
     if slot.offset == 0 {
@@ -213,7 +214,7 @@ fn read_branch(
     ensures none { IfOk result (λ second. second ≡ None) }
     ensures fault { IfErr result (IsFaultOf (form.Jump wide cond source) (fields slot.now)) }
 {
-    check_fields(source.lists_operand(slot), slot)?;
+    check_fields(source.unused_field_is_zero(slot), slot)?;
     *entry = Insn::Jump {
         wide,
         cond,
@@ -381,7 +382,7 @@ pub(crate) fn read_store(
     if slot.opcode / 32 != 3 {
         return Err(FaultKind::Opcode);
     }
-    check_fields(source.lists_operand(slot), slot)?;
+    check_fields(source.unused_field_is_zero(slot), slot)?;
     *entry = Insn::Store {
         size: size_at(slot.opcode / 8 % 4),
         dst: Reg::new(slot.dst()),

@@ -35,7 +35,7 @@ impl SourceBit {
     }
 
     /// Whether the operand field that is not used is zero: the source register if this is `Imm`, the immediate if it is `Reg`.
-    pub(crate) fn lists_operand(self, slot: &RawSlot) -> bool
+    pub(crate) fn unused_field_is_zero(self, slot: &RawSlot) -> bool
         ensures { result ≡ one_operand self (fields slot.now) }
     {
         match self {
@@ -113,7 +113,7 @@ pub(crate) fn size_at(code: u8) -> AccessSize
 
 /// Whether `next` is the second slot of a wide load with source field `src`: all fields are zero, except for the immediate, which a load of
 /// a number (0) or of an address in a value (2) uses, and a load of a map (1) does not (RFC 9669, section 5.4).
-pub(crate) fn lists_second(src: u8, next: &RawSlot) -> bool
+pub(crate) fn is_second_slot(src: u8, next: &RawSlot) -> bool
     ensures { result ≡ is_second src (fields next.now) }
 {
     let number = src != 1 || next.imm == 0;

@@ -15,12 +15,12 @@ use crate::by_class::{
     check_fields, read_alu, read_jump, read_load, read_register_store, read_store,
 };
 use crate::fault::{CodecFault, FaultKind};
-use crate::opcode::{SourceBit, lists_second};
+use crate::opcode::{SourceBit, is_second_slot};
 use insn_set::{Insn, RawSlot, Reg};
 
 /// Reads a wide instruction into `entry` (RFC 9669, section 5.4). `slot` is its first slot, which has passed `check_fields`, and `dst` the
 /// register in its destination field. The second slot is at the front of `rest`, the bytes after the first, and is returned; `SecondSlot`
-/// if it is missing, or if `lists_second` is false of it. The source field is 0 for a number of 64 bits, 1 for a map, and 2 for an address
+/// if it is missing, or if `is_second_slot` is false of it. The source field is 0 for a number of 64 bits, 1 for a map, and 2 for an address
 /// in the first value of a map; by the precondition `listed` it is no other, so `_` is 2.
 fn read_wide(entry: &mut Insn, slot: &RawSlot, dst: Reg, rest: &[u8]) -> Result<RawSlot, FaultKind>
     requires opcode { slot.now.opcode ≡ 0x18 }
@@ -36,7 +36,7 @@ fn read_wide(entry: &mut Insn, slot: &RawSlot, dst: Reg, rest: &[u8]) -> Result<
     let Some(next) = RawSlot::first(rest) else {
         return Err(FaultKind::SecondSlot);
     };
-    if !lists_second(slot.src(), &next) {
+    if !is_second_slot(slot.src(), &next) {
         return Err(FaultKind::SecondSlot);
     }
     *entry = match slot.src() {

@@ -15,7 +15,7 @@ use Rattle.words.specs.declared.operator.AluOp.TheVariants.{ShiftRight, Mod, Sig
 use Rattle.words.specs.declared.operator.Operator.TheVariants.{Binary, Neg, SignExtend, End}
 use Rattle.words.specs.Operate.{kept_bits, extended_bits, combined, byte_order}
 use Rattle.interval.specs.Ranges.{IsMember, span, full, constant, is_constant}
-use Rattle.interval.specs.Table.{sum_range, difference_range, product_range, quotient_range, remainder_range, digits_end, binary_digits}
+use Rattle.interval.specs.Table.{sum_range, difference_range, product_range, quotient_range, remainder_range, most_with_digits, binary_digits}
 use Rattle.interval.specs.Table.{scaled_range, shift_right_range, alu_range, general_range, are_constants, result_range, operand_range, range_of}
 use Rattle.interval.proofs.Sound.{general_range_sound, byte_order_below}
 
@@ -69,7 +69,7 @@ remainder_fits : (p : ℕ) (a b : Range) → a.hi < p → (remainder_range a b).
 remainder_fits p a b h =
     if_le p 1 b.lo _ _ (λ _. span_below _ _ _ (omega arith) (omega arith)) (span_below _ _ _ (omega arith) h)
 
-digits_below : (a b : Range) → digits_end a b < 2 ^ 64
+digits_below : (a b : Range) → most_with_digits a b < 2 ^ 64
 digits_below a b =
     let some : 0 < 2 = omega arith in
     let few : binary_digits (max a.hi b.hi) ≤ 64 = omega arith in

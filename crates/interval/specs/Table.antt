@@ -52,18 +52,18 @@ abbrev pub binary_digits : ℕ → ℕ
 binary_digits v = 64 - leading_zeros w64 v
 
 -- the greatest number with as many binary digits as the greater high end of the two ranges
-abbrev pub digits_end : Range → Range → ℕ
-digits_end a b = 2 ^ binary_digits (max a.hi b.hi) - 1
+abbrev pub most_with_digits : Range → Range → ℕ
+most_with_digits a b = 2 ^ binary_digits (max a.hi b.hi) - 1
 
 -- the range of the bitwise OR of members: at least each low end, with no more binary digits than
 -- the greater high end
 abbrev pub or_range : Range → Range → Range
-or_range a b = span (max a.lo b.lo) (digits_end a b)
+or_range a b = span (max a.lo b.lo) (most_with_digits a b)
 
 -- the range of the bitwise XOR of members: from 0, with no more binary digits than the greater high
 -- end
 abbrev pub xor_range : Range → Range → Range
-xor_range a b = span 0 (digits_end a b)
+xor_range a b = span 0 (most_with_digits a b)
 
 -- the range of the members of a times 2 ^ k, that is, shifted left by k bits; all numbers of n bits
 -- if the greatest is no longer below 2 ^ n

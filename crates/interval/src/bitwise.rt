@@ -1,7 +1,7 @@
 //! The ranges of the bitwise operators.
 
 ghost use Rattle.std.specs.Prelude.{◌≡◌, ◌≤◌};
-ghost use Rattle.interval.specs.Table.{and_range, or_range, xor_range, digits_end};
+ghost use Rattle.interval.specs.Table.{and_range, or_range, xor_range, most_with_digits};
 
 use crate::range::Range;
 
@@ -13,26 +13,26 @@ pub(crate) fn and(a: Range, b: Range) -> Range
 }
 
 /// The range of the bitwise OR of a member of `a` and one of `b`: from the greater of the two low ends to the greatest number with as many
-/// binary digits as the greater of the two high ends (`digits_end`).
+/// binary digits as the greater of the two high ends (`most_with_digits`).
 pub(crate) fn or(a: Range, b: Range) -> Range
     ensures { result ≡ or_range a b }
 {
-    Range::new(a.lo.max(b.lo), digits_end(a, b))
+    Range::new(a.lo.max(b.lo), most_with_digits(a, b))
 }
 
 /// The range for the bitwise XOR of a member of `a` and one of `b`: from 0 to the greatest number with as many binary digits as the
-/// greater of their greatest members (`digits_end`).
+/// greater of their greatest members (`most_with_digits`).
 pub(crate) fn exclusive_or(a: Range, b: Range) -> Range
     ensures { result ≡ xor_range a b }
 {
-    Range::new(0, digits_end(a, b))
+    Range::new(0, most_with_digits(a, b))
 }
 
 /// The greatest number with as many binary digits as the greatest member of both ranges, so that no OR or XOR of members is above it. The
 /// number 0 has a case of its own, as a shift by 64 bits is not defined. By `first` and `second`, the lower end of the range that `or`
 /// returns is at most this number, its upper end.
-fn digits_end(a: Range, b: Range) -> u64
-    ensures value { result ≡ digits_end a b }
+fn most_with_digits(a: Range, b: Range) -> u64
+    ensures value { result ≡ most_with_digits a b }
     ensures first { a.hi ≤ result }
     ensures second { b.hi ≤ result }
 {

@@ -32,7 +32,7 @@ fn refused(alloc: Global, fault: CodecFault) -> Result<SlotsLog, AllocError>
 
 /// The log of a program, if descriptors name the objects of `named`, as lines or as a graph (`style`): that of `log_of`, without its facts.
 /// The error is out of memory.
-fn logged(
+fn log_without_facts(
     alloc: Global,
     program: &Program,
     named: &[Named],
@@ -65,7 +65,7 @@ pub fn log_of_slots(
         (string_bytes log.text)) }
 {
     match read_program(alloc, slots) {
-        Ok(program) => logged(alloc, &program, named, style),
+        Ok(program) => log_without_facts(alloc, &program, named, style),
         Err(fault) if fault.kind == FaultKind::Memory => Err(AllocError),
         Err(fault) => refused(alloc, fault),
     }

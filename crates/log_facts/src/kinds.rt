@@ -82,7 +82,7 @@ pub fn write_kind(text: &mut String, kind: Kind) -> Result<(), AllocError> {
 /// # Errors
 ///
 /// `AllocError`: out of memory for the text.
-pub fn write_bytes(text: &mut String, first: i64, last: i64) -> Result<(), AllocError> {
+pub fn write_byte_range(text: &mut String, first: i64, last: i64) -> Result<(), AllocError> {
     if first == last {
         write!(text, "byte {first}")
     } else {

@@ -29,11 +29,11 @@ enum Edge<'a> {
 }
 
 /// What is known of an edge: `seen` is the text of what is new on it, `None` if the pass found no run that takes it, or if there was no
-/// pass (`has_pass` of `story`).
-fn edge_of<'a>(story: &ListingInput<'_>, seen: Option<&'a String>) -> Edge<'a> {
+/// pass (`has_pass` of `input`).
+fn edge_of<'a>(input: &ListingInput<'_>, seen: Option<&'a String>) -> Edge<'a> {
     match seen {
         Some(text) => Edge::Taken(text.as_str()),
-        None if story.has_pass => Edge::Dead,
+        None if input.has_pass => Edge::Dead,
         None => Edge::Unknown,
     }
 }
@@ -79,13 +79,13 @@ fn write_edge(
 /// instruction begins: only a program whose shape has a fault has such edges.
 fn write_edges(
     text: &mut String,
-    story: &ListingInput<'_>,
+    input: &ListingInput<'_>,
     first: usize,
     slot: usize,
     insn: &Insn,
     step: Option<&Step>,
 ) -> Result<(), AllocError> {
-    let program = story.program;
+    let program = input.program;
     let successors = insn.profile().successors;
     let (not_taken, taken) = match successors {
         Successors::NextOrJump(_) => ("not taken", "taken"),
@@ -94,12 +94,12 @@ fn write_edges(
     let next = slot.saturating_add(insn.slots());
     if successors.falls() && program.is_first(next) {
         let seen = step.and_then(|step| step.falling.as_ref());
-        write_edge(text, first, next, not_taken, edge_of(story, seen))?;
+        write_edge(text, first, next, not_taken, edge_of(input, seen))?;
     }
     match target_at(program, slot) {
         Some(to) if program.is_first(to) => {
             let seen = step.and_then(|step| step.jumping.as_ref());
-            write_edge(text, first, to, taken, edge_of(story, seen))
+            write_edge(text, first, to, taken, edge_of(input, seen))
         }
         _ => Ok(()),
     }
@@ -117,14 +117,14 @@ fn write_label(text: &mut String, lines: &str) -> Result<(), AllocError> {
 #[derive(Drop)]
 struct Graph<'a> {
     alloc: Global,
-    story: &'a ListingInput<'a>,
+    input: &'a ListingInput<'a>,
     /// The slot and the reason of the rejection; `None` if the program is accepted.
     fault: Option<VerifyFault>,
     /// The fault in words, as lines; empty if there is none.
     why: &'a str,
     /// For each slot whether a block begins there.
     starts: &'a [bool],
-    /// The index in the steps of `story` of the next step.
+    /// The index in the steps of `input` of the next step.
     next: usize,
     block: Block,
 }
@@ -138,7 +138,7 @@ impl<'a> Graph<'a> {
     /// Returns the step of the instruction at a slot and advances to the next step; `None` if the pass did not reach the instruction. Slots
     /// are asked for in ascending order, which is also that of the steps.
     fn step_at(&mut self, slot: usize) -> Option<&'a Step> {
-        let step = self.story.steps.get(self.next)?;
+        let step = self.input.steps.get(self.next)?;
         if step.slot != slot {
             return None;
         }
@@ -181,7 +181,7 @@ impl<'a> Graph<'a> {
         text.push_str("\"")?;
         if self.block.is_refused {
             text.push_str(", color=red, penwidth=2")?;
-        } else if self.story.has_pass && !self.block.is_reached {
+        } else if self.input.has_pass && !self.block.is_reached {
             write!(text, ", {UNREACHED}")?;
         }
         text.push_str("];\n")
@@ -216,7 +216,7 @@ impl<'a> Graph<'a> {
         if self.is_start(slot.saturating_add(insn.slots())) {
             self.end(text)?;
             let step = step.filter(|_| !self.block.is_refused);
-            write_edges(text, self.story, self.block.first, slot, insn, step)?;
+            write_edges(text, self.input, self.block.first, slot, insn, step)?;
         }
         Ok(())
     }
@@ -224,7 +224,7 @@ impl<'a> Graph<'a> {
 
 /// Writes the blocks of a program and their edges.
 fn write_blocks(text: &mut String, mut graph: Graph<'_>) -> Result<(), AllocError> {
-    let program = graph.story.program;
+    let program = graph.input.program;
     for slot in 0..program.slots() {
         if let Some(insn) = program.get(slot) {
             graph.write_slot(text, slot, insn)?;
@@ -233,19 +233,19 @@ fn write_blocks(text: &mut String, mut graph: Graph<'_>) -> Result<(), AllocErro
     Ok(())
 }
 
-/// The graph of the program of `story`: its basic blocks with their instructions, and the edges between them with what is new on each. If
+/// The graph of the program of `input`: its basic blocks with their instructions, and the edges between them with what is new on each. If
 /// there was a pass, the blocks and edges that it did not reach are dashed. The block with the rejected instruction (`fault`) is red, and
 /// has the verdict with `why`, the fault in words. `AllocError`: out of memory.
 pub(crate) fn graph_of(
     alloc: Global,
-    story: &ListingInput<'_>,
+    input: &ListingInput<'_>,
     fault: Option<VerifyFault>,
     why: &str,
 ) -> Result<String, AllocError> {
-    let starts = block_starts(alloc, story.program)?;
+    let starts = block_starts(alloc, input.program)?;
     let graph = Graph {
         alloc,
-        story,
+        input,
         fault,
         why,
         starts: &starts,

@@ -69,13 +69,13 @@ fn write_note(text: &mut String, line: Line, note: &str) -> Result<(), AllocErro
 fn write_sources(
     text: &mut String,
     line: Line,
-    story: &ListingInput<'_>,
+    input: &ListingInput<'_>,
     cursor: &mut Cursor,
     slot: usize,
 ) -> Result<(), AllocError> {
     let mut are_more = false;
-    for index in cursor.jump..story.jumps.len() {
-        let JumpEdge { to, from } = story.jumps[index];
+    for index in cursor.jump..input.jumps.len() {
+        let JumpEdge { to, from } = input.jumps[index];
         if to != slot {
             break;
         }
@@ -123,16 +123,16 @@ fn write_edges(
 fn write_step(
     text: &mut String,
     line: Line,
-    story: &ListingInput<'_>,
+    input: &ListingInput<'_>,
     cursor: &mut Cursor,
     insn: &Insn,
     step: &Step,
 ) -> Result<(), AllocError> {
-    write_sources(text, line, story, cursor, step.slot)?;
+    write_sources(text, line, input, cursor, step.slot)?;
     write_note(text, line, &step.known)?;
     cursor.falls_from = step.falling.as_ref().map(|_| step.slot);
     match insn.profile().successors {
-        Successors::NextOrJump(_) => write_edges(text, line, story.program, step),
+        Successors::NextOrJump(_) => write_edges(text, line, input.program, step),
         Successors::Next | Successors::Jump(_) | Successors::Nothing => Ok(()),
     }
 }
@@ -142,21 +142,21 @@ fn write_step(
 /// then has no instruction from which a run may fall through.
 fn write_notes(
     text: &mut String,
-    story: &ListingInput<'_>,
+    input: &ListingInput<'_>,
     cursor: &mut Cursor,
     insn: &Insn,
     slot: usize,
     line: Line,
 ) -> Result<(), AllocError> {
-    match story.steps.get(cursor.step) {
+    match input.steps.get(cursor.step) {
         Some(step) if step.slot == slot => {
-            write_step(text, line, story, cursor, insn, step)?;
+            write_step(text, line, input, cursor, insn, step)?;
             cursor.step = cursor.step.saturating_add(1);
             Ok(())
         }
         _ => {
             cursor.falls_from = None;
-            if story.has_pass {
+            if input.has_pass {
                 write_note(text, line, "not reached")
             } else {
                 Ok(())
@@ -169,7 +169,7 @@ fn write_notes(
 /// needs.
 fn write_line(
     text: &mut String,
-    story: &ListingInput<'_>,
+    input: &ListingInput<'_>,
     cursor: &mut Cursor,
     insn: &Insn,
     slot: usize,
@@ -180,7 +180,7 @@ fn write_line(
     write!(text, "{slot}: ")?;
     write_insn(text, insn)?;
     let end = text.len();
-    write_notes(text, story, cursor, insn, slot, Line { begin, end })?;
+    write_notes(text, input, cursor, insn, slot, Line { begin, end })?;
     text.push_str("\n")
 }
 
@@ -188,7 +188,7 @@ fn write_line(
 /// instruction has no line. `text`, as `lines_of` passes it, is empty or ends with a line feed.
 pub(crate) fn write_lines(
     text: &mut String,
-    story: &ListingInput<'_>,
+    input: &ListingInput<'_>,
     last: usize,
 ) -> Result<(), AllocError>
     requires { AreLines (string_bytes text.old) }
@@ -199,11 +199,11 @@ pub(crate) fn write_lines(
         jump: 0,
         falls_from: None,
     };
-    for slot in 0..story.program.slots() {
+    for slot in 0..input.program.slots() {
         if slot <= last
-            && let Some(insn) = story.program.get(slot)
+            && let Some(insn) = input.program.get(slot)
         {
-            write_line(text, story, &mut cursor, insn, slot)?;
+            write_line(text, input, &mut cursor, insn, slot)?;
         }
     }
     Ok(())

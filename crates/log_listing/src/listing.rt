@@ -17,15 +17,15 @@ use verifier::{Cost, VerifyFault};
 /// after a rejection `why`, its reason in words. `AllocError`: out of memory.
 fn lines_of(
     alloc: Global,
-    story: &ListingInput<'_>,
+    input: &ListingInput<'_>,
     verdict: Result<Cost, VerifyFault>,
     why: &str,
 ) -> Result<String, AllocError>
     ensures { IfOk result (λ text. EndsInVerdict verdict (string_bytes text)) }
 {
-    let last = verdict.map_or_else(|fault| fault.slot, |_| story.program.slots());
+    let last = verdict.map_or_else(|fault| fault.slot, |_| input.program.slots());
     let mut text = String::new(alloc);
-    write_lines(&mut text, story, last)?;
+    write_lines(&mut text, input, last)?;
     write_verdict(&mut text, verdict, why)?;
     Ok(text)
 }
@@ -51,14 +51,14 @@ pub fn listing_of(
     let Judged { known, verdict } = judged;
     let steps = steps_of(alloc, program, named, known, style == LogStyle::Whole)?;
     let jumps = live_jumps(alloc, program, &steps)?;
-    let story = ListingInput {
+    let input = ListingInput {
         program,
         steps: &steps,
         jumps: &jumps,
         has_pass: !verdict.is_err_and(|fault| is_of_shape(fault.reason)),
     };
     match style {
-        LogStyle::New | LogStyle::Whole => lines_of(alloc, &story, *verdict, why),
-        LogStyle::Graph => graph_of(alloc, &story, verdict.err(), why),
+        LogStyle::New | LogStyle::Whole => lines_of(alloc, &input, *verdict, why),
+        LogStyle::Graph => graph_of(alloc, &input, verdict.err(), why),
     }
 }

@@ -36,7 +36,7 @@ pub(crate) fn is_written(facts: &Facts, byte: i64) -> bool {
 
 impl Wanted {
     /// Whether the value is readable by these facts: the register, or each of the stack bytes.
-    fn is_in(self, facts: &Facts) -> bool {
+    fn is_readable_by(self, facts: &Facts) -> bool {
         match self {
             Wanted::Register(register) => kind_of(facts, register) != Kind::Unreadable,
             Wanted::Stack { first, last } => {
@@ -68,7 +68,7 @@ enum Cause {
 #[derive(Clone, Copy)]
 struct Arrival {
     /// Whether the value is present on some edge.
-    is_there: bool,
+    is_present: bool,
     /// Of the first edge on which the value is missing, the slot from which it leads, and why the value is missing; `None` if there is no
     /// such edge.
     lack: Option<(usize, Cause)>,
@@ -91,19 +91,19 @@ impl Finder<'_> {
     /// missing on some edges to the slot, but not on all, the cause is the first edge without it. If it is missing on all, the cause is why
     /// it is missing on the first edge. If it is missing on none (last arm), the join of the edges loses it.
     fn cause_at(&self, slot: usize, facts: &Facts) -> Option<Cause> {
-        if self.wanted.is_in(facts) {
+        if self.wanted.is_readable_by(facts) {
             return None;
         }
         match self.arrivals.get(slot) {
             Some(
                 Arrival {
-                    is_there: true,
+                    is_present: true,
                     lack: Some((from, _)),
                 },
             ) => Some(Cause::OnEdge(*from)),
             Some(
                 Arrival {
-                    is_there: false,
+                    is_present: false,
                     lack: Some((_, cause)),
                 },
             ) => Some(*cause),
@@ -115,11 +115,11 @@ impl Finder<'_> {
     /// missing, `from` and a cause are stored, unless they are stored for an earlier edge to `to`. The cause is why the value is missing
     /// before the instruction at `from` or, if it is present there, that this instruction destroys it.
     fn arrive(&mut self, from: usize, to: usize, facts: &Facts) {
-        let is_there = self.wanted.is_in(facts);
+        let is_present = self.wanted.is_readable_by(facts);
         let cause = self.cause.unwrap_or(Cause::Destroyed(from));
         if let Some(arrival) = self.arrivals.get_mut(to) {
-            if is_there {
-                arrival.is_there = true;
+            if is_present {
+                arrival.is_present = true;
             } else if arrival.lack.is_none() {
                 arrival.lack = Some((from, cause));
             }
@@ -156,7 +156,7 @@ impl Finder<'_> {
 /// value was never written. No edge leads to slot 0, so the slot that this lack names, 0, is never used.
 fn first_arrivals(alloc: Global, slots: usize) -> Result<Vec<Arrival>, AllocError> {
     let nothing = Arrival {
-        is_there: false,
+        is_present: false,
         lack: None,
     };
     let mut arrivals = vec![in alloc; nothing; slots]?;

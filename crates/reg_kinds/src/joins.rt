@@ -133,7 +133,7 @@ fn join_kind(known: &mut Kind, edge: &Kind)
     match (&mut *known, edge) {
         (Kind::Scalar(range), Kind::Scalar(other)) if holds_range(range, other) => {}
         (Kind::Unreadable, _) => {}
-        (Kind::Value(p), Kind::Value(q)) if p.map == q.map && holds_offsets(p, q) => {}
+        (Kind::Value(p), Kind::Value(q)) if p.map == q.map && includes_offsets(p, q) => {}
         (kind, other) if are_same(kind, other) => {}
         _ => join_other_kind(known, edge),
     }
@@ -171,7 +171,7 @@ pub fn join_registers(facts: &mut Facts, edge: &Facts)
 /// Whether the range of offsets of `p` includes that of `q`, for pointers into values of one map; then a join of `q` into `p` changes
 /// nothing.
 #[inline(always)]
-fn holds_offsets(p: &ValuePointer, q: &ValuePointer) -> bool
+fn includes_offsets(p: &ValuePointer, q: &ValuePointer) -> bool
     ensures { result ≡ true → offsets_hull p.now q.now ≡ p.now }
 {
     p.lo <= q.lo && q.hi <= p.hi
@@ -219,7 +219,7 @@ fn join_slot(known: &mut Slot, edge: &Slot) -> bool
     match (&mut *known, edge) {
         (Slot::Bytes(mask), Slot::Bytes(other)) => keep_common(mask, *other),
         (Slot::Spill(Kind::Value(p)), Slot::Spill(Kind::Value(q)))
-            if p.map == q.map && holds_offsets(p, q) => false,
+            if p.map == q.map && includes_offsets(p, q) => false,
         (Slot::Spill(kind), Slot::Spill(other)) if are_same(kind, other) => false,
         (Slot::Bytes(mask), Slot::Spill(_)) => {
             let changes = *mask != 0;

@@ -7,7 +7,7 @@
 //!   `join_registers` and `join_group`. A second join with the same slot changes nothing: `slots_absorb`.
 //! - A load from the stack gives the kind of the definition, a store the facts, or each the first reason against it:
 //!   `read_stack`, `write_stack`. A store changes only the slot that it returns. The same holds for what a helper reads and
-//!   writes over many slots: `read_many`, `fill_stack`.
+//!   writes over many slots: `check_read`, `fill_stack`.
 //! - The facts after a call are those of the definition: `facts_after_call`.
 //! - A null test settles each copy of the result of one look-up and no other: `settle`, and `settle_both` for both edges at once.
 //!
@@ -44,7 +44,7 @@ pub use joins::{
     GROUP_SLOTS, STACK_GROUPS, StackGroup, join, join_group, join_into, join_registers,
 };
 pub use kind::{Kind, Slot, ValuePointer};
-pub use many::{facts_after_call, fill_stack, read_many};
+pub use many::{check_read, facts_after_call, fill_stack};
 pub use null_tests::{settle, settle_both};
 pub use reason::Reason;
 pub use stack::{loaded, read_stack, write_stack};

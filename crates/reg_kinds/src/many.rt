@@ -121,7 +121,7 @@ fn are_missing(facts: &Facts, start: usize, count: usize) -> bool
 
 /// Checks a helper's read of `count` stack bytes at `offset` from the stack's upper end. The error is the first that applies: the bytes
 /// don't all lie in the stack (`OutsideStack`), they touch a spill (`PartOfSpill`), one may be unwritten (`UnwrittenStack`).
-pub fn read_many(facts: &Facts, offset: i32, count: u32) -> Result<(), Reason>
+pub fn check_read(facts: &Facts, offset: i32, count: u32) -> Result<(), Reason>
     ensures { result ≡ stack_input facts.now offset count }
 {
     let Some(start) = start_of(offset, count) else {

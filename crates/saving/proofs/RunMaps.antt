@@ -33,7 +33,7 @@ use Rattle.insn_set.specs.Flow.{natural}
 use Rattle.tagged_model.specs.State.{RunState, RunMap, at_slot, with_cell, with_map, access_start, stack_store}
 use Rattle.tagged_model.specs.State.{object_written, object_stored, value_written, with_value, store, load, is_aligned_at}
 use Rattle.tagged_model.specs.Helpers.{called, helper_of, put, taken_out}
-use Rattle.tagged_model.specs.HelperLaws.{MapAfterCall, unchanged, written, after_update, after_delete, EntryAfterCall, LeavesAfterCall, call_leaves}
+use Rattle.tagged_model.specs.HelperLaws.{MapAfterCall, unchanged, written, after_update, after_delete, EntryAfterCall, PermitsAfterCall, call_leaves}
 use Rattle.tagged_model.specs.Step.{Step, goes, ends, faults, or_fault, assigned, operand_value, jumped, branched, ended, changed, accessed, loaded_wide}
 use Rattle.tagged_model.specs.Step.{act_of, step, run, Ending, ending_after, run_with}
 use Rattle.tagged_model.specs.Step.{MapsByDescriptor, start_of_run, numbered, map_at_start, map_after_run, left_of}
@@ -248,7 +248,7 @@ entry_called None (Some u) h = h
 entry_called (Some t) None h = h
 entry_called (Some t) (Some u) h = later_called t h
 
-called_same : (s : RunState) (o : Option RunState) → LeavesAfterCall s o → StateHasSame s o
+called_same : (s : RunState) (o : Option RunState) → PermitsAfterCall s o → StateHasSame s o
 called_same s None h = tt
 called_same s (Some t) h = λ m. entry_called (s.maps m) (t.maps m) (h.maps m)
 

@@ -18,7 +18,7 @@ use crate::laws::{births_are_kept, maps_are_held};
 use crate::savable::SavableTenant;
 use arena::{Arena, laws};
 use command_frames::{BadFrame, Command, Head, ReplyBuf, parse};
-use tenant::{Errno, Tenant, WorkingMemory, write_answer};
+use tenant::{Errno, Tenant, WorkingMemory, write_command_reply};
 
 /// The error for a frame that carries no command, by the frame's fault. It is never EFAULT (`BadAddress`), the error of a run that faults.
 fn frame_error(fault: BadFrame) -> Errno
@@ -76,11 +76,11 @@ fn reply_to_command(
             let part = arena.part_mut(number);
             let answer = tenant.create(kind, key_size, value_size, max_entries, flags, part);
             births.note(tenant, &answer);
-            write_answer(head, answer, reply);
+            write_command_reply(head, answer, reply);
         }
         Command::MapLookup { fd, key } => {
             let answer = tenant.look_up(fd, key, arena.part(number));
-            write_answer(head, answer, reply);
+            write_command_reply(head, answer, reply);
         }
         Command::MapUpdate {
             fd,
@@ -88,29 +88,29 @@ fn reply_to_command(
             key_and_value,
         } => {
             let answer = tenant.update(fd, flags, key_and_value, arena.part_mut(number));
-            write_answer(head, answer, reply);
+            write_command_reply(head, answer, reply);
         }
         Command::MapDelete { fd, key } => {
             let answer = tenant.delete(fd, key);
-            write_answer(head, answer, reply);
+            write_command_reply(head, answer, reply);
         }
         Command::MapNextKey { fd, key } => {
             let answer = tenant.next_key(fd, key);
-            write_answer(head, answer, reply);
+            write_command_reply(head, answer, reply);
         }
         Command::ProgLoad { kind, slots } => {
             let loaded = tenant.load(kind, slots, working);
             births.note(tenant, &loaded);
-            write_answer(head, loaded, reply);
+            write_command_reply(head, loaded, reply);
         }
         Command::ProgTestRun { fd, words, packet } => {
             let answer = tenant.test_run(fd, &words, packet, number, arena);
-            write_answer(head, answer, reply);
+            write_command_reply(head, answer, reply);
         }
         Command::Close { fd } => {
             let answer = tenant.close(fd, arena.part_mut(number));
             births.keep_living(tenant);
-            write_answer(head, answer, reply);
+            write_command_reply(head, answer, reply);
         }
     }
 }
@@ -152,7 +152,7 @@ impl SavableTenant {
                 let headed = HeadedCommand { head, command };
                 reply_to_command(kept, births, headed, tenant, arena, working, reply);
             }
-            Err(fault) => write_answer(head, Err(frame_error(fault)), reply),
+            Err(fault) => write_command_reply(head, Err(frame_error(fault)), reply),
         }
     }
 }

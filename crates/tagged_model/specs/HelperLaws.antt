@@ -78,9 +78,9 @@ pub record IsAfterCall (s t : RunState) : Type 0 where
 
 -- the result of a computation in a call that begins in state s: a state that can be the one after
 -- the call (`IsAfterCall`), or None, a fault, of which nothing is required
-abbrev pub LeavesAfterCall : RunState → Option RunState → Type 0
-LeavesAfterCall s None = Unit {0}
-LeavesAfterCall s (Some t) = IsAfterCall s t
+abbrev pub PermitsAfterCall : RunState → Option RunState → Type 0
+PermitsAfterCall s None = Unit {0}
+PermitsAfterCall s (Some t) = IsAfterCall s t
 
 -- ---- a state and its maps
 
@@ -132,43 +132,43 @@ replied s m t reply there change = record {
   maps = entry_set s m t reply.map there change;
 }
 
--- a computation takes the value of the option o, and continues with f: `LeavesAfterCall` permits
+-- a computation takes the value of the option o, and continues with f: `PermitsAfterCall` permits
 -- its result if it permits that of f for this value. Without a value this is a fault, which is
 -- permitted
 then_leaves : {A : Type 0} (s : RunState) (o : Option A) (f : A → Option RunState)
-    → ((x : A) → o ≡ Some x → LeavesAfterCall s (f x))
-    → LeavesAfterCall s (and_then o f)
+    → ((x : A) → o ≡ Some x → PermitsAfterCall s (f x))
+    → PermitsAfterCall s (and_then o f)
 then_leaves s None f h = tt
 then_leaves s (Some x) f h = h x refl
 
--- if `LeavesAfterCall` permits the result of a computation, it also permits this result with v in
+-- if `PermitsAfterCall` permits the result of a computation, it also permits this result with v in
 -- register 0 and registers 1 to 5 empty
 return_leaves : (s : RunState) (o : Option RunState) (v : Tagged)
-    → LeavesAfterCall s o
-    → LeavesAfterCall s (and_then o (λ t. Some (returns t v)))
+    → PermitsAfterCall s o
+    → PermitsAfterCall s (and_then o (λ t. Some (returns t v)))
 return_leaves s None v h = tt
 return_leaves s (Some t) v h = returned s t v h
 
 -- ---- arguments
 
--- if `LeavesAfterCall` permits what f gives for each map of state s, it permits the result of the
+-- if `PermitsAfterCall` permits what f gives for each map of state s, it permits the result of the
 -- computation that reads the map in register r and continues with f
 map_leaves : (s : RunState) (r : ℕ) (f : GivenMap → Option RunState)
     → ((m : ℕ) (t : RunMap)
     → s.maps m ≡ Some t
-    → LeavesAfterCall s (f (record { descriptor = m; map = t })))
-    → LeavesAfterCall s (and_then (map_argument s r) f)
+    → PermitsAfterCall s (f (record { descriptor = m; map = t })))
+    → PermitsAfterCall s (and_then (map_argument s r) f)
 map_leaves s r f h = by (argument s r map_given)
   where
     at : (m : ℕ) (o : Option RunMap)
         → s.maps m ≡ o
-        → LeavesAfterCall s
+        → PermitsAfterCall s
         (and_then (and_then o (λ t. Some (record { descriptor = m; map = t }))) f)
     at m None e = tt
     at m (Some t) e = h m t e
 
     by : (o : Option ℕ)
-        → LeavesAfterCall s
+        → PermitsAfterCall s
         (and_then
         (and_then o
         (λ m. and_then (s.maps m) (λ t. Some (record { descriptor = m; map = t })))) f)
@@ -194,50 +194,50 @@ gathered_long byte p (suc n) = by (byte p) (gathered byte (suc p) n) (gathered_l
     by (Some b) (Some bs) h = ap suc h
 
 -- a read of n bytes at offset y of a value gives n bytes, or faults
-value_long : (value : List ℕ) (y : ℤ) (n : ℕ) → HasLength n (value_bytes value y n)
-value_long value (pos y) n =
+value_bytes_length : (value : List ℕ) (y : ℤ) (n : ℕ) → HasLength n (value_bytes value y n)
+value_bytes_length value (pos y) n =
     cond_both (nat_le (y + n) (length value)) (Some (bytes_at value y n)) None (HasLength n)
     (λ fits. length-bytes_at value y n (leb-true (y + n) (length value) fits)) (λ _. tt)
-value_long value (negsuc y) n = tt
+value_bytes_length value (negsuc y) n = tt
 
 -- a read of n bytes at offset y of object `number` of the map o gives n bytes, or faults; without a
 -- map (o is None) it faults
-object_long : (o : Option RunMap) (number : ℕ) (y : ℤ) (n : ℕ)
+object_read_has_length : (o : Option RunMap) (number : ℕ) (y : ℤ) (n : ℕ)
     → HasLength n (and_then o (λ t. value_bytes (t.values number) y n))
-object_long None number y n = tt
-object_long (Some t) number y n = value_long (t.values number) y n
+object_read_has_length None number y n = tt
+object_read_has_length (Some t) number y n = value_bytes_length (t.values number) y n
 
 -- a helper that reads n bytes at p gets n bytes, or faults
 input_long : (s : RunState) (p : Tagged) (n : ℕ) → HasLength n (input s p n)
 input_long s (Pointer object.Stack x) n =
     cond_both (is_in_stack x n) (gathered (stack_byte s) (byte_index x) n) None (HasLength n)
     (λ _. gathered_long (stack_byte s) (byte_index x) n) (λ _. tt)
-input_long s (Pointer (object.Value m number) x) n = object_long (s.maps m) number x n
+input_long s (Pointer (object.Value m number) x) n = object_read_has_length (s.maps m) number x n
 input_long s p n = tt
 
 -- a computation reads n bytes at the pointer in register r, and continues with f. If
--- `LeavesAfterCall` permits the result of f for any n bytes, it permits that of the computation
+-- `PermitsAfterCall` permits the result of f for any n bytes, it permits that of the computation
 bytes_leave : (s : RunState) (r n : ℕ) (f : List ℕ → Option RunState)
-    → ((bs : List ℕ) → length bs ≡ n → LeavesAfterCall s (f bs))
-    → LeavesAfterCall s (and_then (argument s r (λ p. input s p n)) f)
+    → ((bs : List ℕ) → length bs ≡ n → PermitsAfterCall s (f bs))
+    → PermitsAfterCall s (and_then (argument s r (λ p. input s p n)) f)
 bytes_leave s r n f h = by (s.registers r)
   where
-    read : (o : Option (List ℕ)) → HasLength n o → LeavesAfterCall s (and_then o f)
+    read : (o : Option (List ℕ)) → HasLength n o → PermitsAfterCall s (and_then o f)
     read None long = tt
     read (Some bs) long = h bs long
 
-    by : (o : Option Tagged) → LeavesAfterCall s (and_then (and_then o (λ p. input s p n)) f)
+    by : (o : Option Tagged) → PermitsAfterCall s (and_then (and_then o (λ p. input s p n)) f)
     by None = tt
     by (Some p) = read (input s p n) (input_long s p n)
 
 -- if a helper's write of bytes at p in state s is no fault, it leads to a state that can be the one
 -- after a call that begins in s (`IsAfterCall`). If p is no pointer into the stack or a value, the
 -- write is a fault
-output_leaves : (s : RunState) (p : Tagged) (bs : List ℕ) → LeavesAfterCall s (output s p bs)
+output_leaves : (s : RunState) (p : Tagged) (bs : List ℕ) → PermitsAfterCall s (output s p bs)
 output_leaves s (Pointer object.Stack x) bs =
     cond_both (is_in_stack x (length bs))
     (Some (with_cells s (λ i. cell_over i (s.cells i) (byte_index x) bs))) None
-    (LeavesAfterCall s)
+    (PermitsAfterCall s)
     (λ _. record { words = refl; maps = λ m. entry_same (s.maps m) })
     (λ _. tt)
 output_leaves s (Pointer (object.Value m number) x) bs =
@@ -252,7 +252,7 @@ output_leaves s p bs = tt
 
 -- a call of any helper in state s faults, or leads to a state that has the context words of s, and
 -- the maps of s as a call may change them (`IsAfterCall`)
-pub call_leaves : (helper : Helper) (s : RunState) → LeavesAfterCall s (called helper s)
+pub call_leaves : (helper : Helper) (s : RunState) → PermitsAfterCall s (called helper s)
 call_leaves LookUp s =
     map_leaves s 1 _
     (λ m t _.

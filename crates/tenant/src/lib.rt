@@ -55,7 +55,7 @@
 //!   took 55 machine instructions more. With both, and the context written in pairs, a frame with a run of two instructions
 //!   took 542 machine instructions instead of 658 (builds without proofs); 142 of them read the frame's length and the frame,
 //!   one call of the reader each.
-//! - Each arm of `write_answer` writes its own reply: a reply borrows its value from the tenant's part or its key from the
+//! - Each arm of `write_command_reply` writes its own reply: a reply borrows its value from the tenant's part or its key from the
 //!   maps, and no contract can describe both the borrowed bytes and their owner after the `match`; so a value would have to be
 //!   copied or looked up again.
 #![tactic(auto)]
@@ -80,7 +80,7 @@ pub use described::{Described, MAP_THERE, NOTHING_THERE, PROGRAM_THERE, type_num
 pub use errno::Errno;
 pub use object::{LoadedProgram, OpenObject};
 pub use readers::MapEntry;
-pub use reply::{Reply, write_answer};
+pub use reply::{Reply, write_command_reply};
 pub use shape::asked_shape;
 pub use tenant::Tenant;
 pub use verifier::{Cost, Verified, WorkingMemory};

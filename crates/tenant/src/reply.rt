@@ -30,7 +30,7 @@ pub enum Reply<'a> {
 /// command's frame. Each command promises that its result can be written (`IsWritable`), so no cast loses anything. The contract holds
 /// for any state `s`: an `Answer` also has the state after the command, and no byte of a reply depends on it.
 #[inline(always)]
-pub fn write_answer(head: Head, answer: Result<Reply<'_>, Errno>, reply: &mut ReplyBuf)
+pub fn write_command_reply(head: Head, answer: Result<Reply<'_>, Errno>, reply: &mut ReplyBuf)
     requires { IsWritable answer }
     ensures { (s : TenantState) → Writes head reply.new (shown_answer answer.entry s) }
 {

@@ -68,7 +68,7 @@ fn next_imm(magnitude: Option<u64>) -> Option<u32>
 
 impl SourceOperand {
     /// A law: if the operand is a register, it is 0 to 10. The call of `number` gives the proof this; nothing is done when it runs.
-    fn in_range(self)
+    fn register_is_in_range(self)
         ensures { IsSource self }
     {
         if let SourceOperand::Reg(reg) = self {
@@ -221,7 +221,7 @@ impl WideValue {
 
 impl Form {
     /// Whether a line can have this form: a sign extension is from fewer bits than the register has, a byte-order conversion is of an `r`
-    /// register, and no double word is loaded with sign extension. The calls of `number` and `in_range` only give the proof that registers
+    /// register, and no double word is loaded with sign extension. The calls of `number` and `register_is_in_range` only give the proof that registers
     /// are 0 to 10.
     fn is_listed(&self) -> bool
         ensures yes { result ≡ true → IsForm self.now }
@@ -232,7 +232,7 @@ impl Form {
                 let _ = dst.number();
                 match op {
                     Operation::Binary { src, .. } => {
-                        src.in_range();
+                        src.register_is_in_range();
                         true
                     }
                     Operation::SignExtend { from, src } => {
@@ -245,7 +245,7 @@ impl Form {
             }
             Form::Branch { dst, src, .. } => {
                 let _ = dst.number();
-                src.in_range();
+                src.register_is_in_range();
                 true
             }
             Form::Access { access, address } => {
@@ -256,7 +256,7 @@ impl Form {
                         !(signed && size.is_double())
                     }
                     Access::Store { src, .. } => {
-                        src.in_range();
+                        src.register_is_in_range();
                         true
                     }
                     Access::Atomic { src, .. } => {

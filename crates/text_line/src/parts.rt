@@ -6,7 +6,7 @@ ghost use Rattle.text_line.specs.inside.Shown.{shown_tokens};
 ghost use Rattle.text_line.specs.inside.Reading.{leading_symbol, leading_name, leading_number, after_symbol, after_word};
 ghost use Rattle.text_line.specs.inside.Reading.{leading_register, number_from, leading_constant, leading_signed_number};
 ghost use Rattle.text_line.specs.inside.Reading.{leading_operand, parsed_destination, leading_address};
-ghost use Rattle.text_line.specs.inside.Reading.{leading_wide_value, is_ended, at_end, seen, seen_pair, seen_label, seen_destination};
+ghost use Rattle.text_line.specs.inside.Reading.{leading_wide_value, is_ended, at_end, seen, seen_pair, seen_token, seen_destination};
 
 use crate::form::{Address, JumpTarget, Number, SourceOperand, WideValue};
 use crate::names::register_named;
@@ -17,7 +17,7 @@ use insn_set::{AccessSize, Reg, size_by_name};
 
 /// The first token, if it is a symbol, and the tokens after it; `None` if it is none, or if there is no token.
 pub(crate) fn symbol<'t, 'a>(tokens: &'t [Token<'a>]) -> Option<(&'a str, &'t [Token<'a>])>
-    ensures { seen_label result ≡ leading_symbol (shown_tokens tokens.now) }
+    ensures { seen_token result ≡ leading_symbol (shown_tokens tokens.now) }
 {
     match tokens.split_first() {
         Some((Token::Symbol(symbol), rest)) => Some((*symbol, rest)),
@@ -27,7 +27,7 @@ pub(crate) fn symbol<'t, 'a>(tokens: &'t [Token<'a>]) -> Option<(&'a str, &'t [T
 
 /// The first token, if it is a name, and the tokens after it; `None` if it is no name, or if there is no token.
 pub(crate) fn name<'t, 'a>(tokens: &'t [Token<'a>]) -> Option<(&'a str, &'t [Token<'a>])>
-    ensures { seen_label result ≡ leading_name (shown_tokens tokens.now) }
+    ensures { seen_token result ≡ leading_name (shown_tokens tokens.now) }
 {
     match tokens.split_first() {
         Some((Token::Name(name), rest)) => Some((*name, rest)),

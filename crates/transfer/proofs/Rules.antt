@@ -34,13 +34,13 @@ use Rattle.tagged_model.specs.Cells.{and_then}
 use Rattle.transfer.specs.declared.arithmetic.Direction.{Direction}
 use Rattle.transfer.specs.declared.arithmetic.Direction.TheVariants.{Forwards, Backwards}
 use Rattle.transfer.specs.Arithmetic.{check_readable, near, stack_moved, value_by, distance, moved_offset, pointer_moved}
-use Rattle.transfer.specs.Arithmetic.{is_maybe, of_scalars, of_scalar, sum_kind, difference_kind, unless_maybe, arithmetic_kind}
+use Rattle.transfer.specs.Arithmetic.{is_maybe_value, of_scalars, of_scalar, sum_kind, difference_kind, unless_maybe, arithmetic_kind}
 use Rattle.transfer.specs.Branches.{Edges, falls, pointer_edges, branch_edges}
 use Rattle.transfer.specs.Effects.{source_kind, first_kind, assigns, is_word, context_read, load_kind, store_facts, number_or}
 use Rattle.transfer.specs.Effects.{is_known_multiple, atomic_facts, map_of, value_of, known, exits_with, access_edges, wide_kind, effect_of, effect}
 use Rattle.transfer.specs.Reasons.{IsSafetyReason, IsReasonFor, IsReasonOf, TransferReasons}
-use Rattle.transfer.specs.Calls.{shaped, map_kind, room_of, input_kind, output_facts, number_kind, lengths_end}
-use Rattle.transfer.specs.Calls.{length_kind, context_kind, readable_two, readable_four, any_number, call_facts}
+use Rattle.transfer.specs.Calls.{shaped, map_kind, check_room, input_kind, output_facts, number_range, lengths_end}
+use Rattle.transfer.specs.Calls.{length_range, context_kind, readable_two, readable_four, any_number, call_facts}
 use Rattle.words.specs.Stack.{bytes_of, is_double, is_in_stack, byte_index, is_aligned, touches}
 use Rattle.reg_kinds.specs.declared.kind.ValuePointer.{ValuePointer}
 use Rattle.reg_kinds.specs.Many.{bits_in, any_below, is_touched_spill, lacks, stack_input, filled}
@@ -110,7 +110,7 @@ difference_rule k (kind.Scalar b) = moved_rule Backwards k b
 difference_rule k l = tt
 
 unless_rule : (k l : Kind) (r : Result Kind Reason) → ByRule r → ByRule (unless_maybe k l r)
-unless_rule k l r h = cond_both (is_maybe k || is_maybe l) (Err MaybeNull) r ByRule (λ _. tt) (λ _. h)
+unless_rule k l r h = cond_both (is_maybe_value k || is_maybe_value l) (Err MaybeNull) r ByRule (λ _. tt) (λ _. h)
 
 arithmetic_rule : (wide : Bool) (op : AluOp) (k l : Kind) → ByRule (arithmetic_kind wide op k l)
 arithmetic_rule true alu.Mov k l = tt
@@ -140,7 +140,7 @@ read_rule : (f : Facts) (offset : ℤ) (size : AccessSize) (signed : Bool) → B
 read_rule f offset size signed =
     then_rule _ _ (touched_rule offset size) (λ t. read_slot_rule (slot_at f t.0) t.1 size signed)
 
-room_rule : (p : ValuePointer) (off : ℤ) (n : ℕ) (o : Option MapShape) → ByRule (room_of p off n o)
+room_rule : (p : ValuePointer) (off : ℤ) (n : ℕ) (o : Option MapShape) → ByRule (check_room p off n o)
 room_rule p off n None = tt
 room_rule p off n (Some shape) =
     cond_both (int_le (pos 0) (p.lo +ℤ off) && int_le ((p.hi +ℤ off) +ℤ pos n) (pos shape.value_size))
@@ -221,11 +221,11 @@ output_rule shapes f r (kind.Stack x) =
 output_rule shapes f r (kind.Value p) = then_rule _ _ (room_rule p (pos 0) r.hi (shapes p.map)) (λ _. tt)
 output_rule shapes f r k = tt
 
-number_rule : (k : Kind) → ByRule (number_kind k)
+number_rule : (k : Kind) → ByRule (number_range k)
 number_rule (kind.Scalar r) = tt
 number_rule k = tt
 
-length_rule : (k : Kind) → ByRule (length_kind k)
+length_rule : (k : Kind) → ByRule (length_range k)
 length_rule (kind.Scalar r) =
     cond_both (r.lo == 0 || nat_le lengths_end r.hi) (Err LengthUnbounded) (Ok r) ByRule (λ _. tt) (λ _. tt)
 length_rule k = tt

@@ -45,11 +45,11 @@ use Rattle.tagged_model.specs.Cells.{and_then}
 use Rattle.transfer.specs.declared.arithmetic.Direction.{Direction}
 use Rattle.transfer.specs.declared.arithmetic.Direction.TheVariants.{Forwards, Backwards}
 use Rattle.transfer.specs.Arithmetic.{check_readable, near, stack_moved, value_by, distance, moved_offset, pointer_moved}
-use Rattle.transfer.specs.Arithmetic.{is_maybe, of_scalars, of_scalar, sum_kind, difference_kind, unless_maybe, arithmetic_kind}
+use Rattle.transfer.specs.Arithmetic.{is_maybe_value, of_scalars, of_scalar, sum_kind, difference_kind, unless_maybe, arithmetic_kind}
 use Rattle.transfer.specs.Branches.{Edges, falls, with_source, with_pair, is_same, number_edges, null_edges, pointer_edges, branch_edges}
 use Rattle.transfer.specs.Effects.{source_kind, first_kind, assigns, is_word, context_read, load_kind, store_facts, number_or}
 use Rattle.transfer.specs.Effects.{is_known_multiple, atomic_facts, map_of, value_of, known, exits_with, access_edges, wide_kind, effect_of, effect}
-use Rattle.transfer.specs.Calls.{map_kind, room_of, input_kind, output_facts, number_kind, length_kind}
+use Rattle.transfer.specs.Calls.{map_kind, check_room, input_kind, output_facts, number_range, length_range}
 use Rattle.transfer.specs.Calls.{context_kind, readable_two, readable_four, any_number, call_facts}
 use Rattle.transfer.specs.Sound.{IsKindAt, AreWellFormedAt, AreWellFormedOn, TransferKeepsWellFormed}
 use Rattle.transfer.specs.FactLaws.{facts_of_later_slots}
@@ -127,7 +127,7 @@ module _ (bound : ℕ) (shapes : Shapes) (at : ℕ) (lt : at < bound) where
     unless_words : (k l : Kind) (r : Result Kind Reason)
         → OkIs (IsKindAt bound) r → OkIs (IsKindAt bound) (unless_maybe k l r)
     unless_words k l r h =
-        cond_both (is_maybe k || is_maybe l) (Err MaybeNull) r (OkIs (IsKindAt bound)) (λ _. tt) (λ _. h)
+        cond_both (is_maybe_value k || is_maybe_value l) (Err MaybeNull) r (OkIs (IsKindAt bound)) (λ _. tt) (λ _. h)
 
     arithmetic_words : (wide : Bool) (op : AluOp) (k l : Kind)
         → IsKindAt bound k → IsKindAt bound l
@@ -153,7 +153,7 @@ module _ (bound : ℕ) (shapes : Shapes) (at : ℕ) (lt : at < bound) where
   load_words f size signed off (kind.Stack x) h = read_words bound f (x +ℤ off) size signed h
   load_words f size signed off kind.Ctx h = context_words off size signed
   load_words f size signed off (kind.Value p) h =
-      past _ (room_of p off (bytes_of size) (shapes p.map)) _ (λ _. loaded_words bound size signed)
+      past _ (check_room p off (bytes_of size) (shapes p.map)) _ (λ _. loaded_words bound size signed)
   load_words f size signed off k h = tt
 
   store_words : (f : Facts) (size : AccessSize) (off : ℤ) (k v : Kind)
@@ -161,7 +161,7 @@ module _ (bound : ℕ) (shapes : Shapes) (at : ℕ) (lt : at < bound) where
       → OkIs (AreWellFormedAt bound) (store_facts shapes f size off k v)
   store_words f size off (kind.Stack x) v h g = written_words bound f (x +ℤ off) size v h g
   store_words f size off (kind.Value p) v h g =
-      past _ (room_of p off (bytes_of size) (shapes p.map)) _
+      past _ (check_room p off (bytes_of size) (shapes p.map)) _
       (λ _. cond_both (is_pointer v) (Err PointerStored) (Ok f) (OkIs (AreWellFormedAt bound)) (λ _. tt) (λ _. h))
   store_words f size off k v h g = tt
 
@@ -174,7 +174,7 @@ module _ (bound : ℕ) (shapes : Shapes) (at : ℕ) (lt : at < bound) where
       past _ (number_or PartOfSpill k) _ (λ _. written_words bound f (x +ℤ off) size any_number h number_words_any)))
   changed_words f size off (kind.Value p) v h =
       past _ (number_or PointerArithmetic v) _
-      (λ _. past _ (room_of p off (bytes_of size) (shapes p.map)) _
+      (λ _. past _ (check_room p off (bytes_of size) (shapes p.map)) _
       (λ _.
       cond_both (is_known_multiple p off size) (Ok f) (Err UnalignedAtomic)
       (OkIs (AreWellFormedAt bound)) (λ _. h) (λ _. tt)))
@@ -185,7 +185,7 @@ module _ (bound : ℕ) (shapes : Shapes) (at : ℕ) (lt : at < bound) where
   output_words : (f : Facts) (r : Range) (k : Kind)
       → AreWellFormedAt bound f → OkIs (AreWellFormedAt bound) (output_facts shapes f r k)
   output_words f r (kind.Stack x) h = filled_words bound f x r.lo r.hi h
-  output_words f r (kind.Value p) h = past _ (room_of p (pos 0) r.hi (shapes p.map)) _ (λ _. h)
+  output_words f r (kind.Value p) h = past _ (check_room p (pos 0) r.hi (shapes p.map)) _ (λ _. h)
   output_words f r k h = tt
 
   two_words : (f : Facts) (go : Kind → Kind → Result Facts Reason)
@@ -214,12 +214,12 @@ module _ (bound : ℕ) (shapes : Shapes) (at : ℕ) (lt : at < bound) where
       two_words f _ (λ a b. key_words f a b _ (λ m. called_words bound f (kind.MaybeValue m.descriptor at) is lt))
   call_words Update f is =
       four_words f _ (λ a b c d. key_words f a b _ (λ m. past _ (input_kind shapes f m.shape.value_size c) _
-      (λ _. past _ (number_kind d) _ (λ _. called_words bound f any_number is number_words_any))))
+      (λ _. past _ (number_range d) _ (λ _. called_words bound f any_number is number_words_any))))
   call_words Delete f is =
       two_words f _ (λ a b. key_words f a b _ (λ m. called_words bound f any_number is number_words_any))
   call_words LoadBytes f is =
-      four_words f _ (λ a b c d. past _ (context_kind a) _ (λ _. past _ (number_kind b) _
-      (λ _. past _ (length_kind d) _
+      four_words f _ (λ a b c d. past _ (context_kind a) _ (λ _. past _ (number_range b) _
+      (λ _. past _ (length_range d) _
       (λ r. then_ok _ _ _ _ (output_words f r c is)
       (λ g too. called_words bound g any_number too number_words_any)))))
 

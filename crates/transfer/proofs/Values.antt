@@ -25,7 +25,7 @@ use Rattle.tagged_model.specs.Values.{of_numbers, moved, sum, difference, arithm
 use Rattle.abstraction.specs.Admits.{IsOfKind}
 use Rattle.transfer.specs.declared.arithmetic.Direction.{Direction}
 use Rattle.transfer.specs.declared.arithmetic.Direction.TheVariants.{Forwards, Backwards}
-use Rattle.transfer.specs.Arithmetic.{pointer_moved, is_maybe, of_scalars, sum_kind, difference_kind, unless_maybe, arithmetic_kind, of_scalar}
+use Rattle.transfer.specs.Arithmetic.{pointer_moved, is_maybe_value, of_scalars, sum_kind, difference_kind, unless_maybe, arithmetic_kind, of_scalar}
 use Rattle.transfer.proofs.Parts.{AtBothWidths, at_width, Here, Gives, IsKindOf}
 use Rattle.transfer.proofs.States.{scalar_of}
 use Rattle.transfer.proofs.Pointers.{shifted, stack_agrees, value_agrees}
@@ -147,7 +147,7 @@ module _ (here : Here) (laws : Results) where
   unless_agrees : (k l : Kind) (r : Result Kind Reason) (o : Option Tagged)
       → Gives here r o → Gives here (unless_maybe k l r) o
   unless_agrees k l r o h =
-      cond_both (is_maybe k || is_maybe l) (Err MaybeNull) r (λ r. Gives here r o) (λ _. tt) (λ _. h)
+      cond_both (is_maybe_value k || is_maybe_value l) (Err MaybeNull) r (λ r. Gives here r o) (λ _. tt) (λ _. h)
 
   -- if the facts give the result of an operator a kind, the machine has a result of this kind
   pub arithmetic_agrees : (wide : Bool) (op : AluOp) (k l : Kind) (v w : Tagged)

@@ -96,9 +96,9 @@ pointer_moved way k r = Err PointerArithmetic
 -- ---- two operands
 
 -- whether the kind is that of the result of a look-up before its null test
-abbrev pub is_maybe : Kind → Bool
-is_maybe (MaybeValue m site) = true
-is_maybe k = false
+abbrev pub is_maybe_value : Kind → Bool
+is_maybe_value (MaybeValue m site) = true
+is_maybe_value k = false
 
 -- the kind of an operator's result on two numbers, of 64 bits (true) or 32; PointerArithmetic if
 -- one of them is no number
@@ -125,7 +125,7 @@ difference_kind a b = Err PointerArithmetic
 -- the result r of a sum or a difference of kinds a and b; MaybeNull if a or b is the result of a
 -- look-up that may be null, since such a pointer may not be moved
 abbrev pub unless_maybe : Kind → Kind → Result Kind Reason → Result Kind Reason
-unless_maybe a b r = if is_maybe a || is_maybe b then Err MaybeNull else r
+unless_maybe a b r = if is_maybe_value a || is_maybe_value b then Err MaybeNull else r
 
 -- the kind of an operator's result on two operands, of 64 bits (true) or 32: a 64-bit move copies
 -- any value; 64-bit sums and differences move pointers; everything else is only for numbers

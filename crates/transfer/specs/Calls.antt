@@ -33,9 +33,9 @@ map_kind shapes k = Err HelperArgument
 
 -- Ok if the n bytes that start `off` bytes from a pointer lie in its value, for each offset that it
 -- may have; else OutsideValue, also if its descriptor has no shape (None)
-abbrev pub room_of : ValuePointer → ℤ → ℕ → Option MapShape → Result (Unit {0}) Reason
-room_of p off n None = Err OutsideValue
-room_of p off n (Some shape) =
+abbrev pub check_room : ValuePointer → ℤ → ℕ → Option MapShape → Result (Unit {0}) Reason
+check_room p off n None = Err OutsideValue
+check_room p off n (Some shape) =
     if int_le (pos 0) (p.lo +ℤ off) && int_le ((p.hi +ℤ off) +ℤ pos n) (pos shape.value_size)
     then Ok tt
     else Err OutsideValue
@@ -43,7 +43,7 @@ room_of p off n (Some shape) =
 -- Ok if a helper may read n bytes at an argument of this kind; or the first reason against it
 abbrev pub input_kind : Shapes → Facts → ℕ → Kind → Result (Unit {0}) Reason
 input_kind shapes f n (kind.Stack x) = stack_input f x n
-input_kind shapes f n (kind.Value p) = room_of p (pos 0) n (shapes p.map)
+input_kind shapes f n (kind.Value p) = check_room p (pos 0) n (shapes p.map)
 input_kind shapes f n (kind.MaybeValue m site) = Err MaybeNull
 input_kind shapes f n k = Err HelperArgument
 
@@ -52,14 +52,14 @@ input_kind shapes f n k = Err HelperArgument
 abbrev pub output_facts : Shapes → Facts → Range → Kind → Result Facts Reason
 output_facts shapes f r (kind.Stack x) = stack_filled f x r.lo r.hi
 output_facts shapes f r (kind.Value p) =
-    and_then_ok (room_of p (pos 0) r.hi (shapes p.map)) (λ _. Ok f)
+    and_then_ok (check_room p (pos 0) r.hi (shapes p.map)) (λ _. Ok f)
 output_facts shapes f r (kind.MaybeValue m site) = Err MaybeNull
 output_facts shapes f r k = Err HelperArgument
 
 -- the range of an argument that has to be a number; HelperArgument if it is none
-abbrev pub number_kind : Kind → Result Range Reason
-number_kind (kind.Scalar r) = Ok r
-number_kind k = Err HelperArgument
+abbrev pub number_range : Kind → Result Range Reason
+number_range (kind.Scalar r) = Ok r
+number_range k = Err HelperArgument
 
 -- a length that is passed to a helper is below this, in bytes; the stack and values are much
 -- shorter
@@ -68,10 +68,10 @@ lengths_end = 2 ^ 29
 
 -- the range of an argument that has to be a length: HelperArgument if it is no number,
 -- LengthUnbounded unless all of it is above 0 and below `lengths_end`
-abbrev pub length_kind : Kind → Result Range Reason
-length_kind (kind.Scalar r) =
+abbrev pub length_range : Kind → Result Range Reason
+length_range (kind.Scalar r) =
     if r.lo == 0 || nat_le lengths_end r.hi then Err LengthUnbounded else Ok r
-length_kind k = Err HelperArgument
+length_range k = Err HelperArgument
 
 -- Ok if the argument is the context, else HelperArgument
 abbrev pub context_kind : Kind → Result (Unit {0}) Reason
@@ -112,7 +112,7 @@ call_facts shapes at Update f =
     and_then_ok (map_kind shapes a) (λ m.
     and_then_ok (input_kind shapes f m.shape.key_size b) (λ _.
     and_then_ok (input_kind shapes f m.shape.value_size c) (λ _.
-    and_then_ok (number_kind d) (λ _.
+    and_then_ok (number_range d) (λ _.
     Ok (called_facts f any_number))))))
 call_facts shapes at Delete f =
     readable_two f (λ a b.
@@ -122,7 +122,7 @@ call_facts shapes at Delete f =
 call_facts shapes at LoadBytes f =
     readable_four f (λ a b c d.
     and_then_ok (context_kind a) (λ _.
-    and_then_ok (number_kind b) (λ _.
-    and_then_ok (length_kind d) (λ r.
+    and_then_ok (number_range b) (λ _.
+    and_then_ok (length_range d) (λ r.
     and_then_ok (output_facts shapes f r c) (λ g.
     Ok (called_facts g any_number))))))

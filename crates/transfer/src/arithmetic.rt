@@ -5,7 +5,7 @@ ghost use Rattle.transfer.specs.declared.arithmetic.Direction.TheVariants.{Forwa
 ghost use Rattle.interval.specs.Table.{range_of};
 ghost use Rattle.words.specs.Widths.{width};
 ghost use Rattle.transfer.specs.Arithmetic.{check_readable, distance, moved_offset, stack_moved, value_by, value_moved};
-ghost use Rattle.transfer.specs.Arithmetic.{pointer_moved, is_maybe, of_scalars, sum_kind, difference_kind, arithmetic_kind, of_scalar};
+ghost use Rattle.transfer.specs.Arithmetic.{pointer_moved, is_maybe_value, of_scalars, sum_kind, difference_kind, arithmetic_kind, of_scalar};
 
 use interval::{Range, alu32, alu64};
 use reg_kinds::{Kind, Reason, ValuePointer};
@@ -197,8 +197,8 @@ fn difference(a: Kind, b: Kind) -> Result<Kind, Reason>
 }
 
 /// Whether the kind is that of a look-up's result that may be null, since no null test has settled it.
-fn is_maybe(kind: Kind) -> bool
-    ensures { result ≡ is_maybe kind }
+fn is_maybe_value(kind: Kind) -> bool
+    ensures { result ≡ is_maybe_value kind }
 {
     matches!(kind, Kind::MaybeValue { .. })
 }
@@ -212,7 +212,9 @@ pub(crate) fn arithmetic(wide: bool, op: AluOp, a: Kind, b: Kind) -> Result<Kind
 {
     match (wide, op) {
         (true, AluOp::Mov) => Ok(b),
-        (true, AluOp::Add | AluOp::Sub) if is_maybe(a) || is_maybe(b) => Err(Reason::MaybeNull),
+        (true, AluOp::Add | AluOp::Sub) if is_maybe_value(a) || is_maybe_value(b) => Err(
+            Reason::MaybeNull,
+        ),
         (true, AluOp::Add) => sum(a, b),
         (true, AluOp::Sub) => difference(a, b),
         _ => of_scalars(wide, Operator::Binary(op), a, b),

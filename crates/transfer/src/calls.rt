@@ -3,13 +3,13 @@
 ghost use Rattle.std.specs.Prelude.{◌≡◌, ◌<◌, ◌+ℤ◌, pos, int_le, ◌&&◌, if◌then◌else◌, IfOk, IfErr, OnErr, OnOk, Ok, Err};
 ghost use Rattle.tagged_model.specs.Named.{shapes_named};
 ghost use Rattle.reg_kinds.specs.declared.reason.Reason.TheVariants.{OutsideValue};
-ghost use Rattle.transfer.specs.Calls.{map_kind, room_of, input_kind, output_facts, number_kind};
-ghost use Rattle.transfer.specs.Calls.{lengths_end, length_kind, context_kind, any_number, call_facts};
+ghost use Rattle.transfer.specs.Calls.{map_kind, check_room, input_kind, output_facts, number_range};
+ghost use Rattle.transfer.specs.Calls.{lengths_end, length_range, context_kind, any_number, call_facts};
 
 use crate::arithmetic::check_readable;
 use insn_set::Reg;
 use interval::Range;
-use reg_kinds::{Facts, Kind, Reason, ValuePointer, facts_after_call, fill_stack, read_many};
+use reg_kinds::{Facts, Kind, Reason, ValuePointer, check_read, facts_after_call, fill_stack};
 use tagged_model::{Helper, MapShape, Named, shape_of};
 
 /// A length that is passed to a helper is below this, in bytes: 2^29. So it fits in 32 bits; the stack and values are much shorter.
@@ -59,13 +59,13 @@ fn room_in(low: i64, last: i64, count: u32, size: u32) -> Result<(), Reason>
 
 /// Checks that the `count` bytes that start `offset` bytes from a pointer lie in its value, for each offset that the pointer may have.
 /// `OutsideValue` if not, or if the descriptor of the pointer names no map.
-pub(crate) fn room_of(
+pub(crate) fn check_room(
     named: &[Named],
     pointer: ValuePointer,
     offset: i16,
     count: u32,
 ) -> Result<(), Reason>
-    ensures { result ≡ room_of pointer offset count (shapes_named named.now pointer.map) }
+    ensures { result ≡ check_room pointer offset count (shapes_named named.now pointer.map) }
 {
     let Some(shape) = shape_of(named, pointer.map) else {
         return Err(Reason::OutsideValue);
@@ -76,14 +76,14 @@ pub(crate) fn room_of(
 }
 
 /// Checks that an argument of this kind points to `count` bytes that a helper may read. `named` has the maps by descriptor. The error is
-/// that of `read_many` for a pointer into the stack, `OutsideValue` for one into a value (`room_of`), `MaybeNull` for a look-up's result
+/// that of `check_read` for a pointer into the stack, `OutsideValue` for one into a value (`check_room`), `MaybeNull` for a look-up's result
 /// that may be null, and `HelperArgument` for anything else.
 fn input(named: &[Named], facts: &Facts, count: u32, kind: Kind) -> Result<(), Reason>
     ensures { result ≡ input_kind (shapes_named named.now) facts.now count kind }
 {
     match kind {
-        Kind::Stack(offset) => read_many(facts, offset, count),
-        Kind::Value(pointer) => room_of(named, pointer, 0, count),
+        Kind::Stack(offset) => check_read(facts, offset, count),
+        Kind::Value(pointer) => check_room(named, pointer, 0, count),
         Kind::MaybeValue { .. } => Err(Reason::MaybeNull),
         _ => Err(Reason::HelperArgument),
     }
@@ -91,7 +91,7 @@ fn input(named: &[Named], facts: &Facts, count: u32, kind: Kind) -> Result<(), R
 
 /// Updates the facts for a write of `length.lo` to `length.hi` bytes at an address of this kind; in the value of a map no fact changes.
 /// `check_length` has bounded the length, so it fits in 32 bits. The errors, after which no fact has changed: `OutsideStack` or
-/// `OutsideValue` if `length.hi` bytes don't all lie in the stack or in the value, or the value's descriptor names no map (`room_of`);
+/// `OutsideValue` if `length.hi` bytes don't all lie in the stack or in the value, or the value's descriptor names no map (`check_room`);
 /// `MaybeNull` for a look-up that may be null; `HelperArgument` for any other kind.
 fn output(facts: &mut Facts, named: &[Named], length: Range, kind: Kind) -> Result<(), Reason>
     requires { length.hi < lengths_end }
@@ -103,7 +103,7 @@ fn output(facts: &mut Facts, named: &[Named], length: Range, kind: Kind) -> Resu
 {
     match kind {
         Kind::Stack(offset) => fill_stack(facts, offset, length.lo as u32, length.hi as u32),
-        Kind::Value(pointer) => room_of(named, pointer, 0, length.hi as u32),
+        Kind::Value(pointer) => check_room(named, pointer, 0, length.hi as u32),
         Kind::MaybeValue { .. } => Err(Reason::MaybeNull),
         _ => Err(Reason::HelperArgument),
     }
@@ -111,7 +111,7 @@ fn output(facts: &mut Facts, named: &[Named], length: Range, kind: Kind) -> Resu
 
 /// The range of an argument that has to be a number. `HelperArgument` if it is none.
 fn check_number(kind: Kind) -> Result<Range, Reason>
-    ensures { result ≡ number_kind kind }
+    ensures { result ≡ number_range kind }
 {
     match kind {
         Kind::Scalar(range) => Ok(range),
@@ -122,7 +122,7 @@ fn check_number(kind: Kind) -> Result<Range, Reason>
 /// The range of a length argument. `LengthUnbounded` unless all of it is above 0 and below `LENGTHS_END`; `HelperArgument` if it is no
 /// number.
 fn check_length(kind: Kind) -> Result<Range, Reason>
-    ensures value { result ≡ length_kind kind }
+    ensures value { result ≡ length_range kind }
     ensures bound { IfOk result (λ r. r.hi < lengths_end) }
 {
     let Kind::Scalar(range) = kind else {

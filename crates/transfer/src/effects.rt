@@ -23,7 +23,7 @@ ghost use Rattle.transfer.specs.declared.branches.Flow.TheVariants.{Falls};
 
 use crate::arithmetic::{arithmetic, check_readable, of_scalar, result_range};
 use crate::branches::{Flow, branch};
-use crate::calls::{call, moved_by, room_of};
+use crate::calls::{call, check_room, moved_by};
 use insn_set::{AtomicSize, Insn, Load, Movsx, Operand, Reg};
 use interval::Range;
 use reg_kinds::{Facts, Kind, Reason, ValuePointer, loaded, read_stack, write_stack};
@@ -97,7 +97,7 @@ fn stack_offset(from: i32, offset: i16) -> Result<i32, Reason>
 
 /// The kind of a value that is loaded `offset` bytes from an address of the kind `base`, which the caller has found readable. A number is
 /// sign-extended (`signed`) or zero-extended. `named` lists the objects of descriptors. The error is that of `read_stack` for the stack, of
-/// `context_read` for the context, and of `room_of` for a value; `MaybeNull` for a look-up's result that may be null; else `NotPointer`.
+/// `context_read` for the context, and of `check_room` for a value; `MaybeNull` for a look-up's result that may be null; else `NotPointer`.
 #[inline(always)]
 fn load(
     facts: &Facts,
@@ -117,7 +117,7 @@ fn load(
         }
         Kind::Ctx => context_read(offset, size, signed),
         Kind::Value(pointer) => {
-            room_of(named, pointer, offset, u32::from(size.bytes()))?;
+            check_room(named, pointer, offset, u32::from(size.bytes()))?;
             Ok(loaded(size, signed))
         }
         Kind::MaybeValue { .. } => Err(Reason::MaybeNull),
@@ -140,7 +140,7 @@ fn store_outside(value: Kind) -> Result<(), Reason>
 /// Updates the facts for a store of a value of the kind `value`, `offset` bytes from an address of the kind `base`; both may be read, as
 /// the caller has tested. `named` lists the objects of descriptors. Returns the one stack slot that it may change; `None` for a store into
 /// the value of a map, which changes no fact. After an error no fact has changed. In the stack it is that of `stack_offset` or
-/// `write_stack`, and in a value that of `room_of` (`OutsideValue`) or `store_outside` (`PointerStored`). It is `ContextAccess` in the
+/// `write_stack`, and in a value that of `check_room` (`OutsideValue`) or `store_outside` (`PointerStored`). It is `ContextAccess` in the
 /// context, `MaybeNull` for a look-up's result that may be null, and `NotPointer` for any other kind.
 #[inline(always)]
 fn store(
@@ -170,7 +170,7 @@ fn store(
         }
         Kind::Ctx => Err(Reason::ContextAccess),
         Kind::Value(pointer) => {
-            room_of(named, pointer, offset, u32::from(size.bytes()))?;
+            check_room(named, pointer, offset, u32::from(size.bytes()))?;
             store_outside(value)?;
             Ok(None)
         }
@@ -221,7 +221,7 @@ fn is_known_multiple(pointer: ValuePointer, offset: i16, size: AccessSize) -> bo
 /// may be read, as the caller has tested. `named` lists the objects of descriptors. Returns the stack slot that the operation may change;
 /// `None` in the value of a map, since no fact changes. After an error no fact has changed. In the stack and in a value the error is
 /// `PointerArithmetic` if the operand is no number. Otherwise, in the stack, it is that of `stack_offset` or `change_stack`; in a value it
-/// is that of `room_of` (`OutsideValue`), or `UnalignedAtomic` if the offset is not known or no multiple of the size. It is `ContextAccess`
+/// is that of `check_room` (`OutsideValue`), or `UnalignedAtomic` if the offset is not known or no multiple of the size. It is `ContextAccess`
 /// in the context, `MaybeNull` for a look-up's result that may be null, and `NotPointer` for any other kind.
 fn change(
     facts: &mut Facts,
@@ -248,7 +248,7 @@ fn change(
         Kind::Ctx => Err(Reason::ContextAccess),
         Kind::Value(pointer) => {
             number_or(Reason::PointerArithmetic, value)?;
-            room_of(named, pointer, offset, u32::from(access.bytes()))?;
+            check_room(named, pointer, offset, u32::from(access.bytes()))?;
             if is_known_multiple(pointer, offset, access) {
                 Ok(None)
             } else {

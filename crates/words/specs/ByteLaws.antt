@@ -139,11 +139,11 @@ before bytes rest offset from n h k =
     ∙ ap (take n) (take-append-drop (offset - from) (drop from bytes))
 
 -- a write does not change the list from `from` on, if each written byte is before `from`
-behind : (bytes new : List ℕ) (offset from : ℕ)
+rest_after_write : (bytes new : List ℕ) (offset from : ℕ)
     → offset + length new ≤ from
     → offset ≤ length bytes
     → drop from (written_at bytes offset new) ≡ drop from bytes
-behind bytes new offset from h k =
+rest_after_write bytes new offset from h k =
     let long : length (take offset bytes) ≡ offset = omega (arith, length-take offset bytes) in
     let far : from ≡ length (take offset bytes) + (length new + (from - (offset + length new))) =
     omega arith in
@@ -163,7 +163,7 @@ pub bytes_stay : (bytes new : List ℕ) (offset from n : ℕ)
 bytes_stay bytes new offset from n k (inl h) =
     before bytes (new ++ drop (offset + length new) bytes) offset from n h (omega arith)
 bytes_stay bytes new offset from n k (inr h) =
-    ap (take n) (behind bytes new offset from h (omega arith))
+    ap (take n) (rest_after_write bytes new offset from h (omega arith))
 
 -- to write `new` at offset + at and then take the `size` bytes from `offset` on gives the same as
 -- to take these bytes first and then write `new` at `at`; all bytes written lie among them

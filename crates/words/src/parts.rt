@@ -13,7 +13,7 @@ pub(crate) fn low_byte(a: u64) -> u8
 
 /// The low 16 bits of a word, a half word as in `AccessSize::Half`. The low half of 64 bits is `low_word`.
 #[inline(always)]
-pub(crate) fn low_half(a: u64) -> u16
+pub(crate) fn low_16_bits(a: u64) -> u16
     ensures { result ≡ low 16 a }
 {
     (a % 0x1_0000) as u16

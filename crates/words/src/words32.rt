@@ -9,7 +9,7 @@ ghost use Rattle.words.specs.Operate.{extended_bits, operate};
 ghost use Rattle.words.specs.Compare.{compares};
 
 use crate::operator::{AluOp, Condition, ExtendedBits, Operator};
-use crate::parts::{low_byte, low_half, low_word};
+use crate::parts::{low_16_bits, low_byte, low_word};
 use crate::words64;
 
 /// The sum of the low halves, modulo 2^32.
@@ -172,7 +172,7 @@ pub fn sign_extend(from: ExtendedBits, a: u64) -> u64
 {
     match from {
         ExtendedBits::Bits8 => u64::from(i32::from(low_byte(a).cast_signed()).cast_unsigned()),
-        ExtendedBits::Bits16 => u64::from(i32::from(low_half(a).cast_signed()).cast_unsigned()),
+        ExtendedBits::Bits16 => u64::from(i32::from(low_16_bits(a).cast_signed()).cast_unsigned()),
         ExtendedBits::Bits32 => u64::from(low_word(a)),
     }
 }

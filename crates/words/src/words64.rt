@@ -8,7 +8,7 @@ ghost use Rattle.words.specs.Operate.{extended_bits, byte_order, operate};
 ghost use Rattle.words.specs.Compare.{compares};
 
 use crate::operator::{AluOp, ByteOrder, Condition, ExtendedBits, KeptBits, Operator};
-use crate::parts::{low_byte, low_half, low_word};
+use crate::parts::{low_16_bits, low_byte, low_word};
 
 /// The sum, modulo 2^64.
 #[inline(always)]
@@ -141,7 +141,7 @@ pub fn sign_extend(from: ExtendedBits, a: u64) -> u64
 {
     match from {
         ExtendedBits::Bits8 => i64::from(low_byte(a).cast_signed()).cast_unsigned(),
-        ExtendedBits::Bits16 => i64::from(low_half(a).cast_signed()).cast_unsigned(),
+        ExtendedBits::Bits16 => i64::from(low_16_bits(a).cast_signed()).cast_unsigned(),
         ExtendedBits::Bits32 => i64::from(low_word(a).cast_signed()).cast_unsigned(),
     }
 }
@@ -153,10 +153,10 @@ pub fn byte_order(how: ByteOrder, bits: KeptBits, a: u64) -> u64
     ensures { result ≡ byte_order how bits a }
 {
     match (how, bits) {
-        (ByteOrder::Little, KeptBits::Bits16) => u64::from(low_half(a)),
+        (ByteOrder::Little, KeptBits::Bits16) => u64::from(low_16_bits(a)),
         (ByteOrder::Little, KeptBits::Bits32) => u64::from(low_word(a)),
         (ByteOrder::Little, KeptBits::Bits64) => a,
-        (_, KeptBits::Bits16) => u64::from(low_half(a).swap_bytes()),
+        (_, KeptBits::Bits16) => u64::from(low_16_bits(a).swap_bytes()),
         (_, KeptBits::Bits32) => u64::from(low_word(a).swap_bytes()),
         (_, KeptBits::Bits64) => a.swap_bytes(),
     }

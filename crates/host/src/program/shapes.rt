@@ -31,7 +31,7 @@ fn first_field(text: &str) -> Option<(&str, &str)>
 
 /// The first four fields of an argument, and the text after the fourth colon; `None` if the argument has fewer than four colons. A colon in
 /// that text is rejected later, since it is no digit.
-fn five_parts(argument: &str) -> Option<(&str, &str, &str, &str, &str)>
+fn five_fields(argument: &str) -> Option<(&str, &str, &str, &str, &str)>
     ensures parts { IfSome result (λ cut. map_fields argument.now
         ≡ cut.0.now ∷ cut.1.now ∷ cut.2.now ∷ cut.3.now ∷ map_fields cut.4.now) }
     ensures few { IfNone result (length (map_fields argument.now) < 5) }
@@ -86,7 +86,7 @@ fn descriptor(field: &str) -> Option<u32>
 fn map_of(argument: &str) -> Option<Named>
     ensures { (map : AnyNamed) → (result ≡ Some map) ↔ IsMapArgument argument.now map }
 {
-    let (fd, kind, key_size, value_size, max_entries) = five_parts(argument)?;
+    let (fd, kind, key_size, value_size, max_entries) = five_fields(argument)?;
     let shape = shape_of(kind, key_size, value_size, max_entries)?;
     let fd = descriptor(fd)?;
     Some(Named {
@@ -108,7 +108,7 @@ pub fn read_shape(argument: &str) -> Result<Named, BadShape>
 }
 
 /// Whether one of the maps has the descriptor `fd`.
-fn is_open(maps: &[Named], fd: u32) -> bool
+fn has_descriptor(maps: &[Named], fd: u32) -> bool
     ensures { result ≡ has_descriptor fd maps.now }
 {
     maps.iter().any(|map| map.fd == fd)
@@ -123,7 +123,7 @@ fn further_map(maps: &[Named], argument: &str) -> Option<Named>
         → has_descriptor map.fd maps.now ≡ true) }
 {
     let map = read_shape(argument).ok()?;
-    if is_open(maps, map.fd) {
+    if has_descriptor(maps, map.fd) {
         None
     } else {
         Some(map)

@@ -7,7 +7,7 @@ use crate::needs::RefusedProgram;
 use crate::needs::registers::{kind_of, register_of, write_maybe_null, write_register};
 use crate::ways::{Wanted, is_written, write_way};
 use insn_codec::{AccessSize, Insn, Reg};
-use log_facts::{write_bytes, write_kind};
+use log_facts::{write_byte_range, write_kind};
 use reg_kinds::{Facts, Kind, Reason, Slot, ValuePointer};
 use std::alloc::AllocError;
 use std::fmt::Write;
@@ -47,18 +47,24 @@ struct Access {
     bytes: i64,
     /// The number of the source register of a store or of an atomic operation; `None` for a load, and for a store of a constant.
     given: Option<u8>,
-    deed: AccessKind,
+    access_kind: AccessKind,
 }
 
 /// The access to `size` bytes, `off` bytes from the address in `base`. `given` is the number of the register whose value it stores or
 /// computes with; `None` for a load, and for a store of a constant.
-fn access_at(base: Reg, off: i16, size: AccessSize, given: Option<u8>, deed: AccessKind) -> Access {
+fn access_at(
+    base: Reg,
+    off: i16,
+    size: AccessSize,
+    given: Option<u8>,
+    access_kind: AccessKind,
+) -> Access {
     Access {
         base: base.number(),
         offset: i64::from(off),
         bytes: i64::from(size.bytes()),
         given,
-        deed,
+        access_kind,
     }
 }
 
@@ -124,7 +130,7 @@ pub(crate) fn touched(kind: Kind, offset: i64, bytes: i64) -> (i64, i64) {
 /// Writes which bytes the instruction reads, writes or changes (`verb`), as `it reads bytes -8 to -1`.
 fn write_touched(text: &mut String, verb: &str, first: i64, last: i64) -> Result<(), AllocError> {
     write!(text, "it {verb} ")?;
-    write_bytes(text, first, last)
+    write_byte_range(text, first, last)
 }
 
 /// Writes which bytes the instruction reads, writes or changes (`verb`), not all of which lie in the stack.
@@ -163,7 +169,7 @@ pub(crate) fn write_unwritten(
     last: i64,
 ) -> Result<(), AllocError> {
     let (first, last) = unwritten(refusal.facts, first, last);
-    write_bytes(text, first, last)?;
+    write_byte_range(text, first, last)?;
     text.push_str(" of the stack ")?;
     write_way(text, refusal, Wanted::Stack { first, last })
 }
@@ -214,7 +220,7 @@ pub(crate) fn write_part_of_spill(
 
 /// Writes the kind of a register, which is a pointer or a map, and that only a store of eight bytes may store the register. The
 /// rejected store stores `bytes` bytes, and this is written too.
-fn write_part_stored(
+fn write_store_size(
     text: &mut String,
     facts: &Facts,
     register: u8,
@@ -251,8 +257,8 @@ pub(crate) fn write_outside_value(
 /// Writes what is wrong with an access to the context. A load has to read a whole aligned word without its sign; a store or an atomic
 /// operation (the arm `_`) is never allowed.
 fn write_context(text: &mut String, access: Access) -> Result<(), AllocError> {
-    let (verb, bytes, offset) = (access.deed.verb(), access.bytes, access.offset);
-    let sign = match access.deed {
+    let (verb, bytes, offset) = (access.access_kind.verb(), access.bytes, access.offset);
+    let sign = match access.access_kind {
         AccessKind::Load => "",
         AccessKind::SignedLoad => " with their sign",
         _ => return write!(text, "it {verb} the context, which may be read only"),
@@ -313,7 +319,7 @@ fn write_stack_need(
     first: i64,
     last: i64,
 ) -> Result<(), AllocError> {
-    let (verb, bytes) = (access.deed.verb(), access.bytes);
+    let (verb, bytes) = (access.access_kind.verb(), access.bytes);
     match (refusal.fault.reason, access.given) {
         (Reason::OutsideStack, _) => write_outside_stack(text, verb, first, last),
         (Reason::UnalignedStack, _) => {
@@ -323,8 +329,8 @@ fn write_stack_need(
             )
         }
         (Reason::UnwrittenStack, _) => write_unwritten(text, refusal, first, last),
-        (_, Some(register)) if access.deed == AccessKind::Store => {
-            write_part_stored(text, refusal.facts, register, bytes)
+        (_, Some(register)) if access.access_kind == AccessKind::Store => {
+            write_store_size(text, refusal.facts, register, bytes)
         }
         _ => write_part_of_spill(text, refusal.facts, verb, first, last),
     }
@@ -366,7 +372,7 @@ fn write_access_need(
             write_outside_value(
                 text,
                 refusal.named,
-                access.deed.verb(),
+                access.access_kind.verb(),
                 pointer.map,
                 first,
                 last,

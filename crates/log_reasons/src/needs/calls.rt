@@ -7,7 +7,7 @@ use crate::needs::access::{
 };
 use crate::needs::registers::{kind_of, write_maybe_null, write_register};
 use log_facts::write_range;
-use reg_kinds::{Facts, Kind, Reason, read_many};
+use reg_kinds::{Facts, Kind, Reason, check_read};
 use std::alloc::AllocError;
 use std::fmt::Write;
 use tagged_model::{Helper, Named, known_helper, shape_of};
@@ -108,7 +108,7 @@ pub(crate) fn has_argument(id: i32, register: u8) -> bool {
 /// How many bytes an argument points to: the size of a key or a value of the map in register 1, or the greatest length that register 4 may
 /// have. 0 if it points to none, or if no map or length is known, or the length does not fit 32 bits: then the map or the length is itself
 /// rejected.
-fn count_of(named: &[Named], facts: &Facts, role: Role) -> u32 {
+fn byte_count(named: &[Named], facts: &Facts, role: Role) -> u32 {
     let (map, length) = (kind_of(facts, 1), kind_of(facts, 4));
     match (role, map, length) {
         (Role::Key, Kind::MapRef(fd), _) => shape_of(named, fd).map_or(0, |shape| shape.key_size),
@@ -126,14 +126,14 @@ fn is_outside_stack(first: i64, last: i64) -> bool {
 /// Why the bytes that an argument points to may not be read, or in the role `Room` not be written; `None` if they may. Room in the stack
 /// only has to lie in it: unwritten bytes and spills may be overwritten. The last arm has what is no pointer to the stack or to a value.
 fn bytes_reason(named: &[Named], facts: &Facts, role: Role, kind: Kind) -> Option<Reason> {
-    let count = count_of(named, facts, role);
+    let count = byte_count(named, facts, role);
     let (first, last) = touched(kind, 0, i64::from(count));
     match kind {
         Kind::Stack(_) if role == Role::Room && is_outside_stack(first, last) => {
             Some(Reason::OutsideStack)
         }
         Kind::Stack(_) if role == Role::Room => None,
-        Kind::Stack(offset) => read_many(facts, offset, count).err(),
+        Kind::Stack(offset) => check_read(facts, offset, count).err(),
         Kind::Value(pointer) => {
             if first < 0 || last >= i64::from(value_size_of(named, pointer.map)) {
                 Some(Reason::OutsideValue)
@@ -206,7 +206,7 @@ fn write_argument(
 ) -> Result<(), AllocError> {
     let (register, role, facts) = (argument.register, argument.role, refusal.facts);
     let kind = kind_of(facts, register);
-    let count = count_of(refusal.named, facts, role);
+    let count = byte_count(refusal.named, facts, role);
     let (first, last) = touched(kind, 0, i64::from(count));
     let verb = if role == Role::Room {
         "writes"

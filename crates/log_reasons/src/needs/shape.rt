@@ -16,7 +16,7 @@ fn far_target(insn: &Insn, slot: usize) -> i64 {
 }
 
 /// Writes the target of a jump: a slot that the program does not have, or the second half of a wide instruction.
-fn write_outside(
+fn write_wrong_target(
     text: &mut String,
     refusal: &RefusedProgram<'_>,
     insn: &Insn,
@@ -115,7 +115,7 @@ pub(crate) fn write_need(
 ) -> Result<(), AllocError> {
     let slot = refusal.fault.slot;
     match refusal.fault.reason {
-        Reason::JumpOutside => write_outside(text, refusal, insn),
+        Reason::JumpOutside => write_wrong_target(text, refusal, insn),
         Reason::JumpBackward => write_backward(text, refusal, insn),
         Reason::FallsOff => write_falls_off(text, refusal),
         Reason::Unreachable => write!(text, "none leads from slot 0 to slot {slot}"),

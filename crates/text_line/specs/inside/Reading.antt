@@ -60,8 +60,8 @@ seen_pair o = option_map (λ p. (p.0, shown_tokens p.1.now)) o
 
 -- the bytes of a name or a symbol that the code has read, and the tokens after it, as definitions
 -- have them; `None` if it has read none
-abbrev pub seen_label : Option (Bor (List ℕ) × Bor (List CodeToken)) → Option (List ℕ × List Token)
-seen_label o = option_map (λ p. (p.0.now, shown_tokens p.1.now)) o
+abbrev pub seen_token : Option (Bor (List ℕ) × Bor (List CodeToken)) → Option (List ℕ × List Token)
+seen_token o = option_map (λ p. (p.0.now, shown_tokens p.1.now)) o
 
 -- what the code has read, and the name of the label that it names, empty if it names none; `None`
 -- if the code has read nothing

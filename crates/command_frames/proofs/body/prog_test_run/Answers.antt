@@ -7,5 +7,5 @@ pub returns : goal.returns
 returns c =
     let body = c.args.body.now in
     run_read body (take (length body - 4) (drop 4 body)) (take (length body - 44) (drop 44 body))
-    c.given_words.result c.word.result (omega arith) c.word.ensures
-    c.given_words.ensures (take_rest body 4) (take_rest body 44)
+    c.read_words.result c.word.result (omega arith) c.word.ensures
+    c.read_words.ensures (take_rest body 4) (take_rest body 44)

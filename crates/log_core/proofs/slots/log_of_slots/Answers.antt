@@ -5,4 +5,4 @@ use Rattle.log_core.proofs.slots.log_of_slots.Goals as goal
 pub returns-in-Ok : goal.returns-in-Ok
 returns-in-Ok c =
     let found = c.in-Ok.ensures.found in
-    IfOk-weaker c.logged.result _ _ (λ log is. inl (c.in-Ok.program, found.0, found.1, is)) c.logged.ensures
+    IfOk-weaker c.log_without_facts.result _ _ (λ log is. inl (c.in-Ok.program, found.0, found.1, is)) c.log_without_facts.ensures

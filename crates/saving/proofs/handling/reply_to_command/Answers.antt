@@ -54,7 +54,7 @@ returns-in-MapCreate-clause-replied c =
       whole = e.length;
     } in
     on_lent c.parts_are_apart.ensures c.args.tenant.now c.create-answer.new.self lent
-    (seen e.answer.0 c.create-answer.result c.in-MapCreate.is e.answer.1 e.writable c.write_answer.ensures
+    (seen e.answer.0 c.create-answer.result c.in-MapCreate.is e.answer.1 e.writable c.write_command_reply.ensures
     (c.note.ensures
     ∙ births_opened c.create-answer.result
     (state_in c.create-answer.new.part c.create-answer.new.self)
@@ -70,7 +70,7 @@ returns-in-MapUpdate-clause-replied c =
       whole = e.length;
     } in
     on_lent c.parts_are_apart.ensures c.args.tenant.now c.update-answer.new.self lent
-    (seen false c.update-answer.result c.in-MapUpdate.is e.answer e.writable c.write_answer-in-MapUpdate.ensures refl)
+    (seen false c.update-answer.result c.in-MapUpdate.is e.answer e.writable c.write_command_reply-in-MapUpdate.ensures refl)
 
 pub returns-in-Close-clause-replied : goal.returns-in-Close-clause-replied
 returns-in-Close-clause-replied c =
@@ -82,7 +82,7 @@ returns-in-Close-clause-replied c =
       whole = e.length;
     } in
     on_lent c.parts_are_apart.ensures c.args.tenant.now c.close-answer.new.self lent
-    (seen false c.close-answer.result c.in-Close.is e.answer e.writable c.write_answer-in-Close.ensures
+    (seen false c.close-answer.result c.in-Close.is e.answer e.writable c.write_command_reply-in-Close.ensures
     (c.keep_living.ensures c.close-answer.new.part
     ∙ ap (λ (s : TenantState). filter (lives s) c.args.births.now)
     (shown_after c.close-answer.result (state_in c.close-answer.new.part c.close-answer.new.self))))
@@ -99,24 +99,24 @@ returns-in-MapLookup-clause-replied c =
     Answers false (state_in bytes k) (map_lookup a.fd a.key.now)
     (shown_answer c.look_up-answer.result (state_in bytes k)))
     c.part.ensures.bytes e.answer)
-    e.writable c.write_answer-in-MapLookup.ensures refl
+    e.writable c.write_command_reply-in-MapLookup.ensures refl
 
 pub returns-in-MapDelete-clause-replied : goal.returns-in-MapDelete-clause-replied
 returns-in-MapDelete-clause-replied c =
     let e = c.delete-answer.ensures in
     seen false c.delete-answer.result c.in-MapDelete.is
     (e.answer (part_bytes c.args.arena.now c.args.number))
-    e.writable c.write_answer-in-MapDelete.ensures refl
+    e.writable c.write_command_reply-in-MapDelete.ensures refl
 
 pub returns-in-MapNextKey-clause-replied : goal.returns-in-MapNextKey-clause-replied
 returns-in-MapNextKey-clause-replied c =
     let e = c.next_key-answer.ensures in
     seen false c.next_key-answer.result c.in-MapNextKey.is
     (e.answer (part_bytes c.args.arena.now c.args.number))
-    e.writable c.write_answer-in-MapNextKey.ensures refl
+    e.writable c.write_command_reply-in-MapNextKey.ensures refl
 
-pub write_answer-requires-in-ProgLoad : goal.write_answer-requires-in-ProgLoad
-write_answer-requires-in-ProgLoad c =
+pub write_command_reply-requires-in-ProgLoad : goal.write_command_reply-requires-in-ProgLoad
+write_command_reply-requires-in-ProgLoad c =
     let short =
     subst (λ (x : CodeCommand). tail_length (shown_command x) ≤ longest_frame) c.in-ProgLoad.is c.requires.short in
     c.load-loaded.ensures.writable (omega (arith, short))
@@ -128,7 +128,7 @@ returns-in-ProgLoad-clause-replied c =
     subst (λ (x : CodeCommand). tail_length (shown_command x) ≤ longest_frame) c.in-ProgLoad.is c.requires.short in
     let (refused, loads) = e.answer (part_bytes c.args.arena.now c.args.number) in
     seen refused c.load-loaded.result c.in-ProgLoad.is loads (e.writable (omega (arith, short)))
-    c.write_answer-in-ProgLoad.ensures
+    c.write_command_reply-in-ProgLoad.ensures
     (c.note-in-ProgLoad.ensures
     ∙ births_opened c.load-loaded.result
     (state_in (part_bytes c.args.arena.now c.args.number) c.load-loaded.new.self)
@@ -138,4 +138,4 @@ pub returns-in-ProgTestRun-clause-replied : goal.returns-in-ProgTestRun-clause-r
 returns-in-ProgTestRun-clause-replied c =
     let e = c.test_run-answer.ensures in
     seen false c.test_run-answer.result c.in-ProgTestRun.is e.answer e.writable
-    c.write_answer-in-ProgTestRun.ensures refl
+    c.write_command_reply-in-ProgTestRun.ensures refl

@@ -11,8 +11,8 @@ returns-in_err-map-clause-only c =
     (sym c.from_residual.ensures)
     (λ map is. absurd (none_read c.read_shape.result map c.in_err-map.ensures.value ((c.read_shape.ensures map).1 is)))
 
-pub returns-then-is_open-clause-only : goal.returns-then-is_open-clause-only
-returns-then-is_open-clause-only c = λ map is.
+pub returns-then-has_descriptor-clause-only : goal.returns-then-has_descriptor-clause-only
+returns-then-has_descriptor-clause-only c = λ map is.
     let same =
     one_read c.read_shape.result c.in_ok-map.map map c.in_ok-map.ensures.value ((c.read_shape.ensures map).1 is) in
-    ap (λ (m : Named). has_descriptor m.fd c.args.maps.now) (sym same) ∙ (sym c.is_open.ensures ∙ c.if-is_open.true)
+    ap (λ (m : Named). has_descriptor m.fd c.args.maps.now) (sym same) ∙ (sym c.has_descriptor.ensures ∙ c.if-has_descriptor.true)

@@ -57,18 +57,18 @@ returns-in-Ok-clause-no_fault c =
 pub returns-in-Err-clause-replied : goal.returns-in-Err-clause-replied
 returns-in-Err-clause-replied c =
     let s = tenant_state (part_bytes c.args.arena.now c.args.tenant) c.args.self.now in
-    refused_frame c.args.frame.now c.write_answer.new.reply s c.in-Err.fault c.frame_error.result c.args.head
-    c.requires.head (sym c.in-Err.ensures) c.frame_error.ensures.errno (c.write_answer.ensures s)
+    refused_frame c.args.frame.now c.write_command_reply.new.reply s c.in-Err.fault c.frame_error.result c.args.head
+    c.requires.head (sym c.in-Err.ensures) c.frame_error.ensures.errno (c.write_command_reply.ensures s)
 
 pub returns-in-Err-clause-recorded : goal.returns-in-Err-clause-recorded
 returns-in-Err-clause-recorded c =
     let s = tenant_state (part_bytes c.args.arena.now c.args.tenant) c.args.self.now in
-    refused_record c.args.frame.now c.write_answer.new.reply s c.args.self.now.births c.in-Err.fault
+    refused_record c.args.frame.now c.write_command_reply.new.reply s c.args.self.now.births c.in-Err.fault
     c.frame_error.result c.args.head
-    c.requires.head (sym c.in-Err.ensures) c.frame_error.ensures.errno (c.write_answer.ensures s)
+    c.requires.head (sym c.in-Err.ensures) c.frame_error.ensures.errno (c.write_command_reply.ensures s)
 
 pub returns-in-Err-clause-no_fault : goal.returns-in-Err-clause-no_fault
 returns-in-Err-clause-no_fault c =
     let s = tenant_state (part_bytes c.args.arena.now c.args.tenant) c.args.self.now in
-    refused_no_fault c.args.frame.now c.write_answer.new.reply s c.frame_error.result c.args.head
-    c.requires.head c.frame_error.ensures.no_fault (c.write_answer.ensures s)
+    refused_no_fault c.args.frame.now c.write_command_reply.new.reply s c.frame_error.result c.args.head
+    c.requires.head c.frame_error.ensures.no_fault (c.write_command_reply.ensures s)

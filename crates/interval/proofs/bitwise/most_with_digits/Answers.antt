@@ -1,7 +1,7 @@
 use Rattle.std.proofs.Common.{ap, arith, ◌∙◌, ◌^◌, ◌-◌, sym}
 use Rattle.interval.specs.Table.{binary_digits}
 use Rattle.interval.proofs.Digits.{below_digits, digits_shifted, no_digits}
-use Rattle.interval.proofs.bitwise.digits_end.Goals as goal
+use Rattle.interval.proofs.bitwise.most_with_digits.Goals as goal
 
 pub returns-then-most-eq0-clause-value : goal.returns-then-most-eq0-clause-value
 returns-then-most-eq0-clause-value c =

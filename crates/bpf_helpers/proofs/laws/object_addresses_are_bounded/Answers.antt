@@ -1,5 +1,5 @@
 use Rattle.bpf_helpers.proofs.Addresses.{pointers_low}
-use Rattle.bpf_helpers.proofs.laws.pointers_are_low.Goals as goal
+use Rattle.bpf_helpers.proofs.laws.object_addresses_are_bounded.Goals as goal
 
 pub returns : goal.returns
 returns c = pointers_low

@@ -1,5 +1,5 @@
 use Rattle.command_frames.proofs.Words.{words_in_front}
-use Rattle.command_frames.proofs.body.given_words.Goals as goal
+use Rattle.command_frames.proofs.body.read_words.Goals as goal
 
 pub returns : goal.returns
 returns c = words_in_front c.args.bytes.now c.read_u32_into.new.dst c.read_u32_into.auto.dst c.read_u32_into.ensures

@@ -1,7 +1,7 @@
 use Rattle.std.proofs.Common.{sym, ◌∙◌, w32}
 use Rattle.std.proofs.Math.Facts.{to_z-of_z}
 use Rattle.reg_kinds.proofs.SlotTests.{input_is}
-use Rattle.reg_kinds.proofs.many.read_many.Goals as goal
+use Rattle.reg_kinds.proofs.many.check_read.Goals as goal
 
 pub returns-then-are_missing : goal.returns-then-are_missing
 returns-then-are_missing c =

@@ -67,7 +67,8 @@ HasKind witness k o = (v : Tagged) × (o ≡ Some v) × IsOfKind witness k v
 
 -- ---- stack slots
 
--- a value that a cell keeps whole, a map or a pointer; a number is stored as bytes
+-- a value that a cell, the content of a stack slot, keeps whole: a map or a pointer. A cell has a
+-- number only as bytes
 abbrev pub IsKeptWhole : Tagged → Type 0
 IsKeptWhole (Scalar n) = ⊥
 IsKeptWhole (Map m) = Unit {0}
@@ -96,7 +97,8 @@ HasSlot witness (Spill k) c = HoldsWhole witness k c ⊎ HoldsNull witness k c
 
 -- ---- states
 
--- the number of objects that a map has had, 0 if there is no map
+-- the number of values (objects of the run) that a map has had since the run began, with those that
+-- were deleted since; 0 if there is no map (None)
 abbrev pub objects_of : Option RunMap → ℕ
 objects_of None = 0
 objects_of (Some t) = t.count

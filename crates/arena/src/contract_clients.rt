@@ -11,8 +11,8 @@ use crate::laws;
 use crate::memory::Arena;
 use crate::trace::Trace;
 
-/// Stores a number at offset `at` of a tenant's part: it is written in that part's bytes, and no other part changes. The store is never
-/// `None`, since its range is in the part (`room`).
+/// Stores a number as eight bytes, the lowest first, at offset `at` of a tenant's part: only these bytes of that part change, and no other
+/// part changes. The store is never `None`, since its range is in the part (`room`).
 fn store_within(arena: &mut Arena, tenant: usize, at: usize, value: u64, trace: &mut Trace)
     requires tenant { tenant < arena.old.parts }
     requires room { at + 8 ≤ arena.old.part }
@@ -24,7 +24,8 @@ fn store_within(arena: &mut Arena, tenant: usize, at: usize, value: u64, trace: 
     let _ = arena.store(address, 8, value, trace);
 }
 
-/// Copies eight bytes from offset `from` to offset `to` of a tenant's part: they are written in its bytes, and no other part changes.
+/// Copies eight bytes from offset `from` to offset `to` of a tenant's part; the two ranges may overlap. At `to` the part then has the bytes
+/// that were at `from` before the call, and no other part changes. The copy is never `None`, since both ranges are in the part.
 fn copy_within(arena: &mut Arena, tenant: usize, to: usize, from: usize, trace: &mut Trace)
     requires tenant { tenant < arena.old.parts }
     requires to { to + 8 ≤ arena.old.part }

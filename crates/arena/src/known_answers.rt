@@ -21,8 +21,8 @@ fn number_stored_and_loaded(alloc: Global) -> Result<(), AllocError> {
     Ok(())
 }
 
-/// `load_inside` loads what `store_inside` has stored: the eight bytes of a number, or only the last of them. A store of two bytes stores
-/// the low two of its number, and leaves the bytes after them zero.
+/// In an arena of 32 bytes, `load_inside` loads what `store_inside` has stored: the eight bytes of a number, or only the last of them,
+/// which is its high byte. A store of two bytes stores the low two of its number. The bytes after them remain zero, as in a new arena.
 fn number_stored_and_loaded_inside(alloc: Global) -> Result<(), AllocError> {
     let mut arena = Arena::new(alloc, 2, 16)?;
     let mut trace = Trace::new();
@@ -37,8 +37,9 @@ fn number_stored_and_loaded_inside(alloc: Global) -> Result<(), AllocError> {
     Ok(())
 }
 
-/// If the eight bytes from `address` on do not all lie in an arena of 32 bytes, a load or a store of them, and a copy to or from them, give
-/// `None`. It fails only if memory is refused.
+/// An arena of 32 bytes begins at the address `BASE`. If the eight bytes from `address` on do not all lie in the arena, a load or a store
+/// of these bytes, and a copy to or from them, give `None`. For any other `address` the function returns before these calls. `AllocError`:
+/// memory for the arena is refused.
 fn accesses_outside(alloc: Global, address: u64) -> Result<(), AllocError> {
     let mut arena = Arena::new(alloc, 2, 16)?;
     let mut trace = Trace::new();
@@ -56,7 +57,8 @@ fn accesses_outside(alloc: Global, address: u64) -> Result<(), AllocError> {
     Ok(())
 }
 
-/// Overlapping ranges are copied like memmove.
+/// Overlapping ranges are copied like memmove: four bytes to the next higher address, then three bytes to an address lower by two. The
+/// address to which `copy` writes is its first argument, that from which it reads its second.
 fn overlapping_copies(alloc: Global) -> Result<(), AllocError> {
     let mut arena = Arena::new(alloc, 1, 16)?;
     let mut trace = Trace::new();

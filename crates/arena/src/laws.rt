@@ -7,20 +7,20 @@ pub fn writes_stay_inside()
     ensures { WritesStayInside }
 {}
 
-/// If all bytes of a part are replaced, as through a lent part, the part has the new bytes, and every other part and the size of the memory
-/// are unchanged.
+/// If all bytes of a part are replaced, as by a caller that writes to the slice of `part_mut`, the part has the new bytes, and every other
+/// part and the size of the memory are unchanged.
 pub fn parts_are_apart()
     ensures { PartsAreApart }
 {}
 
-/// Bytes written into a part, by an offset in the memory or through the lent part, are written at their offset in the part's bytes, and the
-/// size of the memory is unchanged.
+/// A write of bytes within a part, by their offset in the memory, writes them at their offset in the part's bytes, and leaves the size of
+/// the memory unchanged. Through the lent part (`part_mut`), a write of these bytes gives the same memory as by the offset in the memory.
 pub fn writes_are_in_parts()
     ensures { WritesAreInParts }
 {}
 
-/// A load within a part returns the number that the part's bytes make. A store or a copy within a part writes only in the part's bytes, and
-/// leaves the other parts unchanged.
+/// A load within a part returns the number that the loaded bytes of the part make, little-endian. A store within a part, or a copy from one
+/// range of a part to another range of this part, changes only the bytes of the range that it writes. The other parts are unchanged.
 pub fn accesses_are_in_parts()
     ensures { AccessesAreInParts }
 {}

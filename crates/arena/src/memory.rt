@@ -50,7 +50,8 @@ fn offset_inside(memory_size: usize, size: usize, address: u64) -> usize
     (address % BASE) as usize
 }
 
-/// The offset of `size` bytes at `address`; `None` if they don't lie in a memory of `memory_size` bytes.
+/// The offset, from the start of the memory, of the `size` bytes from `address` on; `None` if they don't all lie in a memory of
+/// `memory_size` bytes. The first address of the memory is `BASE`. No arena has more than 2^28 bytes.
 #[inline(always)]
 fn offset(memory_size: usize, size: usize, address: u64) -> Option<usize>
     requires { memory_size ≤ 2 ^ 28 }
@@ -110,7 +111,7 @@ impl Arena {
         let _ = &self.bytes;
     }
 
-    /// The offset of the part of `tenant` in the memory, in bytes. Tenants are numbered from 0.
+    /// The offset of the part of `tenant` in the memory, in bytes. Tenants are numbered from 0. `bound`: the memory has at most 2^28 bytes.
     fn start(&self, tenant: usize) -> usize
         requires { tenant < self.now.parts }
         ensures value { result ≡ part_start self.now tenant }
@@ -170,8 +171,8 @@ impl Arena {
         Some(())
     }
 
-    /// Loads a little-endian number of `size` bytes (1, 2, 4 or 8) at `address`. The caller knows that they are in the memory (`inside`),
-    /// so there is no test.
+    /// Loads a little-endian number of `size` bytes (1, 2, 4 or 8) at `address`. The caller knows that these bytes are in the memory
+    /// (`inside`), so there is no test. The trace gets the range.
     #[inline(always)]
     pub fn load_inside(&self, address: u64, size: usize, trace: &mut Trace) -> u64
         requires size { IsSize size }
@@ -238,7 +239,7 @@ impl Arena {
     }
 
     /// Copies `length` bytes, at least one, from address `from` to `to` like memmove: the ranges may overlap. The caller knows that both
-    /// are in the memory (`source`, `target`), so there is no test.
+    /// are in the memory (`source`, `target`), so there is no test. The trace gets the range at `from` and then that at `to`.
     #[inline(always)]
     pub fn copy_inside(&mut self, to: u64, from: u64, length: usize, trace: &mut Trace)
         requires some { 1 ≤ length }

@@ -84,8 +84,9 @@ fn low_byte(value: u64) -> [u8; 1]
 }
 
 /// Writes the low `size` bytes (1, 2, 4 or 8) of `value` at offset `at` of `bytes`, little-endian. Each size has its own conversion. If all
-/// sizes converted eight bytes and wrote the first `size` of them, the machine code would also store the eight on the machine's stack, and
-/// a program's stores of a constant and of a register would share one jump to the next opcode.
+/// sizes converted eight bytes and wrote the first `size` of them, the machine code would also store the eight on the machine's stack. And
+/// a program's stores of a constant and of a register would share one jump to the next opcode, so that the processor could not predict each
+/// of the two jumps from its own history (`dispatch.rt` of `flat_machine`).
 #[inline(always)]
 pub(crate) fn write(bytes: &mut [u8], at: usize, size: usize, value: u64)
     requires size { IsSize size }
@@ -142,8 +143,8 @@ fn copy_down(bytes: &mut [u8], from: usize, to: usize, count: usize)
     low[to..to + count].copy_from_slice(&high[..count]);
 }
 
-/// Copies `count` bytes from offset `from` to offset `to` like memmove: the ranges may overlap. If they do not, `LONG` bytes or more are
-/// copied by memcpy; eight bytes are copied as one number.
+/// Copies `count` bytes from offset `from` to offset `to` like memmove: the ranges may overlap. The cases differ only in speed: eight bytes
+/// are copied as one number, `LONG` bytes or more by memcpy if the ranges do not overlap, and all others by `copy_within`.
 #[inline(always)]
 pub(crate) fn copy_bytes(bytes: &mut [u8], from: usize, to: usize, count: usize)
     requires source { from + count ≤ length bytes.old }

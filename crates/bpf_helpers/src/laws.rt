@@ -16,51 +16,58 @@ pub(crate) fn call_premises()
     bpf_maps::laws::deletes_keep_elements();
 }
 
-/// If the tagged machine loads a value, the bytes at the address of the load lie in the tenant's part, and their word represents the value.
+/// If words and bytes represent a state, and the tagged machine loads a value in this state, the bytes at the address of the load lie in
+/// the tenant's part. The word that they make, widened to 64 bits as the load says (with the sign or with zeros), represents the value.
 pub fn loads_give_words()
     ensures { LoadsGiveWords }
 {}
 
-/// If the machine stores a value, the bytes at the address of the store lie in the part. If they become the low bytes of the value's word,
-/// words and bytes represent the state after the store.
+/// If words and bytes represent a state in which the tagged machine stores a value, the bytes at the address of the store lie in the
+/// tenant's part. Once these are the low bytes of the value's word, words and bytes represent the state after the store.
 pub fn stores_keep_simulation()
     ensures { StoresKeepSimulation }
 {
     arena::laws::writes_stay_inside();
 }
 
-/// If the tagged machine's call of bpf_skb_load_bytes has a result, the bytes to which it writes lie in the part. The words of registers 3
-/// and 4 are their address and their number.
+/// Words and bytes represent a state (`Simulates`), in a part of the size for runs. If the tagged machine's call of bpf_skb_load_bytes in
+/// this state is no fault, the bytes to which the call writes lie in the part. The word of register 3 is their address, and the word of
+/// register 4 their number.
 pub fn loaded_bytes_are_inside()
     ensures { LoadedBytesAreInside }
 {
     arena::laws::writes_stay_inside();
 }
 
-/// The address of an object is at least 2^32, and at most 2^32 + 2^28.
+/// The address of an object (the stack, the context or a value of a map) is at least 2^32, and at most 2^32 + 2^28. So it is neither near
+/// null nor near 2^64.
 pub fn object_addresses_are_bounded()
     ensures { ObjectAddressesAreBounded }
 {}
 
-/// If words and bytes represent a state, and a word the result of a call, then with this word in register 0 they represent the state in
-/// which the call has returned this result.
+/// If words and bytes represent a state, and a word represents the result of a call, then with this word in register 0 they represent the
+/// state in which the call has returned this result. In that state registers 1 to 5 have no value.
 pub(crate) fn returns_keep_simulation()
     ensures { ReturnsKeepSimulation }
 {}
 
-/// At the start of a run, with its context in the part, words, bytes and live maps represent the machine's initial state.
+/// At the start of a run, words, bytes and live maps represent the state in which the tagged machine starts. This requires that the part
+/// has the run's context (`HasContext`), that registers 1 and 10 have its address (`AreFirst`), and that each bound map is live and keeps
+/// no element apart (`AreReady`).
 pub fn runs_begin()
     ensures { RunsBegin }
 {}
 
-/// Once a run has ended on a map that is bound to it, the stored map has the keys and values of the machine's map after the machine's run.
+/// Suppose that words and bytes represent a state of the tagged machine, and that the elements that are kept apart in a map bound to the
+/// run then become free. Then this stored map has the keys and values that the machine's map has if the run ends in this state.
 pub fn runs_end()
     ensures { RunsEnd }
 {
     bpf_maps::laws::areas_keep_elements();
 }
 
-/// The values of maps that are not bound to a run have the same bytes after it.
+/// In each state of a run that words and bytes represent (`Simulates`), the values of the live maps that are not bound to the run have the
+/// bytes that they had at the start of the run.
 pub fn others_stay()
     ensures { OthersStay }
 {}

@@ -134,9 +134,11 @@ pub(crate) fn look_up(
     maps.address_of(map, &part[at..at + size], arena.address(caller.tenant))
 }
 
-/// bpf_map_lookup_elem (1) with the result of `look_up`: the address of the value, or 0. `map` is the position of the map, counted from 1,
-/// and `key` the address of the key. In an array the value is found by `arrays`, without reading the map. A map whose `Elements` in
-/// `arrays` have the count 0 is a hash map, and `look_up` reads it. By `few`, each list of `arrays` has a word for each map of the run.
+/// bpf_map_lookup_elem (1) with the result of `look_up`: the address of the key's value; 0 if the map does not have the key, if there is no
+/// such map, or if the key's bytes do not lie in the tenant's part. `map` is 1 for the first of the run's maps (`bind` of `caller`), and
+/// `key` is the address of the key. In an array the value is found by `arrays`, without reading the map. If the count of the map's
+/// `Elements` in `arrays` is 0, as for a hash map, `look_up` reads the map. By `few` the run has at most `MAPS` maps, and each list of
+/// `arrays` has `MAPS` words, so it has one for each map.
 #[inline(always)]
 pub(crate) fn look_up_among(
     arrays: Arrays<'_>,

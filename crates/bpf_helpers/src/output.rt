@@ -55,7 +55,8 @@ fn write_named(arena: &mut Arena, tenant: usize, address: u64, bytes: &[u8], tra
 
 /// bpf_skb_load_bytes (26), if the caller knows that the `count` bytes from the address `to` on lie in the tenant's part (`named`): copies
 /// `count` bytes of the packet, from `offset` on, to this address, and returns 0. Of `offset` the low 32 bits are read, as a signed number.
-/// If the packet doesn't have these bytes, it writes `count` zeros to the address and returns EFAULT, negated.
+/// If this number is negative, or the packet doesn't have these bytes, it writes `count` zeros to the address and returns EFAULT, negated.
+/// No map is read, so `loaded` holds for any maps. The trace gets only address ranges in the tenant's part, and no step (`asks`).
 #[inline(always)]
 pub(crate) fn load_bytes_inside(
     offset: u64,

@@ -30,7 +30,7 @@ struct Offsets {
     value: usize,
 }
 
-/// The number of an error of bpf(2), as errno(3) has it. No error has the number 0, so the sum in `refusal` does not overflow.
+/// The number of an error of bpf(2), as errno(3) has it. It is at least 1 (`some`), so adding 1 in `refusal` does not overflow.
 fn errno_of(fault: MapFault) -> u64
     ensures value { result ≡ errno fault }
     ensures some { 1 ≤ result }

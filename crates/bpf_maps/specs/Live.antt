@@ -254,9 +254,10 @@ pub record IsCreated (old : LiveMaps) (shape : MapShape) (k : ℕ) (new : LiveMa
   pub others : (other : ℕ) → other ≢ k → live_at new other ≡ live_at old other
   pub refused : new.refused ≡ old.refused
 
--- the possible results `answer` of a creation in the live maps `old`, each with the live maps `new`
--- after it. The first argument is its `create_fault`: a fault is the result, and nothing changes;
--- for None the result is a new map, or `Memory`, and then only the flag `refused` is set
+-- the possible results `answer` of the creation of a map in the live maps `old`, each with the live
+-- maps `new` after the creation. The first argument is the `create_fault` of the creation. If this
+-- is a fault, it is the result, and nothing changes. If it is None, the result is the handle k of
+-- the new map, or `Memory` (out of memory), and then only the flag `refused` is set
 abbrev pub Creates : Option MapFault → LiveMaps → MapShape → Result ℕ MapFault → LiveMaps → Type 0
 Creates (Some fault) old shape answer new = (answer ≡ Err fault) × (new ≡ old)
 Creates None old shape (Ok k) new = IsCreated old shape k new

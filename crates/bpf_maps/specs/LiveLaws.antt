@@ -54,8 +54,8 @@ record IsWithout {A : Type 0} (k : ℕ) (xs : List (Option A)) : Type 0 where
   fewer : total (λ x. 1) slots + 1 ≡ total (λ x. 1) xs
   others : (j : ℕ) → j ≢ k → get_or slots j None ≡ get_or xs j None
 
--- makes of a list of options that has Some at index k the list that has None at this index, and no
--- other change (`IsWithout`); for the induction of `enough_present`
+-- the list xs, which has Some at index k, with None there instead; and that one option less is Some
+-- and no other index changes (`IsWithout`). For the induction of `enough_present`
 without_position : {A : Type 0} (k : ℕ) (xs : List (Option A))
     → IsSome (get_or xs k None)
     → IsWithout k xs

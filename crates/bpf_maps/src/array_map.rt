@@ -38,7 +38,8 @@ impl Model for ArrayMap {
 }
 
 impl ArrayMap {
-    /// Makes an array of this shape. The kind is `Array`: `BpfMap` has tested it.
+    /// Makes an array of this shape, whose keys are all its indices. The kind is `Array`: `BpfMap` has tested it. `align` takes no bytes:
+    /// with it, `shape` has the offset that it has in a hash map.
     #[inline(always)]
     pub(crate) fn new(shape: MapShape) -> ArrayMap
         requires { shape.kind ≡ Array }
@@ -61,7 +62,9 @@ impl ArrayMap {
         self.shape.max_entries
     }
 
-    /// A law: the kind of the shape is `Array`, and the keys are all indices, of four bytes each. It does nothing when it runs.
+    /// A law: the kind of the shape is `Array`, and the table of keys is always that of a new array (`whole`). So each index below
+    /// `max_entries` is a key, of four bytes; its element is the index, and no element is kept apart. The table is sound
+    /// (`IsSound`). The function does nothing when it runs.
     #[inline(always)]
     fn keys_are_its_indices(&self)
         ensures kind { self.now.shape.kind ≡ Array }
@@ -160,7 +163,8 @@ impl ArrayMap {
     }
 }
 
-/// The index that follows an element; 0 if no element is given. The result has 64 bits, since the element may be any number of 32 bits.
+/// The index after that of an element: in an array an element's number is the index that its key spells. `None`, no element, gives the
+/// first index, 0. The result has 64 bits, since the element may be any number of 32 bits.
 fn index_after_element(element: Option<u32>) -> u64
     ensures { result ≡ option_map_or (λ p. p + 1) element 0 }
 {
@@ -173,13 +177,16 @@ fn index_after_element(element: Option<u32>) -> u64
 impl ValueMap for ArrayMap {
     ghost keys = { λ m. m };
 
+    // The element of a key is the index in the key's four bytes; `None` if this index is not below `max_entries`. The call of the law is
+    // for the proof of the clause `sound` of `ValueMap::find`.
     #[inline(always)]
     fn find(&self, key: &[u8]) -> Option<u32> {
         self.keys_are_its_indices();
         self.element_of(key)
     }
 
-    // No update needs a free element: each index below `max_entries` has its own, and any other index is rejected (`element_for`).
+    // The element is the index in the key, so no update needs a free one; an index that is not below `max_entries` is rejected
+    // (`element_for`). The first call is of a law, for the proof.
     #[inline(always)]
     fn claim(&mut self, key: &[u8], flags: u64) -> Result<u32, MapFault> {
         self.keys_are_its_indices();

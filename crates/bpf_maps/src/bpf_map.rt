@@ -85,7 +85,7 @@ impl BpfMap {
     }
 }
 
-// Each call is that of the map's kind.
+// `ValueMap` says what each function does. Here it calls the function of this name of the map's kind, array or hash.
 impl ValueMap for BpfMap {
     ghost keys = { keys_in };
 

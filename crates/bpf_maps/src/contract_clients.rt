@@ -115,7 +115,8 @@ fn make_and_release(maps: &mut Maps, shape: MapShape, part: &mut [u8])
     }
 }
 
-/// Adds a reference to a map and drops it: each map that was live still is, with the same keys and values.
+/// Adds a reference to a map and drops it: each map that was live still is, with the same keys and values. The map has a reference before
+/// (`held`), so the dropped one is not its last. It has fewer than 2^32 - 1 (`few`), so one more can be counted in 32 bits.
 fn hold_and_release(maps: &mut Maps, map: MapKey, part: &mut [u8])
     requires live { IsSome (live_at maps.old map) }
     requires few { holds_at maps.old map < 2 ^ 32 - 1 }

@@ -37,7 +37,8 @@ impl Elements {
         }
     }
 
-    /// The elements as one number: `count` is its low 32 bits, and `stride` its high 32 bits.
+    /// The number of elements and the distance of their values as one number, which a row of a run's table of maps has: `count` is its low
+    /// 32 bits, and `stride` its high 32 bits.
     #[inline(always)]
     pub fn word(self) -> u64
         ensures { result ≡ word_of self }
@@ -45,8 +46,9 @@ impl Elements {
         u64::from(self.count) + 0x1_0000_0000 * u64::from(self.stride)
     }
 
-    /// The elements of which `Elements::word` makes this number. The count of a hash map is 0: so if the number is that of a map's elements
-    /// (`Elements::of`) and the count is not 0, the map is an array, and its keys have `INDEX_SIZE` bytes.
+    /// The elements of which `Elements::word` makes this number: `count` is its low 32 bits, `stride` its high 32 bits. If the number was
+    /// made for a map (`Elements::of`), these are the map's elements (`elements`). Then a count other than 0 means that the map is an
+    /// array, since a hash map has count 0; so its keys have `INDEX_SIZE` bytes (`size`).
     #[inline(always)]
     pub fn of_word(word: u64) -> Elements
         ensures word { word_of result ≡ word }

@@ -57,7 +57,8 @@ impl HashMap {
         })
     }
 
-    /// Whether this map has the key size and the `max_entries` of the shape: then a new map of the shape can have this map's memory.
+    /// Whether this map has the key size and the `max_entries` of the shape: then a new hash map of the shape can have this map's memory
+    /// (`renew`). The value size may differ, since the values are not in this memory, but in the map's area.
     pub(crate) fn is_like(&self, shape: MapShape) -> bool
         ensures { IsTrue result → IsLike shape (Some self.now) }
     {
@@ -84,7 +85,7 @@ impl HashMap {
         self.shape
     }
 
-    /// How many keys the map has: each of its elements that is not spare has one.
+    /// How many keys the map has: one for each element that is not in `spare`, which has the free elements and those kept apart.
     pub(crate) fn key_count(&self) -> u32
         ensures { result ≡ length self.now.entries }
     {
@@ -118,10 +119,10 @@ impl HashMap {
         self.index.entry_after(element)
     }
 
-    /// Adds an absent key at the end, claims for it the last spare element, a free one, and returns this element. If no element is free,
-    /// since all spare ones are kept apart, `TooBig`, and nothing has changed. Its caller, `claim`, has checked the flags of the update:
-    /// both `ANY` and `NOEXIST` allow an absent key, so the contract has only `ANY` (0). Not inlined, unlike the rest of an update, as an
-    /// update of a present key does not call it.
+    /// Adds an absent key as the last one, claims a free element for it, and returns this element. Of the spare elements, which no key has,
+    /// the first `kept` are kept apart and the others are free, so the last one is claimed. `TooBig`, and nothing has changed, if none is
+    /// free. The caller, `claim`, has checked the flags of the update: both `ANY` and `NOEXIST` allow an absent key, so the contract has
+    /// only `ANY` (0). Not inlined, unlike the rest of an update, as an update of a present key does not call this function.
     #[cold]
     #[inline(never)]
     #[tactic(auto, using(crate::proofs::Kept::sound))]
@@ -145,6 +146,8 @@ impl HashMap {
 impl ValueMap for HashMap {
     ghost keys = { λ m. m };
 
+    // Returns the element of a key; `None` if the key is absent. The call of `elements_are_distinct` is for the contract (`sound`), and
+    // does nothing when it runs.
     // Not inlined: its machine code selects the index that has the keys (`KeyIndex`), and ends in a jump to the `get` of this index. So a
     // look-up of a short key does not save and restore the registers that only longer keys need.
     #[inline(never)]
@@ -153,7 +156,8 @@ impl ValueMap for HashMap {
         self.element_of(key)
     }
 
-    // A present key has its element; only an absent one needs a free element, which `add` claims. `EXIST`, 2, is the largest flag.
+    // A present key keeps its element, which is returned; only an absent one needs a free element, which `add` claims. `EXIST`, 2, is the
+    // largest flag. `elements_are_distinct` is a law, for the proof.
     #[inline(always)]
     fn claim(&mut self, key: &[u8], flags: u64) -> Result<u32, MapFault> {
         self.elements_are_distinct();
@@ -182,7 +186,8 @@ impl ValueMap for HashMap {
         let Some(element) = self.index.remove(key) else {
             return Err(MapFault::NoEntry);
         };
-        // The element joins those that are kept apart; the first free one, if any, goes to the end. The list has room for all elements.
+        // The first `kept` elements of `spare` are kept apart until the run ends, and the others are free. The key's element becomes the
+        // last one kept apart; the first free element, if any, goes to the end. `spare` has room for all elements of the map.
         let last = self.spare.len();
         self.spare.push_reserved(element);
         self.spare.swap(self.kept, last);
@@ -190,12 +195,15 @@ impl ValueMap for HashMap {
         Ok(())
     }
 
+    // The keys are in the order in which they were added; `None` after the last one. After an absent key, also one of another size, the
+    // result is the first key.
     fn key_after(&self, key: &[u8]) -> Option<KeyRef<'_>> {
         self.index.key_after(key)
     }
 
     fn end_run(&mut self) {
-        // Of the spare elements the first `kept` are kept apart, so now all are free.
+        // `spare` has the elements that no key has. Its first `kept` are those of keys removed since the last `end_run`, and `add` gives
+        // none of these to a key. From now on `add` may give any element of `spare`.
         self.kept = 0;
     }
 }

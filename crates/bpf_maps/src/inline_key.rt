@@ -77,6 +77,7 @@ impl<const N: usize> Hash for InlineKey<N> {
     ghost respects_eq = { λ x y h. ap (λ k. k ∷ []) ((bytes_decides x y).0 h) };
 
     fn hash<H: Hasher>(&self, state: &mut H) {
+        // The bytes without the zeros after them: a look-up hashes only these bytes of its key (`KeyBytes`).
         state.write(self.bytes());
     }
 }
@@ -101,6 +102,8 @@ impl Eq for KeyBytes<'_> {
     ghost laws = { on_equiv (λ k. k.bytes.now) nat_list_eq_equiv };
 }
 
+// Writes all bytes to the hasher by one call, as the `Hash` of `InlineKey` does: a key that is looked up has to get the hash of the equal
+// key that is stored, and the hash depends on how bytes are divided into calls.
 impl Hash for KeyBytes<'_> {
     ghost hash_input = { λ k. k.bytes.now ∷ [] };
 

@@ -74,7 +74,8 @@ impl KeyIndex {
         }
     }
 
-    /// Returns the key that follows a key, if there is one. After an absent key, also one of another size, it is the first.
+    /// Returns the key that was added next after `key`, or the first key if `key` is absent or has another size. `None` after the last key,
+    /// and if there are no keys.
     pub(crate) fn key_after(&self, key: &[u8]) -> Option<KeyRef<'_>>
         ensures { option_map key_bytes result ≡ key_after key.now (entries_of self.now) }
     {
@@ -85,8 +86,8 @@ impl KeyIndex {
         }
     }
 
-    /// The key after that of `element`, or the first key if no element is given, with the element of the key that is returned. `None` if
-    /// no key follows, or if no key has `element`.
+    /// The key that follows the key of `element`, in the order in which the keys were added, or the first key if no element is given; and
+    /// the element of the key that is returned. `None` if no key follows, or if no key has `element`.
     pub(crate) fn entry_after(&self, element: Option<u32>) -> Option<(KeyRef<'_>, u32)>
         ensures { option_map shown_entry result ≡ next_entry element (entries_of self.now) }
     {
@@ -125,7 +126,8 @@ impl KeyIndex {
         }
     }
 
-    /// Removes all keys, and keeps the memory.
+    /// Removes all keys, and keeps the memory. The index takes keys of each size that it took before (`takes`), and elements less than the
+    /// bound that it had before (`bound`).
     pub(crate) fn clear(&mut self)
         ensures entries { entries_of self.new ≡ [] }
         ensures takes { (size : ℕ) → TakesKeys self.old size → TakesKeys self.new size }
@@ -139,7 +141,7 @@ impl KeyIndex {
     }
 
     /// Removes a key, which has the size of the map's keys, and returns its element; `None` if the key is absent. The other keys keep their
-    /// order.
+    /// order. The index can still have keys of this size (`takes`) and elements less than the map's `max_entries` (`bound`).
     pub(crate) fn remove(&mut self, key: &[u8]) -> Option<u32>
         requires { TakesKeys self.old (length key.now) }
         ensures element { result ≡ found key.now (entries_of self.old) }

@@ -36,7 +36,7 @@ impl ShortKey {
         }
     }
 
-    /// The bytes of the key, without the other bytes of the array.
+    /// The bytes of the key: the first `length` of the eight bytes in the field `bytes`.
     fn bytes(&self) -> &[u8]
         ensures { result.now ≡ self.now }
     {

@@ -55,7 +55,8 @@ impl LongIndex {
         self.map.get(KeyBytes { bytes: key })
     }
 
-    /// Returns the key that follows a key, if there is one. After an absent key, also one of another size, it is the first.
+    /// Returns the key that follows a key; `None` if the key is the last, or the index has no keys. After an absent key, also one of
+    /// another size, the result is the first key.
     pub(crate) fn key_after(&self, key: &[u8]) -> Option<&[u8]>
         ensures { option_map lent_key result ≡ key_after key.now self.now.entries }
     {
@@ -72,8 +73,8 @@ impl LongIndex {
         Some((key.bytes(), element))
     }
 
-    /// Adds a key of at most 512 bytes at the end. The caller has found the key absent, and gives it an element less than the index's bound
-    /// that no key has (`HashMap::add`). It allocates nothing: `new` made room for `bound` keys.
+    /// Adds a key of at most 512 bytes, with its element, after all other keys. The key is absent, the element is less than the index's
+    /// bound, and no key has this element: `HashMap::add` provides that. No memory is allocated: `new` made room for `bound` keys.
     pub(crate) fn insert(&mut self, key: &[u8], element: u32)
         requires short { length key.now ≤ LONGEST_LONG }
         requires absent { found key.now self.old.entries ≡ None }
@@ -94,7 +95,8 @@ impl LongIndex {
         self.map.clear();
     }
 
-    /// Removes a key and returns its element; `None` if the key is absent. The other keys keep their order.
+    /// Removes a key and returns its element; `None` if the key is absent. The other keys keep their order. The bound below which all
+    /// elements are (`bound`) is unchanged.
     pub(crate) fn remove(&mut self, key: &[u8]) -> Option<u32>
         ensures element { result ≡ found key.now self.old.entries }
         ensures left { self.new.entries ≡ without key.now self.old.entries }

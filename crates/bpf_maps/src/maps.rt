@@ -114,7 +114,8 @@ impl Maps {
         let _ = &self.maps;
     }
 
-    /// The live map of a handle, as it is stored in the slab.
+    /// The live map of a handle, as the slab `maps` stores it. The slab finds the map by a key that the slab chose (`SlabKeys`), not by the
+    /// handle; such a key is no key of an entry.
     #[inline(always)]
     pub(crate) fn stored(&self, map: MapKey) -> &StoredMap
         requires { IsSome (live_at self.now map) }
@@ -125,7 +126,8 @@ impl Maps {
     }
 
     /// The offset of an element's value in the tenant's part, in bytes. `stored` is the live map that has the element; its handle, `map`,
-    /// is only for the contract.
+    /// is only for the contract. The value lies there after the stack and the context (`inside`). By `laid` the values of all live maps lie
+    /// in the part and do not overlap.
     #[inline(always)]
     fn offset_in(&self, map: MapKey, stored: &StoredMap, element: u32) -> usize
         requires stored { live_at self.now map ≡ Some (live_of stored.now) }
@@ -171,6 +173,8 @@ impl Maps {
         if self.bytes + size > LARGEST_SUM {
             return Err(MapFault::NoSpace);
         }
+        // A hash map gets the memory of a spare map, one that is no longer live, if one fits. Else it takes new memory, and `live` decides
+        // which spare maps are freed first.
         let live = self.live_hash_maps_for(shape.kind);
         let spares = &mut self.spares;
         let Ok(map) = BpfMap::with_spares(self.alloc, shape, self.seed, spares, live) else {
@@ -188,6 +192,7 @@ impl Maps {
         };
         // For the proof: by the contract of `capacity` the slab's key is less than it, and so is not `NO_KEY`.
         let _capacity = self.maps.capacity();
+        // The slab has had room for a map of each handle from its beginning, so the insertion takes no memory.
         let key = self.maps.insert_reserved(stored);
         self.keys.put(handle, key);
         self.bytes += size;
@@ -283,8 +288,9 @@ impl Maps {
         self.stored(map).map.shape()
     }
 
-    /// The offset of a map's first value in the tenant's part, and the map's `Elements`, a count and a distance, as one number
-    /// (`Elements::word`); `None` if the map is not live.
+    /// The offset of a map's first value in the tenant's part, and the map's `Elements` as one number (`Elements::word`): how many elements
+    /// a run finds without reading the map, 0 for a hash map, and the distance in bytes from the start of one value to that of the next.
+    /// `None` if the map is not live.
     #[inline(always)]
     pub fn first_and_elements(&self, map: MapKey) -> Option<(usize, u64)>
         ensures live { IsSome (live_at self.now map)
@@ -369,8 +375,8 @@ impl Maps {
         stored.map.claim(key, flags)
     }
 
-    /// Removes a key, which has the size of the map's keys, from a live map. Its element is kept apart until the run ends (`end_run`):
-    /// until then no key gets it. Takes no memory.
+    /// Removes a key, which has the size of the map's keys, from a live map. Its element is kept apart: no key gets it until the caller
+    /// calls `end_run`, at the end of the run, or at once if no run is in progress. Takes no memory.
     ///
     /// # Errors
     ///
@@ -389,8 +395,9 @@ impl Maps {
         stored.map.remove(key)
     }
 
-    /// Returns the key that follows a key of a map, if there is one; a map that isn't live has none. After an absent key, also one
-    /// of another size, it is the first.
+    /// Returns the key of the map that follows `key`, or the first key if `key` is absent or has another size. The order is that of the
+    /// indices in an array, and that in which the keys were added in a hash map. `None` after the last key, in a map without keys, and if
+    /// the map isn't live.
     pub fn key_after(&self, map: MapKey, key: &[u8]) -> Option<KeyRef<'_>>
         ensures given { option_map key_bytes result
             ≡ next_of (table_of (keys_at self.now map)) key.now }
@@ -422,7 +429,7 @@ impl Maps {
     ///
     /// # Errors
     ///
-    /// `NoEntry` if no key follows. Then `next` is unchanged.
+    /// `NoEntry` if `key` is the last key, or the map has no keys. Then `next` is unchanged.
     pub fn next_key(
         &self,
         map: MapKey,

@@ -64,8 +64,8 @@ impl MiddleIndex {
         Some(following.bytes())
     }
 
-    /// The key after that of `element`, or the first key if no element is given, with the element of the key that is returned. `None` if
-    /// no key follows, or if no key has `element`.
+    /// The key that follows the key of `element` in the order of insertion, or the first key if `element` is `None`; and the element of the
+    /// returned key. `None` if no key follows, if no key has `element`, or if the index has no keys.
     pub(crate) fn entry_after(&self, element: Option<u32>) -> Option<(&[u8], u32)>
         ensures { option_map lent_entry result ≡ next_entry element self.now.entries }
     {
@@ -87,7 +87,7 @@ impl MiddleIndex {
         self.map.insert(InlineKey::copy_of(key), element);
     }
 
-    /// Removes all keys, and keeps the memory.
+    /// Removes all keys, and keeps the memory that `new` allocated for `bound` keys. Elements are less than `bound`, as before the call.
     pub(crate) fn clear(&mut self)
         ensures entries { self.new.entries ≡ [] }
         ensures bound { self.new.bound ≡ self.old.bound }
@@ -95,7 +95,8 @@ impl MiddleIndex {
         self.map.clear();
     }
 
-    /// Removes a key and returns its element; `None` if the key is absent. The other keys keep their order.
+    /// Removes a key and returns its element; `None`, and nothing changes, if the key is absent. The other keys keep their order. `bound`:
+    /// the number that was given to `new`, which each element is less than, does not change.
     pub(crate) fn remove(&mut self, key: &[u8]) -> Option<u32>
         ensures element { result ≡ found key.now self.old.entries }
         ensures left { self.new.entries ≡ without key.now self.old.entries }

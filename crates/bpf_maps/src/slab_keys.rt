@@ -48,7 +48,8 @@ impl SlabKeys {
         }
     }
 
-    /// The slab's key of a handle that has one.
+    /// The key under which the slab has the map of a handle. The handle has a map: so it is less than `MAPS`, and its word is this key, not
+    /// `NO_KEY`.
     #[inline(always)]
     pub(crate) fn key(&self, handle: usize) -> usize
         requires { IsSome (slice_index_or self.now handle None) }
@@ -58,7 +59,7 @@ impl SlabKeys {
         words[handle]
     }
 
-    /// The lowest handle that has no key of the slab; `None` if each handle has one.
+    /// The lowest handle without a map, for which the slab has no key; `None` if each of the `MAPS` handles has a map.
     pub(crate) fn free_handle(&self) -> Option<usize>
         ensures { result ≡ position is_none self.now }
     {
@@ -83,7 +84,7 @@ impl SlabKeys {
     }
 }
 
-/// The slab's key that a word of `words` has; `None` if the word is `NO_KEY`.
+/// The slab's key that a word of a `SlabKeys` is; `None` if the word is `NO_KEY`, that is, if its handle has no map.
 #[inline(always)]
 fn key_of(word: usize) -> Option<usize>
     ensures { result ≡ key_in word }
@@ -91,7 +92,8 @@ fn key_of(word: usize) -> Option<usize>
     if word == NO_KEY { None } else { Some(word) }
 }
 
-/// The index of the first word without a key; `None` if each has one.
+/// The index of the first word that is `NO_KEY`. The words are by handle, so this is the lowest handle without a map. `None` if each handle
+/// has a map.
 fn first_without_key(words: &[usize; MAPS]) -> Option<usize>
     ensures { result ≡ position (λ word. is_none (key_in word)) words.now }
 {

@@ -31,7 +31,8 @@ pub(crate) const NO_HASH_MAPS: LiveHashMaps = LiveHashMaps {
 };
 
 impl LiveHashMaps {
-    /// These and one map more, of which `entries` is the `max_entries`. The sums stop at the largest number, which no tenant reaches.
+    /// These live hash maps and one more, whose `max_entries` is `entries`. The additions saturate, but a tenant has at most `MAPS` live
+    /// maps, each with a `max_entries` of 32 bits, so its sums never reach the largest number.
     pub(crate) fn with(self, entries: u32) -> LiveHashMaps {
         LiveHashMaps {
             maps: self.maps.saturating_add(1),
@@ -76,9 +77,9 @@ impl SpareMaps {
         }
     }
 
-    /// Makes a hash map of this shape, in the memory of a spare map with the same key size and `max_entries`, if one exists. Else it frees
-    /// spare maps while they, the live hash maps (`live`) and the new one are too many (`has_room`), and allocates. It is not inlined,
-    /// since a new hash map is rare. `AllocError`: out of memory.
+    /// Makes a hash map of this shape, without keys. If a spare map has the same key size and `max_entries`, the new map has the memory and
+    /// the seed of this spare map. Else the function frees spare maps while they, the live hash maps (`live`) and the new one are too many
+    /// (`has_room`), and allocates a map with `seed`. It is not inlined, since a new hash map is rare. `AllocError`: out of memory.
     #[cold]
     #[inline(never)]
     pub(crate) fn hash_map(
@@ -121,8 +122,8 @@ impl SpareMaps {
         sum
     }
 
-    /// Whether the spare maps and these live ones are together at most `MAPS`, and the sum of their `max_entries` is at most
-    /// `MOST_ENTRIES_TOGETHER`.
+    /// Whether the spare maps and the hash maps that `live` counts are together at most `MAPS`, and the sum of their `max_entries` is at
+    /// most `MOST_ENTRIES_TOGETHER`. Within these bounds a tenant takes no more memory than one whose hash maps are all live.
     fn has_room(&self, live: LiveHashMaps) -> bool {
         self.maps.len().saturating_add(live.maps) <= MAPS
             && self.entries().saturating_add(live.entries) <= MOST_ENTRIES_TOGETHER
@@ -165,9 +166,9 @@ impl SpareMaps {
     }
 }
 
-/// Whether a map of `shape` is freed rather than one of `other`, if the sum of all `max_entries` is too large by `excess`. If both have a
-/// `max_entries` of `excess` or more, the one is freed whose keys take less memory, else the one with the greater `max_entries`. `false` if
-/// they are equal in that.
+/// Whether a map of `shape` is freed rather than one of `other`, if the sum of all `max_entries` is too large by `excess`. A map suffices
+/// if its `max_entries` is `excess` or more: without this map the sum is small enough. If both suffice, the one is freed whose keys take
+/// less memory. If only one suffices, or none, the one with the greater `max_entries` is freed. `false` if they are equal in that.
 fn is_freed_before(shape: MapShape, other: MapShape, excess: usize) -> bool
     ensures freed { result ≡ true → excess ≤ other.max_entries → excess ≤ shape.max_entries }
     ensures stays { result ≡ false → excess ≤ shape.max_entries → excess ≤ other.max_entries }

@@ -55,8 +55,8 @@ impl WordIndex {
         Ok(WordIndex { size, map })
     }
 
-    /// Returns the element of a key, which has the index's size; `None` if the key is absent. A function of its own in the machine code, so
-    /// that it saves no registers that only the look-up of longer keys needs.
+    /// Returns the element of a key, which has the index's size; `None` if the key is absent. It is not inlined: in one function with the
+    /// look-up of a longer key, it would also save the registers that only the longer key needs.
     #[inline(never)]
     pub(crate) fn get(&self, key: &[u8]) -> Option<u32>
         requires { length key.now ≡ self.now.size }
@@ -65,7 +65,8 @@ impl WordIndex {
         self.map.get(&word_of(key))
     }
 
-    /// Returns the key that follows a key, if there is one. After an absent key, also one of another size, it is the first.
+    /// Returns the key that follows a key; `None` if the key is the last, or the index has no keys. After an absent key, also one of
+    /// another size, the result is the first key.
     pub(crate) fn key_after(&self, key: &[u8]) -> Option<ShortKey>
         ensures { result ≡ key_after key.now self.now.entries }
     {
@@ -77,8 +78,8 @@ impl WordIndex {
         Some(ShortKey::of_word(*word, self.size))
     }
 
-    /// The key after that of `element`, or the first key if no element is given, with the element of the key that is returned. `None` if
-    /// no key follows, or if no key has `element`.
+    /// The key that was added next after the key of `element`, or the first key if no element is given; and the element of the key that is
+    /// returned. `None` if no key follows, or if no key has `element`.
     pub(crate) fn entry_after(&self, element: Option<u32>) -> Option<(ShortKey, u32)>
         ensures { result ≡ next_entry element self.now.entries }
     {

@@ -18,14 +18,16 @@ use Rattle.bpf_text.specs.Lines.{text_lines}
 
 -- ---- slots and labels of lines; `None` is a line that has none of the forms
 
--- the number of slots of a line's instruction, 0 if the line has no instruction
+-- the number of slots of a line's instruction; 0 for a line without an instruction, and for a line
+-- that has none of the forms (None)
 abbrev pub line_slots : Option Line → ℕ
 line_slots None = 0
 line_slots (Some blank) = 0
 line_slots (Some (label n)) = 0
 line_slots (Some (code form n)) = form_slots form
 
--- the number of slots of all instructions on these lines
+-- the number of slots of all instructions on these lines. A line without an instruction counts 0:
+-- a blank one, a label, and None, a line that has none of the forms
 unfoldable pub slots_on : List (Option Line) → ℕ
 slots_on [] = 0
 slots_on (line ∷ lines) = line_slots line + slots_on lines

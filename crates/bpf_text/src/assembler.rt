@@ -105,7 +105,8 @@ fn labels<'a>(
     Ok(labels)
 }
 
-/// The first definition of a label; `None` if no line defines it.
+/// Finds the label `name` in `labels`: the index of the first line that defines it, and the number of slots before this line. `None` if no
+/// line defines the label.
 fn definition_of_label(labels: &HashMap<&str, Definition>, name: &str) -> Option<Definition>
     ensures { result ≡ definition_of labels.now name.now }
 {
@@ -184,7 +185,8 @@ fn instruction(
 }
 
 /// The instructions on the lines, as `read_lines` parsed them (`None`: a line with none of the forms). `labels` has the first definition of
-/// each label on these lines. The error is the fault of the first line that has one, or `Memory` at line 0 if out of memory.
+/// each label on these lines. The error is the fault of the first line that has one, or `Memory` at line 0 if out of memory. The result has
+/// at most `MAX_SLOTS` slots (`room`), since the line whose slots go past them has the fault `TooLong`.
 fn instructions(
     alloc: Global,
     lines: &[Option<Line<'_>>],
@@ -204,6 +206,7 @@ fn instructions(
     let mut insns = Vec::new(alloc);
     let mut slot = 0;
     for (index, line) in lines.iter().enumerate() {
+        // Also for a line that defines no label, a `Definition` is the line's index and the number of slots before the line.
         let insn = match instruction(labels, line, Definition { line: index, slot }) {
             Ok(insn) => insn,
             Err(kind) => return Err(TextFault::at(index, kind)),

@@ -98,7 +98,8 @@ fn write_operand(text: &mut String, wide: bool, src: Operand) -> Result<(), Allo
 
 // ---- lines of instructions
 
-/// Appends the line of an operation of two operands, or of a move: of 64-bit registers if `wide`, else of their low 32 bits.
+/// Appends the line, without a line feed, of an operation of two operands or of a move: on 64-bit registers if `wide`, else on their low 32
+/// bits.
 #[tactic(auto, unfolding(text_line::specs::Written::printed_insn))]
 fn write_alu(
     text: &mut String,
@@ -135,7 +136,8 @@ fn write_movsx(text: &mut String, movsx: &Movsx) -> Result<(), AllocError>
     write!(text, "{dst} = ({bits}){src}")
 }
 
-/// Appends the line of a conditional jump, with its offset in slots. It compares 64 bits if `wide`, else the low 32.
+/// Appends the line of a conditional jump, without a line feed, as `if r1 == 0 goto +2`: the offset `off` is in slots, from the next slot.
+/// The jump compares 64 bits if `wide`, else the low 32.
 #[tactic(auto, unfolding(text_line::specs::Written::printed_insn))]
 fn write_jump(
     text: &mut String,
@@ -173,7 +175,8 @@ fn write_load(text: &mut String, load: &Load) -> Result<(), AllocError>
     write!(text, "{dst} = *({size} *)({base} {sign} {offset})")
 }
 
-/// Appends the line of a store. Its address is register `dst` and an offset; a register that is stored is named as one of 64 bits.
+/// Appends the line of a store, `*(SIZE *)(BASE SIGN OFFSET) = VALUE`. BASE is register `dst`. SIZE is an unsigned type, `u8` to `u64` (not
+/// `signed`). VALUE is a constant, or a register by the name of its 64 bits (`wide`), also if fewer are stored.
 #[tactic(auto, unfolding(text_line::specs::Written::printed_insn))]
 fn write_store(
     text: &mut String,

@@ -15,7 +15,8 @@ pub fn one_program()
     text_line::laws::one_instruction();
 }
 
-/// A law: a text with a program has no fault of its own. So `assemble` returns the program unless memory is refused.
+/// A law: a text that is assembled to a program (`IsAssembled`) has no fault of its own (`IsOwnFault`): no line has a fault, and the text
+/// has at least one slot. So `assemble` returns the program unless memory is refused.
 pub fn program_has_no_fault()
     ensures { ProgramHasNoFault }
 {

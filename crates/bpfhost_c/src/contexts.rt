@@ -30,7 +30,8 @@ fn as_given(words: &[u32]) -> Option<&[[u32; GIVEN_WORDS]]>
     Some(contexts)
 }
 
-/// The words that a run is given of a context: its first `GIVEN_WORDS`, and zeros for those that it does not have.
+/// The words that a run is given of a context: its first `GIVEN_WORDS`, and zeros for those that it does not have. Later words are left
+/// out: `copied_contexts` has found them zero.
 fn fit(words: &[u32]) -> [u32; GIVEN_WORDS]
     ensures { result ≡ fitted words.now }
 {

@@ -66,7 +66,8 @@ fn object_of(descriptor: &Descriptor) -> Option<Target>
     }
 }
 
-/// Whether each descriptor is to name a program, or a map that MAP_CREATE makes without an error (`object_of`).
+/// Whether the object that each descriptor is to name is a program, or a map whose fields MAP_CREATE accepts (`object_of`). True if there
+/// are no descriptors.
 fn are_objects(descriptors: &[Descriptor]) -> bool
     ensures { result ≡ are_objects descriptors.now }
 {
@@ -78,8 +79,8 @@ fn are_objects(descriptors: &[Descriptor]) -> bool
     true
 }
 
-/// The descriptors with their objects; one without an object is left out. After the test by `are_objects` each has an object.
-/// `AllocError`: out of memory.
+/// Each descriptor with the object that it is to name (`object_of`). A descriptor for whose fields MAP_CREATE has an error is left out.
+/// After the test by `are_objects` there is no such descriptor. `AllocError`: out of memory.
 fn named_by(alloc: Global, descriptors: &[Descriptor]) -> Result<Vec<Named>, AllocError>
     ensures { IfOk result (λ named. named.items ≡ named_by descriptors.now) }
 {
@@ -93,8 +94,9 @@ fn named_by(alloc: Global, descriptors: &[Descriptor]) -> Result<Vec<Named>, All
     Ok(named)
 }
 
-/// Verifies slots with the objects of these descriptors, in working memory that is freed afterwards. The inner result is the program that
-/// the slots spell, or why they are refused. `AllocError`: out of memory.
+/// Verifies slots. Each of the descriptors names the object that its fields describe (`object_of`). The inner result is the program
+/// that the slots spell, or why they are refused. The program's `entries` are the descriptors of its maps, each with its object. The
+/// working memory is freed afterwards. `AllocError`: out of memory.
 fn verified(
     alloc: Global,
     slots: &[u8],

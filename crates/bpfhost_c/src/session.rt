@@ -96,7 +96,8 @@ impl Session {
         Ok(Box::new(alloc, session)?)
     }
 
-    /// Handles a frame, whose reply is then in `reply`.
+    /// Handles a frame, whose reply is then in `reply`. The births of the frame's tenant change as its command says, and no other births
+    /// change (`recorded`).
     pub(crate) fn handle(&mut self, frame: &[u8])
         ensures handled { Handles self.old.host.states frame.now self.new.reply.items
             self.new.host.states }
@@ -113,8 +114,9 @@ impl Session {
         self.reply = reply.into_vec();
     }
 
-    /// Makes part `part` of a save of a tenant, counted from 0. True: its frames are in `saved`. False: there is no such part, or the
-    /// tenant is not served. `AllocError`: out of memory. After false, and after `AllocError`, `saved` is empty.
+    /// Makes part `part`, counted from 0, of a save of a tenant. True: the part's frames are in `saved`. False: there is no such part, or
+    /// the tenant is not served. `AllocError`: out of memory. After false, and after `AllocError`, `saved` is empty. The frames of all
+    /// parts restore the tenant: a new tenant that has handled them replies as the saved one does (`restored`).
     pub(crate) fn save(&mut self, tenant: usize, part: usize) -> Result<bool, AllocError>
         ensures saved { IfOk result (λ found. saved_part self.old.host tenant part
             ≡ (if found then Some self.new.saved.items else None)) }
@@ -135,8 +137,9 @@ impl Session {
     }
 
     /// Opens, at a descriptor of `tenant`, a program that was verified without a host. Returns the status of the reply to the frame that
-    /// would load it: the descriptor, or the negated error number. `Err`: a descriptor of its maps names no map of the shape with which it
-    /// was accepted. Then the program is given back, and the session is unchanged.
+    /// would load it: the descriptor, or the negated error number. For a tenant that is not served the program is dropped, and the status
+    /// is that of `NotPermitted`. `Err`: a descriptor of the program's maps names no map of the shape with which the program was accepted.
+    /// Then the program is given back, and the session is unchanged.
     pub(crate) fn install(
         &mut self,
         tenant: u16,
@@ -153,7 +156,9 @@ impl Session {
     }
 
     /// Runs the program at descriptor `fd` of a tenant on the packets of a batch, writes the results to the front of `results`, and returns
-    /// 0. If the batch is rejected, it returns the status of the error; then no packet was run, and nothing has changed.
+    /// 0. In `batch`, the packets lie one after another in `bytes`, `ends` has for each the number of bytes up to its end, and `contexts`
+    /// has one context for all packets, or one for each. If the batch is rejected, the call returns the status of the error, the negated
+    /// error number; then no packet was run, and nothing has changed.
     pub(crate) fn run_packets(
         &mut self,
         tenant: usize,
@@ -180,10 +185,11 @@ impl Session {
         }
     }
 
-    /// How many packets at the front of a batch a `bound` on executed instructions allows, as `Host::allowed_packets` computes it; all if
-    /// `bound` is 0. The batch has `contexts` contexts and `packets` packets, and runs the program at descriptor `fd` of `tenant`. The
-    /// result is `packets` too for a batch that is rejected as a whole: it has neither one context nor one for each packet, `fd` names no
-    /// program, or `tenant` is not served.
+    /// How many packets at the front of a batch a `bound` on executed instructions allows: `bound` divided by the weight of a run, but at
+    /// least 1, and at most `packets`; all if `bound` is 0. The weight is the most instructions that a run executes, and more for its calls
+    /// (`Host::allowed_packets`). The batch has `contexts` contexts and `packets` packets, and runs the program at descriptor `fd` of
+    /// `tenant`. The result is `packets` too for a batch that is rejected as a whole: it has neither one context nor one for each packet,
+    /// `fd` names no program, or `tenant` is not served.
     fn allowed_packets(
         &self,
         tenant: usize,
@@ -203,8 +209,9 @@ impl Session {
         self.host.allowed_packets(tenant, fd, bound, packets)
     }
 
-    /// Runs the program at descriptor `fd` of a tenant on the packets at the front of a batch, as many as `allowed_packets` returns for
-    /// `bound`; 0 is no bound. Their results are written to the front of `results`, and `Ran` has status 0 and the number of these packets.
+    /// Runs the program at descriptor `fd` of a tenant on the packets at the front of a batch, as many as `bound`, a bound on executed
+    /// instructions, allows (`allowed_packets`); 0 is no bound. Their results are written to the front of `results`, and `Ran` has status 0
+    /// and the number of these packets.
     /// If `run_packets` rejects these packets, `Ran` has the status of the error and 0 packets; then nothing has changed.
     pub(crate) fn run_bounded(
         &mut self,
@@ -233,8 +240,11 @@ impl Session {
         Ran { status, packets }
     }
 
-    /// Runs a batch like `run_bounded`, but each context has `batch.size` words. If a run is given more words, the others are 0; if it is
-    /// given fewer, the rest of each context is left out, and has to be 0.
+    /// Runs the program at descriptor `fd` of a tenant on the packets at the front of a batch, as many as `allowed_packets` returns for
+    /// `bound` instructions; 0 is no bound. Each context has `batch.size` words, and a run is given `GIVEN_WORDS`: missing words are 0, and
+    /// words beyond that number are left out, and have to be 0. The results are written to the front of `results`, and `Ran` has status 0
+    /// and the number of these packets. If `run_bounded` rejects the packets, `Ran` has the status of the error and 0 packets; then nothing
+    /// has changed.
     ///
     /// `Err`: the code that C gets. `ERR_SIZE`: the size is 0 or the last context is cut off. `ERR_TOO_BIG`: a context has a word that no
     /// run is given and that is not 0. `ERR_NO_MEMORY`: out of memory. Then nothing is changed.

@@ -46,8 +46,9 @@ fn write_text(text: &[u8], room: &mut [u8])
     room[count] = 0;
 }
 
-/// The log of the program that the bytes of `slots` spell, or the line of their refusal if they spell none. The program is verified with
-/// the objects that the descriptors of `tenant` name; for a tenant that is not served nothing is open. `AllocError`: out of memory.
+/// The log of the program that the bytes of `slots` spell, or the line of their refusal if they spell none; and whether the program is
+/// accepted. By `style` the log has lines or is a graph. The program is verified with the objects that the descriptors of `tenant` name;
+/// for a tenant that is not served nothing is open. `AllocError`: out of memory.
 fn log_in(
     alloc: Global,
     host: &Host,

@@ -17,8 +17,8 @@ pub struct Descriptors {
     named: Vec<Named>,
 }
 
-/// The shape that a text `KIND:KEY:VALUE:MAX` means; `Map` if it means none. `read_shape` needs a descriptor before it; any valid one, as
-/// 3, will do.
+/// The shape that a text `KIND:KEY:VALUE:MAX` means. The error is `Map` if the text means none, or `Memory`. `read_shape` reads a whole map
+/// argument, which begins with a descriptor: 3 is written before the text, and the descriptor is not returned.
 pub fn shape_of(alloc: Global, text: &str) -> Result<MapShape, CaseError> {
     let argument = format!(in alloc; "3:{text}")?;
     match read_shape(argument.as_str())?.target {
@@ -39,7 +39,7 @@ fn named_map(alloc: Global, text: &str) -> Result<Named, CaseError> {
     })
 }
 
-/// The descriptor that the text has, any number of 32 bits, with a program. `Number` if the text is no such number.
+/// An open descriptor that names a program. The text is the descriptor, any number of 32 bits; `Number` if the text is no such number.
 fn named_program(text: &str) -> Result<Named, CaseError> {
     Ok(Named {
         fd: text.parse()?,
@@ -56,12 +56,13 @@ impl Descriptors {
         }
     }
 
-    /// What the open descriptors name.
+    /// The open descriptors with what each names, in the order in which the lines opened them. One that two lines opened is listed twice.
     pub fn named(&self) -> &[Named] {
         &self.named
     }
 
-    /// Appends an open descriptor. Returns `open`, which is written below the line that opens it. The error is out of memory.
+    /// Appends an open descriptor with the object that it names (`new`). Returns the text `open`, which is written below the line that
+    /// opens the descriptor. The error is out of memory.
     fn open(&mut self, new: Named) -> Result<String, CaseError> {
         self.named.push(new)?;
         Ok("open".to_string(self.alloc)?)

@@ -14,8 +14,8 @@ fn append_equal(text: &mut String, lines: &[&str]) -> Result<(), AllocError> {
     }
 }
 
-/// Appends the lines of an output, equal lines that follow each other as a repetition; and, if its last line has no line feed, a line that
-/// states this.
+/// Appends the lines of `output`, each after a line feed. Equal lines that follow each other become one line, a repetition in the notation
+/// of cases. If the last line of `output` has no line feed, appends a line that states this. `AllocError`: out of memory.
 fn append_output(alloc: Global, text: &mut String, output: &str) -> Result<(), AllocError> {
     let lines: Vec<&str> = output.lines().collect(alloc)?;
     for equal in lines.chunk_by(|a, b| a == b) {
@@ -27,8 +27,9 @@ fn append_output(alloc: Global, text: &mut String, output: &str) -> Result<(), A
     Ok(())
 }
 
-/// The text of how a program ended: its status, then the lines of `output` as `append_output` writes them, then each line of `faults` with
-/// `fault: ` before it. `faults` is what the program wrote as its fault. `NoText` if `faults` are not UTF-8.
+/// The text of how a program ended: its status, then the lines of `output`, then each line of `faults` with `fault: ` before it. Equal
+/// lines of `output` that follow each other become one repetition, and if its last line has no line feed, one more line states this.
+/// `faults` is what the program wrote as its fault. `NoText` if `faults` are not UTF-8, `Memory` if out of memory.
 pub fn outcome(
     alloc: Global,
     status: u8,

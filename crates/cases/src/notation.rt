@@ -40,8 +40,8 @@ fn append_escaped(bytes: &mut Vec<u8>, text: &str) -> Result<(), CaseError> {
     Ok(())
 }
 
-/// Appends the bytes of a text without repetitions. It is split at each `\x`, and each piece but the first has to begin with two hex
-/// digits. If a piece does not, the error is that of `append_escaped`, `Notation` or `Digits`.
+/// Appends the bytes of a text without repetitions. The text is split at each `\x`, and each piece but the first has to begin with two hex
+/// digits. `Notation` if such a piece can't be split after two bytes, `Digits` if these are no hex digits, `Memory` if out of memory.
 fn append_text(bytes: &mut Vec<u8>, text: &str) -> Result<(), CaseError> {
     for (index, piece) in text.split("\\x").enumerate() {
         if index == 0 {
@@ -53,7 +53,8 @@ fn append_text(bytes: &mut Vec<u8>, text: &str) -> Result<(), CaseError> {
     Ok(())
 }
 
-/// Appends `part`, what a repetition repeats, once: `digits` instead of each `#`, and the other bytes unchanged.
+/// Appends one repetition of `part`, the PART of `{COUNT*PART}`. Each `#` becomes `digits`, the number of repetitions before this one in
+/// decimal digits; the other bytes are unchanged. `AllocError`: out of memory.
 fn append_numbered(bytes: &mut Vec<u8>, part: &[u8], digits: &str) -> Result<(), AllocError> {
     for byte in part {
         if *byte == b'#' {
@@ -80,8 +81,9 @@ fn append_times(
     Ok(())
 }
 
-/// Appends the bytes of a repetition and of the text after it; `text` begins after the `{` of the repetition. `Notation` if the `}` or the
-/// `*` is missing. It also fails as `times` and `append_text` do.
+/// Appends the bytes of a repetition, `{COUNT*PART}`, and of the text after the repetition; `text` begins after the `{`. `Notation` if the
+/// `}` or the `*` is missing, COUNT is wrong (`times`), or two bytes can't be split off after a `\x`; `Digits` if the two bytes are no hex
+/// digits; `Memory` if out of memory.
 fn append_repeated(alloc: Global, bytes: &mut Vec<u8>, text: &str) -> Result<(), CaseError> {
     let (repetition, rest) = text.split_once('}').ok_or(CaseError::Notation)?;
     let (digits, part) = repetition.split_once('*').ok_or(CaseError::Notation)?;
@@ -111,8 +113,9 @@ pub fn text_of(bytes: &[u8]) -> Result<&str, CaseError> {
     str::from_utf8(bytes).map_err(|_| CaseError::NoText)
 }
 
-/// The bytes of hex digits, which blanks may separate. The digits are what `written` makes of `text`, so a repetition may give some.
-/// `Digits` if a character is no hex digit or the number of digits is odd, `NoText` if they are not UTF-8, and the errors of `written`.
+/// The bytes of the hex digits that `text` represents in the notation of cases (`written`), so a repetition may stand for digits. Blanks
+/// between the digits are left out. The errors are those of `written`, then `NoText` if the bytes that `written` returns are not UTF-8,
+/// then `Digits` if one of their characters is neither a blank nor a hex digit, or if the number of digits is odd.
 pub fn bytes_of(alloc: Global, text: &str) -> Result<Vec<u8>, CaseError> {
     let text = written(alloc, text)?;
     let digits = text_of(&text)?;
@@ -121,7 +124,8 @@ pub fn bytes_of(alloc: Global, text: &str) -> Result<Vec<u8>, CaseError> {
     Ok(bytes)
 }
 
-/// The bytes of hex digits, for a map's key or value. The errors are those of `bytes_of`, and `Size` if the number of bytes is not `size`.
+/// The bytes of a map's key or value, from hex digits in the notation of cases, which blanks may separate. `Size` if there are not `size`
+/// bytes; `Digits` if a character is no hex digit or the number of digits is odd. `Notation`, `NoText`, `Memory`: those of `bytes_of`.
 pub fn bytes_of_size(alloc: Global, text: &str, size: u32) -> Result<Vec<u8>, CaseError>
     ensures { IfOk result (λ bytes. length bytes.items ≡ size) }
 {
@@ -132,7 +136,8 @@ pub fn bytes_of_size(alloc: Global, text: &str, size: u32) -> Result<Vec<u8>, Ca
     Ok(bytes)
 }
 
-/// The hex digits of bytes, in groups of `size` bytes with a blank between them; a size of 0 counts as 1.
+/// The hex digits of bytes, in groups of `size` bytes with a blank between them; the last group has the bytes that are left, which may be
+/// fewer. A size of 0 counts as 1. `AllocError`: out of memory.
 pub fn hex_groups(alloc: Global, bytes: &[u8], size: usize) -> Result<String, AllocError> {
     let mut text = String::new(alloc);
     for group in bytes.chunks(size.max(1)) {
@@ -155,8 +160,8 @@ fn append_lines(alloc: Global, shown: &mut String, lines: &[&str]) -> Result<(),
     }
 }
 
-/// A text on one line: `;` for each line feed, and equal lines that follow each other as a repetition. Its own `;`, `\` and braces are not
-/// escaped.
+/// A text on one line: `;` for each line feed, and equal lines, one after another, as a repetition `{COUNT*PART}`. A `;`, `\` or brace that
+/// the text itself has is not escaped, so two texts may be shown alike.
 pub fn shown(alloc: Global, text: &str) -> Result<String, AllocError> {
     let lines: Vec<&str> = text.split_inclusive('\n').collect(alloc)?;
     let mut shown = String::new(alloc);

@@ -19,8 +19,8 @@ fn print_indented<R: Print>(rt: &R, answer: &str) -> io::Result<()> {
     Ok(())
 }
 
-/// Writes each line of standard input, and below it its outcome or its error, indented; nothing below a remark. The error is that of the
-/// input or the output.
+/// Writes each line of standard input, and below it, indented, its outcome or the error of playing it; nothing below a remark. After such
+/// an error the next line is played. Returns an error only if standard input or output fails: then no further line is played.
 pub fn play_lines<R: AllocGlobal + Input + Print, P: Player>(
     rt: &R,
     player: &mut P,

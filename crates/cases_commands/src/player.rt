@@ -44,8 +44,8 @@ impl CommandPlayer {
         Ok(shown(self.alloc, self.room.bytes())?)
     }
 
-    /// Opens the lowest free descriptor for a number, and returns the descriptor as text. If none is free, the text says that the number is
-    /// handed back.
+    /// Opens the lowest free descriptor, which then names `number`, and returns the descriptor as text. The objects of this table are
+    /// numbers. If no descriptor is free, the text says that `number` is handed back.
     fn place(&mut self, number: u32) -> Result<String, AllocError> {
         match self.numbers.place(number) {
             Ok(fd) => fd.to_string(self.alloc),
@@ -53,7 +53,7 @@ impl CommandPlayer {
         }
     }
 
-    /// The number that a descriptor names, as text; `nothing` if it is not open.
+    /// The number that descriptor `fd` names, as text; `nothing` if `fd` is not open. The objects of this player's table are numbers.
     fn get(&self, fd: u32) -> Result<String, AllocError> {
         match self.numbers.get(fd) {
             Some(number) => number.to_string(self.alloc),
@@ -61,7 +61,8 @@ impl CommandPlayer {
         }
     }
 
-    /// Closes a descriptor, and returns the number that it named, as text; `nothing` if it was not open.
+    /// Closes a descriptor, and returns, as text, the number that the descriptor named: in this table descriptors name plain numbers, no
+    /// maps or programs. Returns the text `nothing` if the descriptor was not open.
     fn close(&mut self, fd: u32) -> Result<String, AllocError> {
         match self.numbers.close(fd) {
             Some(number) => number.to_string(self.alloc),
@@ -90,6 +91,8 @@ impl CommandPlayer {
 }
 
 impl Player for CommandPlayer {
+    // The first word of the line selects the function, which gets the rest. `full` shows whether no descriptor is free (`is_full`).
+    // `UnknownWord` if no arm has the word.
     fn play(&mut self, line: &str) -> Result<String, CaseError> {
         let (word, rest) = first_word(line);
         match word {

@@ -74,7 +74,8 @@ fn numbers(alloc: Global, words: &str) -> Result<Vec<u8>, CaseError> {
     Ok(bytes)
 }
 
-/// The bytes of `front`, and after them those of the hex digits, which `bytes_of` reads. It fails like `bytes_of`.
+/// The bytes of `front`, and after them those of the hex digits `digits`. The errors are those of `bytes_of`, which reads the digits, or
+/// out of memory.
 fn before(alloc: Global, front: &[u8], digits: &str) -> Result<Vec<u8>, CaseError> {
     let rest = bytes_of(alloc, digits)?;
     let mut bytes = Vec::new(alloc);
@@ -83,8 +84,9 @@ fn before(alloc: Global, front: &[u8], digits: &str) -> Result<Vec<u8>, CaseErro
     Ok(bytes)
 }
 
-/// The bytes of the slots of the program to which `text`, in the notation of cases, assembles. The errors are those of `written` and
-/// `text_of`, and `Text` if the text does not assemble.
+/// The bytes of a program's slots. `text` is the program's text in the notation of cases: `written` resolves its `;`, `\xHH` and
+/// `{COUNT*PART}`, and the resulting text is assembled. The errors are those of `written`, `NoText` if its bytes are not UTF-8, and `Text`
+/// if the resulting text does not assemble.
 fn slots_of(alloc: Global, text: &str) -> Result<Vec<u8>, CaseError> {
     let text = written(alloc, text)?;
     let program = assemble(alloc, text_of(&text)?)?;
@@ -166,14 +168,15 @@ impl HostPlayer {
         self.command(tenant, MAP_UPDATE_ELEM, descriptor, &bytes)
     }
 
-    /// The reply to a load of these slots.
+    /// The reply, as hex digits, to PROG_LOAD for `tenant`, with the type of socket filters and `slots`, the bytes of a program's slots.
+    /// `AllocError`: out of memory.
     fn load_slots(&mut self, tenant: u16, slots: &[u8]) -> Result<String, AllocError> {
         let frame = frame(self.alloc, tenant, PROG_LOAD, SOCKET_FILTER, slots)?;
         self.reply(&frame)
     }
 
-    /// The reply to a load, for the words of a line: a tenant, and the program's text. `Number` if the tenant is missing or wrong, else the
-    /// errors of `slots_of`, as `Text` if the text does not assemble.
+    /// The reply to a load, for the words of a line: a tenant, and the program's text. `Number` if the tenant is no number of 16 bits, else
+    /// the errors of `slots_of`, as `Text` if the text does not assemble.
     fn load(&mut self, rest: &str) -> Result<String, CaseError> {
         let (tenant, text) = first_word(rest);
         let tenant = tenant.parse()?;
@@ -231,9 +234,9 @@ impl HostPlayer {
         Ok(replies)
     }
 
-    /// Plays the lines again, until they have been played `count` times, round 0 included, or until a round has other replies than round 0,
-    /// which had `first`. Returns the number and the replies of the round that has others, as one text; `None` if no round has others.
-    /// Fails like `round`.
+    /// Plays rounds 1 to `count` - 1 of the lines, and stops at the first round whose replies differ from `first`, the replies of round 0.
+    /// Returns the number and the replies of that round, as one text; `None` if no round differs, also for a `count` of 0 or 1. The errors
+    /// are those of `round`.
     fn other_round(
         &mut self,
         lines: &str,
@@ -249,9 +252,10 @@ impl HostPlayer {
         Ok(None)
     }
 
-    /// Plays lines a number of times, but at least once, for the words of a line: the number, and the lines with `|` between them. Returns
-    /// the number and the replies of round 0 if each round has the same; otherwise the number of the first round that has other replies,
-    /// and these. `Number` if the number is missing or wrong, and the errors of `reply_to_line`.
+    /// Plays lines COUNT times, but at least once. `rest` has COUNT, in decimal digits, and then the lines, with `|` between them. Returns
+    /// `COUNT rounds: REPLIES` if each round has the replies of round 0; otherwise `after N rounds: REPLIES`, with the number of the first
+    /// round that has others, and its replies. `Number` if COUNT is missing or no number of 32 bits; other errors are those of
+    /// `reply_to_line`.
     fn rounds(&mut self, rest: &str) -> Result<String, CaseError> {
         let (count, lines) = first_word(rest);
         let count: u32 = count.parse()?;
@@ -269,8 +273,9 @@ impl HostPlayer {
         Ok(String::new(self.alloc))
     }
 
-    /// Sets the context words of the runs that follow to the bytes of the hex digits. Fails like `bytes_of`. Returns the empty text, so
-    /// nothing is written below the line.
+    /// Sets the context words of the runs that follow to the bytes of the hex digits, which blanks may separate. `Digits` if another
+    /// character is no hex digit or the number of digits is odd, `NoText` if they are not UTF-8, and the errors of `written`. Returns the
+    /// empty text, so nothing is written below the line.
     fn set_words(&mut self, digits: &str) -> Result<String, CaseError> {
         self.words = bytes_of(self.alloc, digits)?;
         Ok(String::new(self.alloc))
@@ -278,6 +283,8 @@ impl HostPlayer {
 }
 
 impl Player for HostPlayer {
+    /// Plays a line by its first word (the table in `main.rt`). `stream`, `cut`, `relay` and `program` do not use this player's host. The
+    /// errors are those of the function that plays the line, and `UnknownWord` for any other first word.
     fn play(&mut self, line: &str) -> Result<String, CaseError> {
         let (word, rest) = first_word(line);
         match word {
@@ -288,7 +295,7 @@ impl Player for HostPlayer {
             "cut" => cut(self.alloc, rest),
             "relay" => relay(self.alloc, rest),
             "program" => program(self.alloc, rest),
-            // A line that asks for one frame, or no line of cases.
+            // A word that asks for the reply to one frame, or an unknown one.
             _ => self.reply_to_line(word, rest),
         }
     }

@@ -10,7 +10,8 @@ use std::alloc::{AllocError, Global};
 /// The size in bytes of the buffer for one call of a reader: small, so that a short case has more bytes than it takes.
 const ROOM: usize = 4;
 
-/// How a stream ended: `ok`, or the program's fault line, and how many frames had a reply.
+/// The text of how a stream ended: `ok` or the program's fault line, each with the number of frames that had a reply. `AllocError`: out of
+/// memory.
 fn end_of(alloc: Global, end: Result<u32, ServeFault>) -> Result<String, AllocError> {
     match end {
         Ok(frames) => format!(in alloc; "ok {frames}"),
@@ -22,16 +23,17 @@ fn end_of(alloc: Global, end: Result<u32, ServeFault>) -> Result<String, AllocEr
     }
 }
 
-/// How a stream ended, and below it the hex digits of what was written.
+/// How a stream ended, as text, and in the next line the hex digits of `output`, the bytes that were written. `end` is the result of
+/// `serve`: the number of frames that had a reply, or the fault. `AllocError`: out of memory for the text.
 fn ended(alloc: Global, end: Result<u32, ServeFault>, output: &[u8]) -> Result<String, AllocError> {
     let end = end_of(alloc, end)?;
     let output = hex_groups(alloc, output, GROUP)?;
     format!(in alloc; "{end}\n{output}")
 }
 
-/// How `serve` ends on the bytes `input`, also if with a fault, and below it the hex digits of what it wrote. It serves at most `limit`
-/// frames, a number in decimal digits. `Number` if `limit` is no number of 32 bits, `OutOfRange` if it is above `MOST_FRAMES`, `Memory` if
-/// out of memory for the text.
+/// Serves the stream `input`, at most `limit` frames, a number in decimal digits. The text says how `serve` ended: `ok` or the fault line,
+/// with the number of frames that had a reply. Below this are the hex digits of what `serve` wrote. A fault is in the text, no error.
+/// `Number` if `limit` is no number of 32 bits, `OutOfRange` if `limit` is above `MOST_FRAMES`, `Memory` if out of memory for the text.
 fn served(alloc: Global, host: &mut Host, limit: &str, input: &[u8]) -> Result<String, CaseError> {
     let limit: u32 = limit.parse()?;
     if limit > MOST_FRAMES {
@@ -43,8 +45,9 @@ fn served(alloc: Global, host: &mut Host, limit: &str, input: &[u8]) -> Result<S
     Ok(ended(alloc, end, &writer.into_inner())?)
 }
 
-/// How `serve` ends in a new host, and in the next line the hex digits of what `serve` wrote (`served`). The words of `line` are a number
-/// of tenants, a limit of frames, and the stream's bytes as hex digits. The errors are those of `new_host`, `bytes_of` and `served`.
+/// Serves a stream in a new host. Returns how `serve` ended, and in the next line the hex digits of what it wrote (`served`). The words of
+/// `line` are the number of tenants, the most frames that are served, and the stream's bytes as hex digits. The errors are those of
+/// `new_host`, `bytes_of` and `served`.
 pub fn stream(alloc: Global, line: &str) -> Result<String, CaseError> {
     let (tenants, rest) = first_word(line);
     let (limit, digits) = first_word(rest);
@@ -99,7 +102,8 @@ fn word_of(word: &str) -> &str {
     if word == "\"\"" { "" } else { word }
 }
 
-/// How a run of the program on these arguments and this input ends: its status, its output in hex digits, and its fault line.
+/// How a run of the program on these arguments and this input ends: its status, its output in hex digits, and its fault line. The seed,
+/// which only `serve` needs, is always the same.
 fn ran(alloc: Global, words: &[&str], input: &[u8]) -> Result<String, CaseError> {
     let mut output = Vec::new(alloc);
     let mut faults = Vec::new(alloc);
@@ -118,8 +122,9 @@ fn ran(alloc: Global, words: &[&str], input: &[u8]) -> Result<String, CaseError>
     outcome(alloc, status, &output, &faults)
 }
 
-/// How a run of the program ends (`ran`). The line has the program's arguments and, after `<`, its input in hex digits; `Notation` if it
-/// has no `<`. Other errors are those of `bytes_of` for the input, and of `ran`.
+/// How the host's command line (`run_words`) ends: its status, its output in hex digits, and its fault line (`ran`). The line of the case
+/// has the arguments and, after `<`, the input in hex digits; `Notation` if the line has no `<`. Other errors are those of `bytes_of` for
+/// the input, and of `ran`.
 pub fn program(alloc: Global, line: &str) -> Result<String, CaseError> {
     let (words, digits) = input_of(line)?;
     let words: Vec<&str> = words.split_whitespace().map(word_of).collect(alloc)?;

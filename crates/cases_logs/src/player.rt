@@ -55,8 +55,9 @@ impl LogPlayer {
 }
 
 impl Player for LogPlayer {
-    /// `log`, `all` and `dot`, with a program after them, return its log in one of the styles of `LogStyle`. `run`, with arguments and an
-    /// input, returns how `verifier_log` ends on them. Any other line is played on the descriptors.
+    /// `log`, `all` and `dot`, with the text of a program after them, return its log: in lines with what is new before each instruction,
+    /// in lines with all facts before it, or as a graph. `run`, with arguments and an input, returns how `verifier_log` ends on them. Any
+    /// other line is played on the descriptors.
     fn play(&mut self, line: &str) -> Result<String, CaseError> {
         let (word, rest) = first_word(line);
         match word {
@@ -64,7 +65,7 @@ impl Player for LogPlayer {
             "all" => self.log(rest, LogStyle::Whole),
             "dot" => self.log(rest, LogStyle::Graph),
             "run" => self.run(rest),
-            // A line that opens a descriptor, `new`, or no line of cases.
+            // `map` and `program` open a descriptor, `new` closes all. `UnknownWord` for any other word.
             _ => self.descriptors.play(line),
         }
     }

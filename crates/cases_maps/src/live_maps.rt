@@ -53,7 +53,8 @@ fn create_held(
 }
 
 impl LiveMapsPlayer {
-    /// A player without maps. The seed of its hash maps is always the same, and its memory has the one part.
+    /// A player without maps. Its hash maps always have the same seed. Its memory is an arena of one part, `PART` bytes, which is the
+    /// tenant's. `AllocError`: out of memory.
     pub fn new(alloc: Global) -> Result<LiveMapsPlayer, AllocError> {
         Ok(LiveMapsPlayer {
             alloc,
@@ -174,9 +175,9 @@ impl LiveMapsPlayer {
         Ok(hex_groups(self.alloc, value, GROUP)?)
     }
 
-    /// An update, for the words of a line: the number of the map, the flags, the key and the value. It claims an element, and writes the
-    /// value there. Returns `claimed`, or the name of the map's fault. The errors are those of `live_map`, `Number` if the flags are no
-    /// number, and those of `bytes_of_size` for the key and the value.
+    /// An update, for the words of a line: the map's number in the lines, which is no handle (`live_map`), the flags, the key and the
+    /// value. Claims an element for the key, and writes the value there. Returns `claimed`, or the name of the map's fault. The errors are
+    /// those of `live_map`, `Number` if the flags are no number, and those of `bytes_of_size` for the key and the value.
     fn claim(&mut self, rest: &str) -> Result<String, CaseError> {
         let (number, rest) = first_word(rest);
         let (flags, rest) = first_word(rest);
@@ -199,8 +200,8 @@ impl LiveMapsPlayer {
         }
     }
 
-    /// Removes a key, for the words of a line: the map and the key. Returns `removed`, or the name of the map's fault. The errors are those
-    /// of `live_map` and `bytes_of_size`.
+    /// Removes a key from a live map, for the words of a line: the map's number in the lines, and the key in hex digits. Returns `removed`,
+    /// or the name of the map's fault. The errors are those of `live_map` for the map, and of `bytes_of_size` for the key.
     fn remove(&mut self, rest: &str) -> Result<String, CaseError> {
         let (number, digits) = first_word(rest);
         let map = self.live_map(number)?;
@@ -209,8 +210,9 @@ impl LiveMapsPlayer {
     }
 
     /// The hex digits of the key that follows a key of a map, or the name of the fault of `next_key`. The words of a line are the map's
-    /// number and the key in hex digits; without a key, the result is the map's first key. `NoMap` if the map is not live, `Size` if the
-    /// key has not the size of the map's keys, and the errors of `bytes_of`.
+    /// number in the lines, which is no handle (`live_map`), and the key in hex digits; without a key, the result is the map's first key.
+    /// `Number` if the first word is no number, `NoMap` if the map is not live, `Size` if the key has not the size of the map's keys, and
+    /// the errors of `bytes_of`.
     fn next(&self, rest: &str) -> Result<String, CaseError> {
         let (number, digits) = first_word(rest);
         let map = self.live_map(number)?;
@@ -225,15 +227,16 @@ impl LiveMapsPlayer {
     }
 
     /// Ends a run on the map that has this number in the lines, so that the elements of removed keys are free again. Returns the empty
-    /// text. Fails like `live_map`.
+    /// text. `NoMap` if no handle has this number, or its map is not live; `Number` if the text is no number.
     fn end(&mut self, number: &str) -> Result<String, CaseError> {
         let map = self.live_map(number)?;
         self.maps.end_run(map);
         Ok(nothing(self.alloc))
     }
 
-    /// The result of a test run, as text. The words of `rest` are the map's number, the packet as hex digits, and the program's text. The
-    /// errors are those of `live_map`, `bytes_of` and `run_text`.
+    /// The result of a test run, in decimal digits. The words of `rest` are a map's number, the packet as hex digits, and the program's
+    /// text. The program has to load the map, which is at descriptor 3, and no other one. The errors are those of `live_map`, `bytes_of`
+    /// and `run_text`.
     fn run(&mut self, rest: &str) -> Result<String, CaseError> {
         let (number, rest) = first_word(rest);
         let (packet, text) = first_word(rest);

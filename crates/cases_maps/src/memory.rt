@@ -38,7 +38,8 @@ fn size_of(text: &str) -> Result<usize, CaseError>
     }
 }
 
-/// A memory of `parts` parts of `size` bytes. `OutOfRange` if `parts` is 0 or above `MOST_PARTS`, or `size` is 0 or above `LARGEST_PART`.
+/// A memory of `parts` parts of `size` zero bytes. `OutOfRange` if `parts` is 0 or above `MOST_PARTS`, or `size` is 0 or above
+/// `LARGEST_PART`; `Memory` if out of memory.
 fn new_memory(alloc: Global, parts: usize, size: usize) -> Result<Arena, CaseError> {
     if parts < 1 || parts > MOST_PARTS || size < 1 || size > LARGEST_PART {
         return Err(CaseError::OutOfRange);
@@ -94,8 +95,8 @@ impl MemoryPlayer {
     }
 
     /// Copies bytes. `rest` has the address of the target, that of the source, and the length. Returns the text `copied`, or `outside` if
-    /// the memory does not have all these bytes. The errors are those of `address`, `Number` if the length does not parse, and `OutOfRange`
-    /// if it is 0: `Arena::copy` requires at least 1.
+    /// the memory does not have all these bytes. `Number` if an address or the length does not parse; `OutOfRange` if an address with `+`
+    /// is 2^64 or more, or if the length is 0: `Arena::copy` requires at least 1.
     fn copy(&mut self, rest: &str) -> Result<String, CaseError> {
         let (to, rest) = first_word(rest);
         let (from, length) = first_word(rest);

@@ -9,7 +9,8 @@ use seeded_hash::HashSeed;
 use std::alloc::Global;
 
 /// Finds a key, given as hex digits, in a map. Returns the text `element` with the number of its element, or `absent` if the map does not
-/// have the key. `size` is the size of the map's keys; fails if `digits` are not the hex digits of so many bytes.
+/// have the key. `size` is the size of the map's keys in bytes. `Size` if the digits give more or fewer bytes, `Digits` if they are no hex
+/// digits or their number is odd; the other errors are those of `bytes_of`.
 fn find<M: ValueMap>(alloc: Global, map: &M, size: u32, digits: &str) -> Result<String, CaseError>
     requires { size ≡ (M.keys map.now).shape.key_size }
 {
@@ -66,8 +67,9 @@ fn next<M: ValueMap>(alloc: Global, map: &M, size: u32, digits: &str) -> Result<
     key_text(alloc, outcome, &buffer, size)
 }
 
-/// What a call on a map returns, as text, by the call's name and the words after it. `size` is the size of the map's keys. `UnknownWord` if
-/// no call has this name, and the errors of `find`, `claim`, `remove` and `next`.
+/// What a call on a map returns, as text, by the call's name and the words after it. The call `end` ends a run, so that the elements kept
+/// apart are free again, and returns the empty text. `size` is the size of the map's keys. `UnknownWord` if no call has this name, and the
+/// errors of `find`, `claim`, `remove` and `next`.
 fn play_call<M: ValueMap>(
     alloc: Global,
     map: &mut M,
@@ -103,8 +105,8 @@ impl OneMapPlayer {
         OneMapPlayer { alloc, map: None }
     }
 
-    /// Makes a new map of this shape, on which the lines that follow are played. The seed of a hash map is always the same. Returns the
-    /// empty text. `Map` if the text means no shape.
+    /// Makes a new map of this shape, written `KIND:KEY:VALUE:MAX`, on which the lines that follow are played. Every hash map has the
+    /// seed of 1 and 2. Returns the empty text. `Map` if the text means no shape, `Memory` if out of memory.
     fn begin(&mut self, shape: &str) -> Result<String, CaseError> {
         let shape = shape_of(self.alloc, shape)?;
         self.map = Some(BpfMap::new(self.alloc, shape, HashSeed::new(1, 2))?);

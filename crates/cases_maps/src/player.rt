@@ -26,6 +26,8 @@ impl MapPlayer {
 }
 
 impl Player for MapPlayer {
+    /// The first word is what the line's call is on: `map` is one map, `maps` the live maps of a tenant, `memory` a memory. The second word
+    /// is the call, the rest its arguments. `UnknownWord` if the first word is none of these.
     fn play(&mut self, line: &str) -> Result<String, CaseError> {
         let (word, rest) = first_word(line);
         let (call, rest) = first_word(rest);

@@ -36,10 +36,10 @@ fn accepted(alloc: Global, text: &str, shape: MapShape) -> Result<Verified, Case
     Ok(verified)
 }
 
-/// Runs a program, given as text, on this packet, with zeros as the other words of the context, and returns its result. `map` is live, and
-/// the program has to load it, by `DESCRIPTOR`. Before the run, the last run on the map is ended, since no element of a map may be kept
-/// apart when a run begins. The map's values are in part 0 of the arena. Fails like `accepted`; with `NoMap` if the program loads no map;
-/// with `OutOfRange` if the packet is too long.
+/// Runs a program, given as text, on `packet`, and returns its result. The words of the context are the packet's length and ten zeros.
+/// `map` is live, and the program has to load it, by `DESCRIPTOR`. Before the run, the last run on the map is ended, since no element of a
+/// map may be kept apart when a run begins. The map's values are in part 0 of the arena. The errors are those of `accepted`; `NoMap` if the
+/// program loads no map; `OutOfRange` if the packet is longer than `LONGEST_PACKET`.
 pub fn run_text(
     alloc: Global,
     text: &str,

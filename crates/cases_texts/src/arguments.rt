@@ -5,8 +5,9 @@ use host::{HashSeed, read_shape, run_words};
 use std::alloc::Global;
 
 /// A line `program`: the text of how `run_words` of `host` ends (`outcome`) on the arguments before the first `<` of `case` and the input
-/// after it. The seed of the hash maps is fixed. `Notation` if there is no `<`, the errors of `written` for the input, and `NoText` if what
-/// `run_words` writes is not UTF-8.
+/// after it, in the notation of cases (`written`). The seed of the hash maps is fixed. `Notation` if there is no `<`, or the input breaks
+/// the notation; `Digits` if two bytes after a `\x` of the input are no hex digits; `NoText` if what `run_words` writes is not UTF-8;
+/// `Memory` if out of memory.
 pub fn program_ended(alloc: Global, case: &str) -> Result<String, CaseError> {
     let (arguments, text) = input_of(case)?;
     let arguments: Vec<&str> = arguments.split_whitespace().collect(alloc)?;

@@ -66,8 +66,8 @@ fn append_slot(text: &mut String, program: &Program, slot: usize) -> Result<(), 
 }
 
 /// `places`: for each slot of a program, given as hex digits, and for the slot after its last one, the instruction that begins there, or
-/// `none`. The instructions are read from a clone of a program that is made of them, so that `Program::new` and `clone` are played too.
-/// `Slots` if the bytes spell no program, and the errors of `bytes_of`.
+/// `none`. The slots are decoded, and a second program is made of the instructions and cloned. The text is that of the clone, so that
+/// `Program::new` and `clone` are played too. `Slots` if the bytes spell no program, and the errors of `bytes_of`.
 pub fn places(alloc: Global, text: &str) -> Result<String, CaseError> {
     let bytes = bytes_of(alloc, text)?;
     let program = read_program(alloc, &bytes)?;
@@ -80,8 +80,9 @@ pub fn places(alloc: Global, text: &str) -> Result<String, CaseError> {
     Ok(answer)
 }
 
-/// `exits`: the number of slots of a program of as many exits as the decimal number `digits` says. Fails like `times`, with `Slots` if the
-/// program is empty or too long, or if out of memory.
+/// `exits`: makes a program of as many exits as the decimal number `digits` says, and returns the number of its slots, as `3 slots`.
+/// `Notation` if `digits` is no number or a number above 1,048,576 (`times`), `Slots` if the program is empty or too long. It also fails if
+/// out of memory.
 pub fn made_of_exits(alloc: Global, digits: &str) -> Result<String, CaseError> {
     let exits = vec![in alloc; Insn::Exit; times(digits)? as usize]?;
     let program = Program::new(alloc, &exits)?;

@@ -20,6 +20,9 @@ impl TextPlayer {
 }
 
 impl Player for TextPlayer {
+    /// The first word of the line selects the function that makes the line's outcome from the text after this word: `codec` to `opcodes`
+    /// those of `bytes.rt`, `asm` to `hex` those of `texts.rt`, `program` and `map` those of `arguments.rt`. `opcodes` does not read that
+    /// text. `UnknownWord` for any other word; the other errors are those of the function.
     fn play(&mut self, line: &str) -> Result<String, CaseError> {
         let (word, rest) = first_word(line);
         match word {

@@ -37,8 +37,8 @@ pub fn printed(alloc: Global, text: &str) -> Result<String, CaseError> {
     Ok(answer)
 }
 
-/// `hex`: the bytes of the slots on hex lines that are given in the notation of cases, as hex digits. The errors are those of `written`,
-/// `text_of` and `from_hex_lines`.
+/// `hex`: reads hex lines, which are given in the notation of cases, and returns the bytes of their slots as hex digits (`grouped`). The
+/// errors are those of `written`, `text_of` and `from_hex_lines`.
 pub fn read_hex_lines(alloc: Global, text: &str) -> Result<String, CaseError> {
     let text = written(alloc, text)?;
     let bytes = from_hex_lines(alloc, text_of(&text)?)?;

@@ -39,21 +39,25 @@ impl VerdictPlayer {
         Ok("accepted".to_string(self.alloc)?)
     }
 
-    /// The verdict on a program that begins with `text`, in the notation of cases, and then returns 0. The function fails like `accepted`.
+    /// The word `accepted` if the verifier accepts the program that begins with `text`, in the notation of cases, and then returns 0;
+    /// `Refused`, with slot and reason, if it is rejected. The other errors are those of the function `accepted`, and out of memory.
     fn verdict_of_start(&self, text: &str) -> Result<String, CaseError> {
         let whole = format!(in self.alloc; "{text}; r0 = 0; exit")?;
         self.verdict(whole.as_str())
     }
 
-    /// The verdict on a program with a jump in every second slot (`jumping`), for the words of a line: by how many slots each jump goes
-    /// ahead at most, and the last instruction. `Number` if the first word is no number; else it fails like `accepted`.
+    /// The verdict on a program with a jump in every second slot (`jumping`). The first word of `text` is how many slots each jump skips. A
+    /// jump that would go past the last slot goes to the last slot. The rest of `text` is the instruction there. `Number` if the first word
+    /// is no number. The other errors are those of the function `accepted`, such as `Refused`, and out of memory.
     fn verdict_of_jumps(&self, text: &str) -> Result<String, CaseError> {
         let (ahead, end) = first_word(text);
         let whole = jumping(self.alloc, ahead.parse()?, end)?;
         self.verdict(whole.as_str())
     }
 
-    /// The descriptors of the maps that the program loads, and its number of slots, as text. It fails like `accepted`.
+    /// The descriptors of the maps that the program of `text` loads, or of which it loads a value, and the number of the program's slots,
+    /// as `maps [3] slots 6`. `Refused` if the program is rejected; the errors for a text that gives no program, and for memory, are those
+    /// of the function `accepted`.
     fn maps(&self, text: &str) -> Result<String, CaseError> {
         let verified = self.accepted(text)?;
         let maps = verified.maps();
@@ -63,6 +67,7 @@ impl VerdictPlayer {
 }
 
 impl Player for VerdictPlayer {
+    // The first word of a line selects a function, whose comment says what the rest of the line means.
     fn play(&mut self, line: &str) -> Result<String, CaseError> {
         let (word, rest) = first_word(line);
         match word {

@@ -17,8 +17,10 @@ command_code (prog_load kind slots) = 5
 command_code (prog_test_run fd words packet) = 10
 command_code (close fd) = 256
 
--- the bytes of a command's frame after the head. `bytes` of an update are the key and then the
--- value; `key` and `value` of a new map are their sizes
+-- the bytes of a command's frame after the head; numbers are little-endian. `kind` is the type of
+-- a map or of a program. For a new map, `key` and `value` are the sizes of a key and of a value.
+-- For an update, `bytes` are the key and then the value. For a test run, `words` are the context
+-- words without the first, which is the packet's length
 abbrev pub body_of : Command → List ℕ
 body_of (map_create kind key value max flags) =
     little_bytes 4 kind

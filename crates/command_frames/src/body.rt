@@ -37,7 +37,7 @@ fn word(bytes: &[u8], at: usize) -> u32
 }
 
 /// Reads the body of MAP_CREATE, command 0: the type of the map, the sizes of a key and of a value in bytes, `max_entries`, and the flags,
-/// four bytes each. `Body` if the body has another length.
+/// four bytes each, little-endian. The numbers may be any. `Body` if the body has not 20 bytes.
 fn map_create(body: &[u8]) -> Result<Command<'_>, BadFrame>
     ensures { shown_result result ≡ command_in 0 body.now }
 {
@@ -66,8 +66,8 @@ fn map_lookup(body: &[u8]) -> Result<Command<'_>, BadFrame>
     })
 }
 
-/// Reads the body of MAP_UPDATE, command 2: a descriptor, eight bytes of flags, then the key and the value. `Body` if it is too short for
-/// the descriptor and the flags.
+/// Reads the body of MAP_UPDATE, command 2: a descriptor, eight bytes of flags, then the key and the value, which are not split: only the
+/// map has their lengths. `Body` if the body is too short for the descriptor and the flags.
 fn map_update(body: &[u8]) -> Result<Command<'_>, BadFrame>
     ensures { shown_result result ≡ command_in 2 body.now }
 {

@@ -13,8 +13,8 @@ pub fn one_stream()
     ensures { OneStream }
 {}
 
-/// A law: if the bytes of a stream begin with some whole frames, these are its first ones, and the bytes after them are a stream of its
-/// remaining frames with the same rest.
+/// A law: if the bytes of a stream begin with some whole frames, these are the first frames of the stream. The bytes after them are a
+/// stream of its other frames, and the two streams have one rest, the bytes after the last frame.
 pub fn frames_in_front()
     ensures { FramesInFront }
 {}
@@ -25,8 +25,8 @@ pub fn encoding_inverts_parsing()
     ensures { EncodingInvertsParsing }
 {}
 
-/// A law: a tenant whose number is below 2^16 is the owner of each frame of a command to it. The owner of such a frame is the number in
-/// its first two bytes.
+/// A law: if the number of a tenant is below 2^16, the owner of each frame of a command to this tenant is this number. The owner of a frame
+/// is the number in the frame's first two bytes, and 65535 if the frame is too short for a head.
 pub fn frames_have_owners()
     ensures { FramesHaveOwners }
 {}

@@ -52,6 +52,8 @@ struct Input<'a> {
 }
 
 impl Read for Input<'_> {
+    /// Moves the next bytes of `rest`, at most `at_once`, to the front of `buf`, and returns their number. With `rest` empty, `then` says
+    /// whether the call returns 0, fails, or begins again with all of `bytes`.
     fn read(&mut self, buf: &mut [u8]) -> io::Result<usize> {
         if self.rest.is_empty() {
             match self.then {
@@ -82,6 +84,8 @@ struct Output<'a> {
 }
 
 impl Write for Output<'_> {
+    // Takes the first bytes of `buf`, as many as `at_once` and `room` allow, and returns their number, never an error. `differs` becomes
+    // true if these bytes are not the next ones of `expected`, or more than are left there.
     fn write(&mut self, buf: &[u8]) -> io::Result<usize> {
         let count = buf.len().min(self.at_once).min(self.room);
         match self.expected.split_at_checked(count) {
@@ -117,8 +121,9 @@ struct Stream<'a> {
     write_failures: u64,
 }
 
-/// Serves the stream on a new host of two tenants. Asserts that the result and the numbers of failed calls are those that the stream names,
-/// and that exactly the expected bytes are written. `case` and `number` are the message.
+/// Serves at most `limit` frames of the stream on a new host of two tenants. Asserts that the result and the numbers of failed calls are
+/// those that the stream names, and that exactly the expected bytes are written: none differs, and `expected`, from which the writer
+/// removes the bytes that agree, is empty. `case` and `number` are the message of a failed assertion.
 fn assert_ends(rt: &impl Abort, alloc: Global, case: &str, number: usize, stream: Stream<'_>) {
     let Stream {
         input,
@@ -143,7 +148,8 @@ fn assert_ends(rt: &impl Abort, alloc: Global, case: &str, number: usize, stream
 }
 
 /// A stream whose reader gives `bytes`, all in one call if the buffer has room, and then does what `then` says; its writer takes all bytes,
-/// and expects `expected`. It has to end after two frames, without a failed call; a case changes the fields in which it differs.
+/// and expects `expected`. At most 100 frames are served (`limit`). The stream has to end after two frames (`end`), without a failed call;
+/// a case changes the fields in which it differs.
 fn stream_of<'a>(bytes: &'a [u8], then: Then, expected: &'a [u8]) -> Stream<'a> {
     Stream {
         input: Input {
@@ -166,8 +172,9 @@ fn stream_of<'a>(bytes: &'a [u8], then: Then, expected: &'a [u8]) -> Stream<'a> 
     }
 }
 
-/// How a stream of the first `length` bytes of `LOAD_AND_RUN` ends, and how many bytes of replies are written. The cut is at the beginning
-/// or at the end of a frame, inside the first frame, or inside the second one (`_`).
+/// How a stream of the first `length` bytes of `LOAD_AND_RUN` ends, and how many bytes of replies are written. The number in `Ok` or in the
+/// fault is that of the frames that had a reply. The stream ends without a fault if it has no byte, the first frame, or both frames (80
+/// bytes). If it ends inside the first frame, or inside the second one (`_`), the fault is `Truncated`.
 fn end_of_cut(length: usize) -> (Result<u32, ServeFault>, usize) {
     match length {
         0 => (Ok(0), 0),

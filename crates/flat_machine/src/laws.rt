@@ -28,8 +28,8 @@ pub(crate) fn bytes_fit(bytes: &[u8])
 }
 
 /// A law: if the slots begin with an instruction that has a step with these maps and this memory (`HasNext`), they also begin with one that
-/// has a step with these maps and some memory, with some maps and this memory, and with some maps and some memory. So each arm of
-/// `dispatch` requires no more than its step reads.
+/// has a step with some maps and some memory (`some`), one with some maps and this memory (`within`), and one with these maps and some
+/// memory (`among`). So each arm of `dispatch` requires no more than its step reads.
 #[inline(always)]
 pub(crate) fn has_some_next(maps: BoundMaps, rest: &[RawSlot], registers: &Registers, arena: &Arena)
     requires { HasNext rest.now registers.now

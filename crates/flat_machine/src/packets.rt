@@ -80,8 +80,9 @@ fn are_plain(many: usize, ends: &[usize]) -> bool
     lengths < LONGEST_PACKET && reach < HIGHEST_BIT && start <= many
 }
 
-/// Why packets with these ends, in `many` bytes, are refused: the fault of the first one that has a fault, by tests of each in turn; `None`
-/// if none has. It is cold, since almost all batches are accepted without it (`are_plain`).
+/// Why packets in `many` bytes are refused: the fault of the first one that has a fault, by tests of each in turn; `None` if none has.
+/// `ends` has for each packet how many of the bytes are before its end. The first packet begins at 0, each other at the end of the one
+/// before. This function is cold, since almost all batches are accepted by `are_plain`, without a call of `first_fault`.
 #[cold]
 #[inline(never)]
 fn first_fault(many: usize, ends: &[usize]) -> Option<PacketFault>

@@ -19,7 +19,8 @@ use seeded_hash::HashSeed;
 use std::alloc::Global;
 
 /// If a new host serves a stream to its end, each tenant to which no memory was refused gets exactly the replies that the machine
-/// of a new tenant gives. Returns the number of replies; `None` at a fault, of which nothing is promised here.
+/// of a new tenant gives to its frames. Returns the number of replies; `None` at a fault, of which nothing is promised here. In the
+/// contract, `[]` are the bytes that were read after the last whole frame: none.
 fn serve_from_the_beginning<R: Source, W: Sink>(
     alloc: Global,
     tenants: usize,

@@ -111,9 +111,10 @@ impl Host {
         }
     }
 
-    /// Handles a frame (what follows the length field) of any length: writes its reply to `reply` and updates the state of
-    /// its tenant. The states of all other tenants are unchanged. The status of the reply is that of EINVAL if the frame has fewer than
-    /// the four bytes of a head, and that of EPERM if its tenant is not served.
+    /// Handles a frame (what follows the length field) of any length: writes its reply to `reply`, and updates the state of its tenant and
+    /// the tenant's births, the record of the maps created and programs loaded (`recorded`). All other tenants are unchanged. The status of
+    /// the reply is that of EINVAL if the frame has fewer than the four bytes of a head, and that of EPERM if its tenant is not served. It
+    /// is never that of a test run that faults, EFAULT (`no_fault`).
     pub fn handle(&mut self, frame: &[u8], reply: &mut ReplyBuf)
         ensures own { MayReply frame.now reply.new
             (slice_get self.old.states (owner frame.now))
@@ -143,8 +144,8 @@ impl Host {
     /// The frames of one part of a save of `tenant`, each with its length before it. Parts are counted from 0; `None` after the last one,
     /// and for a tenant that is not served.
     ///
-    /// A new tenant of this number that is given the frames of all parts in their order, on this host or another one, then replies as this
-    /// one does, unless it is refused memory. Between two parts the tenant must not change; others may be served. A part creates one map or
+    /// A new tenant of this number, on any host, that is given the frames of all parts in their order then replies as the saved tenant
+    /// does, unless it is refused memory. Between two parts `tenant` must not change; others may be served. A part creates one map or
     /// program, puts at most `KEYS_OF_PART` keys (`saving`) into a map, or opens or closes descriptors. So a save of any size takes the
     /// memory of one part at a time.
     ///
@@ -162,8 +163,8 @@ impl Host {
     }
 
     /// A law, which does nothing when it runs: what `save` returns restores a tenant. All parts of a save of a tenant, one after another,
-    /// are frames of this tenant. A new tenant to which no memory is refused succeeds at each of them and then replies as this one does,
-    /// whatever calls this host had, and whatever memory was refused.
+    /// are frames of this tenant. If no memory is refused to a new tenant, it succeeds at each of these frames, and then replies as the
+    /// saved tenant does. This holds whatever calls this host had, and whatever memory was refused to the saved tenant.
     pub fn tenants_are_restored(&self)
         ensures { AreRestored self.now }
     {
@@ -175,8 +176,9 @@ impl Host {
     }
 
     /// Runs the program at a descriptor of `tenant` on many packets, one after another. The packets lie one after another in `bytes`,
-    /// and `ends` has for each packet the number of bytes up to its end. `contexts` has one context for all packets, or one for each; a
-    /// context has `GIVEN_WORDS` words. The results are written to the front of `results`, whose rest is unchanged.
+    /// from byte 0 on, and `ends` has for each packet how many of these bytes are before its end. `contexts` has one context for all
+    /// packets, or one for each; a context has `GIVEN_WORDS` words. The results, for each packet the number that the reply to its test run
+    /// has, are written to the front of `results`, whose rest is unchanged.
     ///
     /// Results and states afterwards are those of the test-run frames of these packets in this order. The states of all other
     /// tenants are unchanged.

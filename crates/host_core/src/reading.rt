@@ -57,8 +57,9 @@ fn number_in(bytes: &[u8]) -> u32
     LittleEndian::read_u32(bytes)
 }
 
-/// Reads the length of a frame, four bytes; `None` if the input ends before them. `Truncated` if it ends after one to three of them, `Read`
-/// if a call of the reader failed.
+/// Reads the length of a frame, a little-endian number of four bytes; `None` if the input ends before the first of them. `Truncated` if it
+/// ends after one to three of them, `Read` if a call of the reader failed. If the result is no error, no call failed (`sound`). If it is an
+/// error, the bytes that were read are no whole frame (`short`), and the error is why no more were read (`stop`).
 fn read_length<S: Source>(reader: &mut S) -> Result<Option<u32>, ServeFaultKind>
     requires { S.failures reader.old < 2 ^ 64 - 1 }
     ensures some { IfOk result (λ found.
@@ -152,9 +153,9 @@ fn read_long<S: Source>(
     Ok(())
 }
 
-/// Reads a frame of `total` bytes to the front of `buffer`, and returns how many bytes of the buffer have to be handled: those of the
-/// frame. If it is longer than the buffer, the whole buffer has to be handled, and only its first four bytes, the head, are sure to be the
-/// frame's. `Truncated` if the input ends before all are read, `Read` if a call of the reader failed.
+/// Reads a frame of `total` bytes to the front of `buffer`, and returns how many bytes of the buffer are handled as the frame. These are
+/// the `total` bytes, if they fit. Of a longer frame only the head, four bytes, is kept; the result is then the buffer's length, which is
+/// too long for a valid frame. `Truncated` if the input ends before all are read, `Read` if a call of the reader failed.
 fn read_body<S: Source>(
     reader: &mut S,
     buffer: &mut [u8],

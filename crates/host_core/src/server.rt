@@ -57,7 +57,7 @@ struct Buffers {
 }
 
 impl Buffers {
-    /// Allocates both buffers. `AllocError`: out of memory.
+    /// Allocates the buffer for a frame, `FRAME_BUFFER` bytes, all 0, and the buffer for a reply. `AllocError`: out of memory.
     fn new(alloc: Global) -> Result<Buffers, AllocError> {
         Ok(Buffers {
             frame: vec![in alloc; 0; FRAME_BUFFER]?,
@@ -67,8 +67,9 @@ impl Buffers {
 }
 
 /// Reads a frame, handles it, and writes and flushes its reply: true. False if the input ends before a frame. `Truncated` if it ends inside
-/// one, `Read` or `Write` if a call of the reader or the writer failed. If the frame is longer than the buffer, a frame of the buffer's
-/// length with the same head is handled instead, since the reply depends only on the head.
+/// one, `Read` or `Write` if a call of the reader or the writer failed. A frame that is longer than the buffer is too long for any command,
+/// so its reply depends only on its head, the tenant and the command number. A frame of the buffer's length with this head, which is too
+/// long as well, is handled instead.
 fn serve_frame<R: Source, W: Sink>(
     host: &mut Host,
     reader: &mut R,
@@ -161,12 +162,12 @@ pub fn serve<R: Source, W: Sink>(
     }
 }
 
-/// Serves a stream, as `serve` does, on a new host for 1 to `MOST_TENANTS` tenants, and frees the host. The keys of its hash maps are
-/// hashed with this seed.
+/// Serves a stream, as `serve` does, on a new host for 1 to `MOST_TENANTS` tenants, and frees the host: until the input ends or `limit`
+/// frames got replies. Returns the number of these frames. The keys of the host's hash maps are hashed with `seed`.
 ///
 /// # Errors
 ///
-/// Those of `serve`; `Memory` also if out of memory for the host. Then nothing was read or written.
+/// Those of `serve`; `Memory` also if out of memory for the host. After `Memory`, nothing was read or written.
 pub fn serve_new_host<R: Source, W: Sink>(
     alloc: Global,
     tenants: usize,

@@ -78,7 +78,7 @@ impl<T> Counted<T> {
         }
     }
 
-    /// How many calls failed so far.
+    /// How many calls of the reader or the writer failed since `new`. A write that takes no byte, although it is given some, counts too.
     pub fn failures(&self) -> u64
         ensures { result ≡ self.now.failures }
     {

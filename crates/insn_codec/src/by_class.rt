@@ -289,10 +289,10 @@ fn read_exit(entry: &mut Insn, slot: &RawSlot) -> Result<Option<RawSlot>, FaultK
     Ok(None)
 }
 
-/// Reads an unconditional jump (code 0, the upper four bits of the opcode), a call (code 8) or the exit (code 9) into `entry`; it has no
-/// second slot (`None`). `wide` is true of class JMP, which has all three, false of JMP32, which has only the jump. The fault is `Opcode`
-/// for any other opcode, also if the source bit is 1: no instruction has it, since its code is that of no condition (precondition `code`).
-/// Else the fault is `Reserved` if a field that the instruction does not use is not 0.
+/// Reads an unconditional jump (code 0, the upper four bits of the opcode), a call (code 8) or the exit (code 9) into `entry`. None of them
+/// has a second slot, so the result is `None`. `wide` is true of class JMP, which has all three, false of JMP32, which has only the jump.
+/// The slot's code is that of no condition (precondition `code`), so no instruction has another opcode, nor one with the source bit 1: then
+/// the fault is `Opcode`. Else the fault is `Reserved` if a field that the instruction does not use is not 0.
 fn read_unconditional(
     wide: bool,
     entry: &mut Insn,

@@ -62,8 +62,9 @@ impl SourceBit {
     }
 }
 
-/// Whether an operation of 64 bits (`wide`) or 32 with the opcode of `op` may have this offset (RFC 9669, section 4.1): 0, or one that
-/// `allows_other_offset` allows. Of two operators with one opcode, `op` is the unsigned one.
+/// Whether an operation of 64 bits (`wide`) or 32, with the opcode of `op` and this source bit, may have this value in its offset field
+/// (RFC 9669, section 4.1): 0, or one that `allows_other_offset` allows. For an opcode of two operators, an unsigned and a signed division
+/// or remainder, `op` is the unsigned one.
 pub(crate) fn allows_offset(op: AluOp, wide: bool, source: SourceBit, offset: u16) -> bool
     ensures { result ≡ offset_listed wide op source offset }
 {

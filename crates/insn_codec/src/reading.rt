@@ -20,8 +20,9 @@ use insn_set::{Insn, RawSlot, Reg};
 
 /// Reads a wide instruction into `entry` (RFC 9669, section 5.4). `slot` is its first slot, which has passed `check_fields`, and `dst` the
 /// register in its destination field. The second slot is at the front of `rest`, the bytes after the first, and is returned; `SecondSlot`
-/// if it is missing, or if `is_second_slot` is false of it. The source field is 0 for a number of 64 bits, 1 for a map, and 2 for an address
-/// in the first value of a map; by the precondition `listed` it is no other, so `_` is 2.
+/// if it is missing, or if a field that has to be 0 is not (`is_second_slot`): all but the immediate, and for a map the immediate too. The
+/// source field of the first slot is 0 for a number of 64 bits, 1 for a map, and 2 for an address in the first value of a map; by the
+/// precondition `listed` it is no other, so `_` is 2.
 fn read_wide(entry: &mut Insn, slot: &RawSlot, dst: Reg, rest: &[u8]) -> Result<RawSlot, FaultKind>
     requires opcode { slot.now.opcode ≡ 0x18 }
     requires listed { IsTrue (listed Wide (fields slot.now)) }
@@ -124,8 +125,8 @@ pub(crate) fn read_from(entry: &mut Insn, first: &RawSlot, bytes: &[u8]) -> Resu
     Ok(second.is_some())
 }
 
-/// Reads the instruction at the front of the bytes, of which there may be any number, into `entry`. The fault of fewer than eight bytes is
-/// `Ragged`; the others are those of `read_from`.
+/// Reads the instruction at the front of the bytes into `entry`; more bytes may follow. The fault is `Ragged` if there are fewer than eight
+/// bytes, else the first of `Opcode`, `Reserved`, `Register` and `SecondSlot` that applies. After a fault `entry` means nothing.
 #[tactic(auto, unfolding(crate::specs::inside::FirstFault::first_fault))]
 fn read_front(entry: &mut Insn, bytes: &[u8]) -> Result<(), FaultKind>
     ensures found { OnOk result (IsInsn entry.new × Begins entry.new bytes.now) }

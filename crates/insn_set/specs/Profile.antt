@@ -61,9 +61,11 @@ loaded_register (loads size signed dst) = Some dst
 loaded_register (stores size src) = None
 loaded_register (changes size op src) = None
 
--- the row of an instruction, by what it does (`view`). An exit reads register 0, the result; the
--- row of a call has neither the arguments that it reads nor the registers that it changes. An
--- atomic operation writes no register: those that fetch are no instructions here
+-- the row of an instruction, by what it does (`view`): the registers of its first and its second
+-- operand, the register that it writes, its successors, what it names, the number of its slots. An
+-- exit reads register 0, the result; the row of a call has neither the arguments that it reads nor
+-- the registers that it changes. An atomic operation writes no register: those that fetch are no
+-- instructions here
 abbrev pub profile_of : View → Profile
 profile_of (binary wide op dst src) =
     row (first_operand op dst) (register_of src) (Some dst) to.Next names.Nothing 1

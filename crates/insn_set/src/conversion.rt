@@ -52,7 +52,7 @@ pub fn extension_name(bits: ExtendedBits) -> &'static str
     EXTENSIONS[bits as usize].0
 }
 
-/// The number of low bits from which the sign extension with this name starts; `None` if there is none.
+/// The number of low bits whose sign is extended by the sign extension with this name, as 8 for `s8`; `None` if none has this name.
 pub fn extension_by_name(name: &str) -> Option<ExtendedBits>
     ensures value { result ≡ extension_by_name name.now }
     ensures inverse { IfSome result (λ b. extension_name b ≡ name.now) }

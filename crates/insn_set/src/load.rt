@@ -20,7 +20,8 @@ const LOADS: [((bool, AccessSize), u32, &str); 7] = [
     ((true, AccessSize::Word), 0x81, "s32"),
 ];
 
-/// Whether the load with this opcode extends the sign, and its size; `None` if no load has it.
+/// Whether the load with this opcode extends the sign, and its size; `None` if no load has this opcode. No load of a double word extends
+/// the sign (`listed`).
 pub fn load_by_opcode(opcode: u8) -> Option<(bool, AccessSize)>
     ensures value { result ≡ load_by_opcode opcode }
     ensures inverse { IfSome result (λ l. load_opcode l.0 l.1 ≡ opcode) }

@@ -56,7 +56,8 @@ pub fn alu_number(op: AluOp) -> u8
     OPERATORS[op as usize].1 as u8
 }
 
-/// The offset field that selects an operator among those of its code: 1 for signed division and remainder, else 0.
+/// The offset field that selects an operator among those of its code: 1 for signed division and remainder, else 0. A move that extends a
+/// sign, which has offset 8, 16 or 32, is no operator here, but an instruction of its own (`Movsx`).
 pub fn alu_offset(op: AluOp) -> u16
     ensures { result ≡ alu_offset op }
 {
@@ -83,7 +84,7 @@ pub fn alu_symbol(op: AluOp) -> &'static str
     OPERATORS[op as usize].2
 }
 
-/// The operator with this symbol, if there is one.
+/// The operator that a line of text writes by this symbol, as `+=`; `None` if no operator with two operands has the symbol.
 pub fn alu_by_symbol(symbol: &str) -> Option<AluOp>
     ensures value { result ≡ alu_by_symbol symbol.now }
     ensures inverse { IfSome result (λ op. alu_symbol op ≡ symbol.now) }

@@ -103,8 +103,9 @@ fn first_operand(op: AluOp, dst: Reg) -> Option<Reg>
 impl Insn {
     ghost use Rattle.insn_set.specs.Profile.{profile};
 
-    /// What the instruction reads, writes and names, its successors, and the number of its slots: its row of the table. An exit reads
-    /// register 0, the program's result.
+    /// The properties of the instruction, its row of the table. The columns are the registers that it reads first and second, the register
+    /// that it writes, its successors, what it names outside the registers, and the number of its slots. An exit reads register 0, the
+    /// program's result. The row of a call has neither the arguments of the helper nor registers 0 to 5, which the call changes.
     #[inline(always)]
     pub fn profile(&self) -> Profile
         ensures { result ≡ profile self.now }
@@ -215,7 +216,7 @@ impl Successors {
         }
     }
 
-    /// The distance of the jump, in slots from the next one; 0 if there is no jump.
+    /// The distance from the next instruction to the jump's target, in slots; 0 if there is no jump.
     #[inline(always)]
     pub fn offset(self) -> i32
         ensures { result ≡ offset_by self }
@@ -228,8 +229,8 @@ impl Successors {
         }
     }
 
-    /// The slot to which an instruction at `slot` may jump; `None` if there is no jump, or the target is below slot 0. The bound of `slot`,
-    /// which each slot of a program meets, keeps the next slot from overflowing.
+    /// The slot to which an instruction at `slot` may jump, also one past the program's end. `None` if there is no jump, or the target is
+    /// below slot 0. The bound of `slot`, which each slot of a program meets, keeps the next slot from overflowing.
     #[inline(always)]
     pub fn target(self, slot: usize) -> Option<usize>
         requires { slot ≤ MAX_SLOTS }

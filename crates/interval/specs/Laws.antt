@@ -41,7 +41,8 @@ EdgesKeepMembers n =
     (IsTrue (compares n condition x y) → IsPairOn (refined n condition a b).0 x y)
     × (IsFalse (compares n condition x y) → IsPairOn (refined n condition a b).1 x y)
 
--- the ranges on an edge are ranges of words; an edge that can't be taken has none
+-- the ranges of both operands on an edge are ranges of words of 64 bits; an edge that can't be
+-- taken (None) has no ranges, so this holds
 abbrev pub IsPairOfWords : Option RangePair → Type 0
 IsPairOfWords None = Unit {0}
 IsPairOfWords (Some p) = IsOfWords p.0 × IsOfWords p.1

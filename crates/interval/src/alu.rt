@@ -26,9 +26,9 @@ pub fn alu64(op: Operator, a: Range, b: Range) -> Range
     }
 }
 
-/// The range of the results of an operator of two operands on 64 bits: one number if the range of each operand that `op` reads has only one
-/// number, else that of `alu_range`. Most operators have two operands. They have this function of their own, so that `alu64` separates them
-/// by one test from those of one operand.
+/// The range of the results of an operator of two operands on 64 bits, for first operands in `a` and second ones in `b`: one number if the
+/// range of each operand that `op` reads has only one number, else that of `alu_range`. Most operators have two operands. `alu64` finds
+/// them by one test, and gives those of one operand to `any64`.
 fn binary64(op: AluOp, a: Range, b: Range) -> Range
     ensures exact { result ≡ range_of 64 (Binary op) a b }
     ensures sound { (x y : ℕ) → IsMember x a → IsMember y b
@@ -88,7 +88,8 @@ fn range_of_low_word(r: Range) -> Range
     }
 }
 
-/// Whether the range of each operand that `op` reads has only one member.
+/// Whether the range of each operand that `op` reads has only one member. `a` is the range of the destination, `b` that of the source. A
+/// sign extension reads only the source, a change of sign and a byte-order conversion only the destination.
 fn are_constants(op: Operator, a: Range, b: Range) -> bool
     ensures { result ≡ are_constants op a b }
 {
@@ -110,9 +111,9 @@ fn are_alu_constants(op: AluOp, a: Range, b: Range) -> bool
     }
 }
 
-/// The range of an operator's results on operands in the ranges `a` and `b`, all of 64 bits (`wide`) or 32; `alu32` has truncated the
-/// operands. A change of sign may give all numbers. If the operands that the operator reads are constants, callers compute the result
-/// instead.
+/// The range of an operator's results on first operands in `a` and second ones in `b`, all of 64 bits (`wide`) or 32; `alu32` has truncated
+/// the operands. A change of sign may give all numbers of that width, a byte-order conversion all numbers of as many bits as it keeps. A
+/// sign extension reads only the second operand. If the operands that the operator reads are constants, callers compute the result instead.
 fn general_range(wide: bool, op: Operator, a: Range, b: Range) -> Range
     requires first { a.hi < 2 ^ width wide }
     requires second { b.hi < 2 ^ width wide }

@@ -42,8 +42,8 @@ pub fn refine(condition: Condition, wide: bool, a: Range, b: Range) -> (Edge, Ed
     }
 }
 
-/// The edge with the ranges of its two operands swapped; `None` if `edge` is `None`. `refine` uses it to refine `a` below `b` as `b` above
-/// `a`.
+/// The edge with the ranges of its two operands swapped. `None` is an edge that no two members take, and stays `None`. `refine` needs the
+/// swap since it refines `a` below `b` as `b` above `a`.
 fn swapped(edge: Edge) -> Edge
     ensures { result ≡ swapped edge }
 {
@@ -66,8 +66,8 @@ fn if_equal(a: Range, b: Range) -> Edge
     Some((both, both))
 }
 
-/// The edge on which the operands differ: if one is a constant, the other's range loses that number at its ends. `None` if both are one and
-/// the same constant.
+/// The edge on which the operands differ. If one is a constant that is an end of the other's range, that range loses this end; else both
+/// ranges are unchanged. `None` if both are constants, and equal.
 fn if_different(a: Range, b: Range) -> Edge
     ensures { result ≡ if_different a b }
 {

@@ -28,8 +28,8 @@ fn range_of_both() {
     prove!(both.hi == 9);
 }
 
-/// A number of 0 to 255 is compared with 7: on the edge on which it is above 7, its range is 8 to 255, on the other edge 0 to 7. Then 0 is
-/// compared with 1: the edge on which they are equal can't be taken.
+/// On 64 bits (`true`), a number of 0 to 255 is compared with 7: on the edge on which it is above 7, its range is 8 to 255, on the other
+/// edge 0 to 7. Then 0 is compared with 1: the edge on which they are equal can't be taken.
 fn edges_of_a_jump() {
     let (above, at_most) = refine(
         Condition::Above,

@@ -10,8 +10,8 @@ pub fn results_are_members()
     ensures narrow { ResultsAreMembers 32 }
 {}
 
-/// A law, so that facts have only ranges of words, of 64 bits: for two ranges of words the table of ranges (`range_of`) gives a range of
-/// words, for operators on 64 bits (`wide`) and on 32 (`narrow`).
+/// A law, so that ranges in facts have only words of 64 bits, below 2^64, as members: for two such ranges the table of ranges (`range_of`)
+/// gives such a range, for operators on 64 bits (`wide`) and on 32 (`narrow`).
 pub fn results_are_words()
     ensures wide { ResultsAreWords 64 }
     ensures narrow { ResultsAreWords 32 }
@@ -24,8 +24,8 @@ pub fn edges_keep_members()
     ensures narrow { EdgesKeepMembers 32 }
 {}
 
-/// A law, so that facts have only ranges of words: the ranges on both edges of a comparison of ranges of words, on 64 bits (`wide`) or 32
-/// (`narrow`), are ranges of words.
+/// A law, so that facts have only ranges of 64-bit words: if all members of two ranges are below 2^64, a comparison on 64 bits (`wide`) or
+/// 32 (`narrow`) refines both to ranges whose members are below 2^64, on each of its edges. An edge that can't be taken has no ranges.
 pub fn edges_are_words()
     ensures wide { EdgesAreWords 64 }
     ensures narrow { EdgesAreWords 32 }

@@ -17,7 +17,8 @@ fn places(wide: bool, by: u64) -> u64
 }
 
 /// The range of the members of `a`, numbers of 64 bits (`wide`) or 32, shifted left by `places` bits; all numbers of that width if the
-/// shifted greatest member does not fit it. `places` is below the width: `shift_left` gets it from the function `places`.
+/// shifted greatest member does not fit that width. `shift_left` gives `places` below the width, by the function of that name; the contract
+/// only requires it below 64, the bound of a Rust shift of 64 bits.
 fn scaled(wide: bool, a: Range, places: u64) -> Range
     requires first { a.hi < 2 ^ width wide }
     requires bound { places < 64 }
@@ -56,8 +57,9 @@ pub(crate) fn shift_right(wide: bool, a: Range, b: Range) -> Range
     }
 }
 
-/// The range of the members of `a`, on 64 bits (`wide`) or 32, shifted right by members of `b`, with the sign bit copied. If a sign bit may
-/// be 1 (the greatest member of `a` is above half of `greatest`), the range has all numbers; else it is that of `shift_right`.
+/// The range of the members of `a`, on 64 bits (`wide`) or 32, shifted right by members of `b` modulo that width, with copies of the sign
+/// bit from the left. If a sign bit may be 1 (the greatest member of `a` is above half of `greatest`), the range has all numbers of the
+/// width. Else the copies are zeros, and the range is that of `shift_right`.
 pub(crate) fn signed_shift_right(wide: bool, a: Range, b: Range) -> Range
     ensures { result ≡ signed_shift_right_range (width wide) a b }
 {

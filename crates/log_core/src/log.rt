@@ -21,9 +21,9 @@ fn separator(style: LogStyle) -> &'static str {
     }
 }
 
-/// The log of a program, if descriptors name the objects of `named`, as lines or as a graph (`style`). As lines it ends with the verdict: a
-/// line with the cost and the line `accepted`, or the line of the refusal and then why. As a graph it has the text of a refusal in the
-/// block of the rejected instruction.
+/// The log of a program, if descriptors name the objects of `named`: whether it is accepted, the facts before its instructions (`facts` of
+/// `Log`), and a text, as lines or as a graph (`style`). As lines the text ends with the verdict: a line with the cost and the line
+/// `accepted`, or the line of the refusal and then why. As a graph it has the text of a refusal in the block of the rejected instruction.
 ///
 /// # Errors
 ///

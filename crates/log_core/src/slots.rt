@@ -30,8 +30,8 @@ fn refused(alloc: Global, fault: CodecFault) -> Result<SlotsLog, AllocError>
     })
 }
 
-/// The log of a program, if descriptors name the objects of `named`, as lines or as a graph (`style`): that of `log_of`, without its facts.
-/// The error is out of memory.
+/// The log that `log_of` makes of a program, without its facts: lines or a graph (`style`). `named` lists the open descriptors and the
+/// objects that they name. `AllocError`: out of memory.
 fn log_without_facts(
     alloc: Global,
     program: &Program,

@@ -71,8 +71,9 @@ impl Edges {
         };
     }
 
-    /// Computes the edges out of the instruction at `slot` from the facts before it, if descriptors name the objects of `named`: no edges
-    /// if the instruction may not be run with these facts.
+    /// Sets which edges a run may take out of `insn`, the instruction at `slot`, and the facts on them. `facts` are those before the
+    /// instruction, and `named` lists the open descriptors with their objects. If the instruction may not be run with these facts, there is
+    /// no edge, and both fields of facts mean nothing. What `self` had before is lost.
     pub fn leave(&mut self, facts: &Facts, named: &[Named], slot: usize, insn: &Insn) {
         self.falling = *facts;
         match apply(&mut self.falling, named, slot, insn) {

@@ -77,7 +77,8 @@ pub fn write_kind(text: &mut String, kind: Kind) -> Result<(), AllocError> {
     }
 }
 
-/// Writes which bytes are meant, by the numbers of the first and the last, both included, as `bytes 0 to 3`.
+/// Writes a range of bytes of an object by the offsets of the first and the last byte, both included: as `bytes 0 to 3`, or as `byte 3` if
+/// the two are equal. Offsets count from the start of the object, or from the stack's upper end. The caller names the object.
 ///
 /// # Errors
 ///

@@ -21,7 +21,7 @@ fn write_fault(text: &mut String, fault: VerifyFault) -> Result<(), AllocError>
     writeln!(text, "{refusal}")
 }
 
-/// Writes the line of a refusal, and after it `why`, the reason in words. The error is out of memory.
+/// Writes the line of a refusal with its line feed, and then `why`, the reason in words, unchanged. The error is out of memory.
 fn write_refusal(text: &mut String, fault: VerifyFault, why: &str) -> Result<(), AllocError>
     ensures { OnOk result (AddsVerdict (Err fault) (string_bytes text.old)
         (string_bytes text.new)) }
@@ -49,7 +49,8 @@ fn write_acceptance(text: &mut String, cost: Cost) -> Result<(), AllocError>
     text.push_str("accepted\n")
 }
 
-/// Writes the verdict: the line of what the program costs and the line `accepted`, or the line of the refusal and then `why`.
+/// Writes the verdict. If the program is accepted, this is the line of what it costs and the line `accepted`; if it is rejected, the line
+/// of the refusal and then `why`, the reason in words.
 ///
 /// # Errors
 ///

@@ -21,7 +21,8 @@ pub(crate) fn target_at(program: &Program, slot: usize) -> Option<usize> {
     insn.profile().successors.target(slot)
 }
 
-/// The jumping edges of these steps that a run may take, in the order of their targets. `AllocError`: out of memory.
+/// The jumping edges that a run may take: one for each of the steps whose `jumping` is not `None`, in the order of their targets and then
+/// of the jumps' slots. A jump to below slot 0 is omitted (`target_at`). `AllocError`: out of memory.
 pub(crate) fn live_jumps(
     alloc: Global,
     program: &Program,
@@ -45,7 +46,8 @@ fn ends_block(insn: &Insn) -> bool {
     insn.profile().successors != Successors::Next
 }
 
-/// Sets the flag of a slot. Does nothing if the slot is past the end, as the one after the last instruction is.
+/// Sets the flag of a slot, that a basic block begins there. Does nothing if the slot is past the end of the program: the one after the
+/// last instruction, or the target of a jump that leads there.
 fn mark(flags: &mut [bool], slot: usize) {
     if let Some(flag) = flags.get_mut(slot) {
         *flag = true;

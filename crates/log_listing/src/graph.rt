@@ -60,8 +60,9 @@ fn write_style(text: &mut String, name: &str, edge: Edge<'_>) -> Result<(), Allo
     }
 }
 
-/// Writes the edge from the block with the first slot `from` to that with the first slot `to`, with a style or a label (`write_style`).
-/// `edge` is what is known of this edge, and a label begins with `name`.
+/// Writes the edge from the block with the first slot `from` to the block with the first slot `to`. `edge` is what is known of this edge.
+/// An edge that no run takes gets a style, any other a label, if there is something to write in it (`write_style`). The label begins with
+/// `name`, which is `taken` or `not taken` after a conditional jump, else empty.
 fn write_edge(
     text: &mut String,
     from: usize,
@@ -74,9 +75,9 @@ fn write_edge(
     text.push_str(";\n")
 }
 
-/// Writes the edges out of the block with the first slot `first`: those of its last instruction, which is at `slot`. `step` is `None` if
-/// the pass did not reach this instruction, or an instruction of the block is rejected. No edge is written to a slot at which no
-/// instruction begins: only a program whose shape has a fault has such edges.
+/// Writes the edges out of the block with the first slot `first`: those of its last instruction, `insn`, which is at `slot`. `step` has
+/// what is new on each edge; it is `None` if the pass did not reach this instruction, or an instruction of the block is rejected. No edge
+/// is written to a slot at which no instruction begins: only a program whose shape has a fault has such edges.
 fn write_edges(
     text: &mut String,
     input: &ListingInput<'_>,
@@ -175,8 +176,8 @@ impl<'a> Graph<'a> {
         }
     }
 
-    /// Writes the end of the block: the end of its label, and its style: red if it has the rejected instruction, else dashed if
-    /// there was a pass and it did not reach the block.
+    /// Writes the end of the block: the quote that closes its label, and its style. The block is red if it has the rejected instruction,
+    /// else dashed if the pass did not reach it. Without a pass (`has_pass`), since the program's shape has a fault, no block is dashed.
     fn end(&self, text: &mut String) -> Result<(), AllocError> {
         text.push_str("\"")?;
         if self.block.is_refused {
@@ -187,7 +188,8 @@ impl<'a> Graph<'a> {
         text.push_str("];\n")
     }
 
-    /// Writes the instruction at a slot into the label of the block, and the verdict if it is rejected.
+    /// Writes the instruction at `slot` into the label of the block that is being written; and the verdict after it, if the rejected
+    /// instruction is this one.
     fn write_line(
         &mut self,
         text: &mut String,
@@ -196,12 +198,14 @@ impl<'a> Graph<'a> {
     ) -> Result<(), AllocError> {
         write!(text, "{slot}: ")?;
         write_insn(text, insn)?;
+        // In a label `\l` ends a line that Graphviz aligns to the left.
         text.push_str("\\l")?;
         self.write_fault(text, slot)
     }
 
     /// Writes the instruction at a slot; before it the beginning of a block, if one begins there, and after it the end and the edges of the
-    /// block, if the block ends there. If an instruction of the block is rejected, `write_edges` gets no step.
+    /// block, if the block ends there. If an instruction of the block is rejected, `write_edges` gets no step: it writes the edges as edges
+    /// that no run takes, or without a pass as edges of which nothing is known.
     fn write_slot(
         &mut self,
         text: &mut String,
@@ -222,7 +226,8 @@ impl<'a> Graph<'a> {
     }
 }
 
-/// Writes the blocks of a program and their edges.
+/// Writes the blocks of the program of `graph` in the order of their slots, and after each block its edges. A slot at which no instruction
+/// begins, the second one of a wide instruction, is skipped.
 fn write_blocks(text: &mut String, mut graph: Graph<'_>) -> Result<(), AllocError> {
     let program = graph.input.program;
     for slot in 0..program.slots() {
@@ -233,9 +238,10 @@ fn write_blocks(text: &mut String, mut graph: Graph<'_>) -> Result<(), AllocErro
     Ok(())
 }
 
-/// The graph of the program of `input`: its basic blocks with their instructions, and the edges between them with what is new on each. If
-/// there was a pass, the blocks and edges that it did not reach are dashed. The block with the rejected instruction (`fault`) is red, and
-/// has the verdict with `why`, the fault in words. `AllocError`: out of memory.
+/// The graph of the program of `input`: its basic blocks with their instructions, and the edges between them with what is new on each.
+/// Blocks and edges that the pass did not reach are dashed. If the program's shape has a fault, there was no pass, and nothing is dashed.
+/// `fault` is the rejection, `None` if the program is accepted. The block with the rejected instruction is red, and has the verdict with
+/// `why`, the fault in words, which is empty for an accepted program. `AllocError`: out of memory.
 pub(crate) fn graph_of(
     alloc: Global,
     input: &ListingInput<'_>,

@@ -104,8 +104,8 @@ struct Row {
 }
 
 impl Row {
-    /// Writes a note with the offsets of the first and the last byte, and the word `what`, which is `written` or `lost`. Writes nothing if
-    /// the row has no byte.
+    /// Writes a note on the bytes of the row: the offsets of the first and the last from the stack's upper end, or one offset for a single
+    /// byte, and the word `what`, which is `written` or `lost`. Writes nothing if the row has no byte.
     fn write(&self, text: &mut String, what: &str) -> Result<(), AllocError> {
         if self.first == self.end {
             return Ok(());
@@ -119,8 +119,8 @@ impl Row {
         }
     }
 
-    /// Adds one more byte. If it does not follow the bytes that the row has, these are first written as a note with `what`, and the byte
-    /// begins a new row.
+    /// Adds the stack byte at offset `byte`. If it is not the next after the bytes of the row (`end`), these are first written as a note
+    /// with the word `what`, `written` or `lost`, and the byte begins a new row.
     fn take(&mut self, text: &mut String, what: &str, byte: i64) -> Result<(), AllocError> {
         if byte != self.end {
             self.write(text, what)?;
@@ -130,8 +130,8 @@ impl Row {
         Ok(())
     }
 
-    /// Adds each byte of stack slot `index` whose bit in `mask` is 1, by a call of `take` with the word `what`. Bit 0 is that of the lowest
-    /// byte.
+    /// Adds each byte of stack slot `index` whose bit in `mask` is 1; bit 0 is that of the lowest byte. If a byte does not follow the
+    /// bytes that the row has, these are first written as a note with the word `what`, which is `written` or `lost` (`take`).
     fn take_slot(
         &mut self,
         text: &mut String,
@@ -151,9 +151,10 @@ impl Row {
     }
 }
 
-/// Writes a note for each row of consecutive stack bytes that are written in the facts `new` and were not in `old` (`written`; all that are
-/// written, if `old` has a spill there), or if `are_lost`, that were readable in `old` and are not in `new` (`lost`). Notes begin at offset
-/// `start` of the text.
+/// Writes a note for each row of consecutive stack bytes that changed from the facts `old` to the facts `new`. If `are_lost`, these are the
+/// bytes that were readable in `old` and are not in `new` (`lost`). Else they are the bytes that are written in `new` and were not in `old`
+/// or, in a slot with a spill in `old`, all that are written in `new` (`written`). No byte of a slot with a spill in `new` is among them.
+/// Notes begin at offset `start` of the text.
 fn write_stack_bytes(
     text: &mut String,
     start: usize,
@@ -218,6 +219,7 @@ pub(crate) fn write_known(
         return Ok(());
     }
     write_spills(text, start, old, new)?;
+    // First the stack bytes that are newly written (`false`), then those that are lost (`true`).
     write_stack_bytes(text, start, old, new, false)?;
     write_stack_bytes(text, start, old, new, true)
 }

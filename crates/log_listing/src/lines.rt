@@ -43,8 +43,8 @@ struct Line {
     end: usize,
 }
 
-/// Begins a note after the instruction of a line: before the first one it writes spaces up to `CODE_WIDTH`, and ` // `; before each other
-/// one a semicolon.
+/// Begins a note after the instruction of a line. Before the line's first note it writes spaces, until the line has at least `CODE_WIDTH`
+/// bytes, and ` // `; before each later note, `; `. If the text goes on after the instruction (`line.end`), the line has a note already.
 fn begin_note(text: &mut String, line: Line) -> Result<(), AllocError> {
     if text.len() > line.end {
         return text.push_str("; ");
@@ -55,7 +55,7 @@ fn begin_note(text: &mut String, line: Line) -> Result<(), AllocError> {
     text.push_str(" // ")
 }
 
-/// Writes a note after the instruction, unless it is empty.
+/// Writes `note` after the instruction of `line`, and before the note what separates it (`begin_note`). Writes nothing if `note` is empty.
 fn write_note(text: &mut String, line: Line, note: &str) -> Result<(), AllocError> {
     if note.is_empty() {
         return Ok(());
@@ -64,8 +64,9 @@ fn write_note(text: &mut String, line: Line, note: &str) -> Result<(), AllocErro
     text.push_str(note)
 }
 
-/// Writes the slots of the instructions from which control comes to `slot`, if one of them is a jump; nothing if control only falls
-/// through to it. Moves the cursor past these jumps.
+/// Writes a note on `line` with the slots of the instructions from which control comes to `slot`: first the jumps, last the instruction
+/// that falls through to it. Writes nothing if no jump leads there. The jumps are in the order of their targets, so those to `slot` come
+/// next at the cursor, which is moved past them.
 fn write_sources(
     text: &mut String,
     line: Line,
@@ -118,8 +119,10 @@ fn write_edges(
     }
 }
 
-/// Writes the notes on an instruction that a run may reach, and sets in the cursor whether a run may fall through from it. Only a
-/// conditional jump has notes on its edges.
+/// Writes the notes on `insn`, an instruction that a run may reach, at the end of its line: the slots from which jumps come, what is new
+/// before the instruction (`known`), and for a conditional jump the note on its edges (`write_edges`). `line` has the offsets in `text` at
+/// which the line begins and the instruction ends. Sets `falls_from` of the cursor, for the next line: the slot of this instruction if a
+/// run may fall through from the instruction, else `None`.
 fn write_step(
     text: &mut String,
     line: Line,
@@ -137,9 +140,10 @@ fn write_step(
     }
 }
 
-/// Writes the notes after the instruction at `slot`. If the pass reached it, they are those of its step (`write_step`), and the cursor
-/// moves past this step. Else the note is `not reached`, or none without a pass, since the program's shape has a fault; and the cursor
-/// then has no instruction from which a run may fall through.
+/// Writes the notes after the instruction at `slot`. `line` has the offsets in the text of the line's beginning and of the instruction's
+/// end. If the pass reached the instruction, the next step of the cursor is for it: the notes are those of this step (`write_step`), and
+/// the cursor moves past this step. Else the note is `not reached`, or there is none if there was no pass. After an instruction that was
+/// not reached, `falls_from` of the cursor is `None`: the next line does not name this instruction as one from which control comes.
 fn write_notes(
     text: &mut String,
     input: &ListingInput<'_>,
@@ -165,8 +169,8 @@ fn write_notes(
     }
 }
 
-/// Writes the line of the instruction `insn` at `slot`, with its notes. `cursor` has what this line needs, and afterwards what the next one
-/// needs.
+/// Writes the line of the instruction `insn` at `slot`, with its notes and a line feed. `cursor` has the next step and the next jump of
+/// `input`, and the slot of the line before, if a run may fall through from it. It advances to what the next line needs.
 fn write_line(
     text: &mut String,
     input: &ListingInput<'_>,

@@ -30,9 +30,10 @@ fn lines_of(
     Ok(text)
 }
 
-/// The listing of a program, verified with the objects of `named` and the result `judged`: lines or, if `style` is `Graph`, a graph. `why`
-/// has the reason of a rejection in words and a line feed, and is empty for an accepted program. Lines end with the verdict and `why`; a
-/// graph has both only after a rejection, in the block of the rejected instruction.
+/// The listing of a program, verified with the objects of `named` and the result `judged`. `style` selects lines with what is new
+/// before each instruction (`New`), lines with all facts before it (`Whole`), or a graph (`Graph`). `why` has the reason of a rejection in
+/// words and a line feed, and is empty for an accepted program. Lines end with the verdict and `why`; a graph has both only after a
+/// rejection, in the block of the rejected instruction.
 ///
 /// # Errors
 ///

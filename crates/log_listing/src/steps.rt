@@ -33,6 +33,7 @@ impl StepMaker<'_> {
     /// What is known in `new` and not in `old`, and what is not known any more, as text. Empty if both are equal.
     fn news(&self, old: &Facts, new: &Facts) -> Result<String, AllocError> {
         let mut text = String::new(self.alloc);
+        // The text is empty, so its first note begins at offset 0.
         write_known(&mut text, 0, old, new)?;
         Ok(text)
     }
@@ -74,8 +75,9 @@ impl StepMaker<'_> {
         Ok(())
     }
 
-    /// The step of the instruction at the slot of `known`. It has what is new in the facts of `known` against `shown`, which are the facts
-    /// of the step before, or those in which nothing is known. At each slot with facts an instruction begins. `AllocError`: out of memory.
+    /// The step of the instruction at the slot of `known`: what is new in the facts of `known` against `shown`, and the edges out of the
+    /// instruction (`leave`). `shown` are the facts of the step before, or those in which nothing is known, for the first step and if each
+    /// step has all that is known. An instruction begins at each slot with facts, so `get` finds it. `AllocError`: out of memory.
     fn step(&mut self, shown: &Facts, known: &KnownFacts) -> Result<Step, AllocError> {
         let KnownFacts { slot, facts } = known;
         let mut step = Step {

@@ -78,8 +78,8 @@ fn last_facts(known: &[KnownFacts]) -> Facts {
     }
 }
 
-/// Why a program is rejected by the verdict in `judged`, if descriptors name these objects: the reason in words, then `between`, then what
-/// was known and what is required, and a line feed. Empty if the program is accepted.
+/// Why a program is rejected by the verdict in `judged`, if descriptors name the objects of `named`: the reason in words, then `between`,
+/// then what was known and what is required, and a line feed. Empty if the program is accepted.
 ///
 /// # Errors
 ///
@@ -95,6 +95,7 @@ pub fn rejection_text(
     let Err(fault) = *verdict else {
         return Ok(String::new(alloc));
     };
+    // The pass ends at the rejected instruction, so the last facts are those before it. A program that is rejected for its shape has none.
     let facts = last_facts(known);
     let refusal = RefusedProgram {
         alloc,

@@ -35,7 +35,8 @@ pub(crate) fn is_written(facts: &Facts, byte: i64) -> bool {
 }
 
 impl Wanted {
-    /// Whether the value is readable by these facts: the register, or each of the stack bytes.
+    /// Whether this value is readable by these facts: the kind of the register is not `Unreadable`, or each of the stack bytes is
+    /// written on each path (`is_written`). False if one of the bytes is outside the stack.
     fn is_readable_by(self, facts: &Facts) -> bool {
         match self {
             Wanted::Register(register) => kind_of(facts, register) != Kind::Unreadable,
@@ -87,9 +88,10 @@ struct Finder<'a> {
 }
 
 impl Finder<'_> {
-    /// Why the value is missing before the instruction at `slot`, before which these are the facts; `None` if it is present. If it is
-    /// missing on some edges to the slot, but not on all, the cause is the first edge without it. If it is missing on all, the cause is why
-    /// it is missing on the first edge. If it is missing on none (last arm), the join of the edges loses it.
+    /// Why the value (`wanted`) is missing before the instruction at `slot`, before which these are the facts; `None` if it is present. If
+    /// it is missing on some edges to the slot, but not on all, the cause is the first edge on which it is missing. If it is missing on
+    /// all, the cause is why it is missing on the first edge. Slot 0, to which no edge leads, has the cause `Never` from the start
+    /// (`first_arrivals`). If the value is missing on no edge (last arm), the join of the edges loses it.
     fn cause_at(&self, slot: usize, facts: &Facts) -> Option<Cause> {
         if self.wanted.is_readable_by(facts) {
             return None;
@@ -126,8 +128,9 @@ impl Finder<'_> {
         }
     }
 
-    /// Notes whether the value is present on the edges out of the instruction at `slot`, before which these are the facts. The test of
-    /// `slot` against `MAX_SLOTS` always holds; the contract of `target` needs it.
+    /// Notes whether the value that the rejected instruction needs (`wanted`) is present on each edge out of the instruction `insn` at
+    /// `slot` that a run may take. `facts` are those before this instruction. The test of `slot` against `MAX_SLOTS` always holds; the
+    /// contract of `target` needs it.
     fn leave(&mut self, slot: usize, insn: &Insn, facts: &Facts) {
         let mut edges = Edges::none(facts);
         edges.leave(facts, self.named, slot, insn);
@@ -152,8 +155,9 @@ impl Finder<'_> {
     }
 }
 
-/// The arrivals before any edge is followed, by slot, for a program of `slots` slots. Only slot 0, at which a run begins, has a lack: the
-/// value was never written. No edge leads to slot 0, so the slot that this lack names, 0, is never used.
+/// For each slot of a program of `slots` slots, the arrival before any edge is followed: no edge to the slot is known on which the value is
+/// present (`is_present`), and none on which it is missing (`lack`). Slot 0, at which a run begins, is the exception: it has a lack, since
+/// the value was never written. No edge leads to slot 0, so the slot that this lack names as the start of an edge, 0, is never used.
 fn first_arrivals(alloc: Global, slots: usize) -> Result<Vec<Arrival>, AllocError> {
     let nothing = Arrival {
         is_present: false,
@@ -166,8 +170,8 @@ fn first_arrivals(alloc: Global, slots: usize) -> Result<Vec<Arrival>, AllocErro
     Ok(arrivals)
 }
 
-/// Why the value `wanted` is missing before the rejected instruction, the last that the pass reached; `None` if this value is present
-/// there.
+/// Why the value `wanted` is missing before the rejected instruction; `None` if this value is present there. The instructions that the pass
+/// reached are followed in the order of their slots. The rejected one is the last, so `cause` is left as it is before this instruction.
 fn cause_of(refusal: &RefusedProgram<'_>, wanted: Wanted) -> Result<Option<Cause>, AllocError> {
     let (alloc, program, named) = (refusal.alloc, refusal.program, refusal.named);
     let mut finder = Finder {

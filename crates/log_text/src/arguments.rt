@@ -80,6 +80,7 @@ pub(crate) fn parse_arguments<'a>(
 }
 
 /// The style of the log: with `--dot` the graph, with `--all` all that is known, without these options what is new before each instruction.
+/// Clap has rejected arguments with both options (`with_styles`).
 pub(crate) fn style_of(matches: &ArgMatches<'_>) -> LogStyle {
     if matches.get_flag("dot") {
         LogStyle::Graph

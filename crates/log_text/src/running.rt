@@ -32,8 +32,9 @@ impl Output {
     }
 }
 
-/// The output for an input, by the parsed arguments `matches`: the log of its program, or why the slots on its hex lines are no program.
-/// Fails like `maps_given`, `whole_input`, and `hex_slots` or `text_program`, and if out of memory.
+/// The output for an input, by the parsed arguments `matches`: the log of its program, and the exit status of the verdict. The program is
+/// hex lines or text (`form_of`). If the slots on its hex lines are no program, the log says why. The failures are those of
+/// `maps_given`, of `whole_input`, and of `hex_slots` or `text_program`, and `Memory`.
 fn log_output<I: Read + Drop>(
     alloc: Global,
     matches: &ArgMatches<'_>,
@@ -102,8 +103,9 @@ fn run<I: Read + Drop, O: Write + Drop>(
 
 /// Runs the program on its arguments, those after its name, and returns its exit status: 0 if the input's program is accepted,
 /// or help or the version is asked for, 1 if the input or its program is rejected, 2 if arguments are wrong, 3 if input or output
-/// failed, 4 if out of memory. A fault is one line on `faults`, that of `bpfhost verify`; if that line can't be written, the status
-/// is still the fault's. The log is written only once it is complete.
+/// failed, 4 if out of memory. `output` gets the log, also of a rejected program, or why the slots on hex lines are no program; it is
+/// written only once it is complete. Every other failure (`Failure`) is one line on `faults`, as `bpfhost verify` writes it; if that line
+/// can't be written, the status is still that of the failure.
 pub fn run_log_words<I: Read + Drop, O: Write + Drop, F: Write + Drop>(
     alloc: Global,
     arguments: &[&str],

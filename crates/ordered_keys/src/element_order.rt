@@ -39,8 +39,8 @@ impl Model for ElementOrder {
 }
 
 impl ElementOrder {
-    /// An order without elements. Allocates a link for each number less than `bound`, and for the bound itself. `AllocError`: out of
-    /// memory.
+    /// An order without elements. Allocates a link for each number less than `bound`, which may become an element, and for the bound
+    /// itself, at which the order begins and ends. At first the ring has only the bound's link. `AllocError`: out of memory.
     pub(crate) fn new(alloc: Global, bound: u32) -> Result<ElementOrder, AllocError>
         ensures bound { IfOk result (λ order. order.bound ≡ bound) }
         ensures elements { IfOk result (λ order. order.elements ≡ []) }
@@ -68,10 +68,11 @@ impl ElementOrder {
         }
     }
 
-    /// The first element; `None` if there is no element.
+    /// The first element in the order; `None` if the order has no element.
     pub(crate) fn first(&self) -> Option<u32>
         ensures { result ≡ first_element self.now.elements }
     {
+        // In the ring the first element comes after the bound; without elements the bound comes after itself.
         let end = self.bound as usize;
         self.unless_end(self.links[end].after)
     }
@@ -84,7 +85,8 @@ impl ElementOrder {
         self.unless_end(self.links[element as usize].after)
     }
 
-    /// Puts an element last. It is less than the bound and not in the order, which therefore has fewer elements than the bound.
+    /// Puts an element last. The element is less than the bound and not yet in the order. So the number of elements is below
+    /// the bound (`few`), and `count` does not overflow.
     pub(crate) fn push(&mut self, element: u32)
         requires within { element < self.old.bound }
         requires new { occurrences element self.old.elements ≡ 0 }
@@ -92,6 +94,7 @@ impl ElementOrder {
         ensures bound { self.new.bound ≡ self.old.bound }
         ensures elements { self.new.elements ≡ self.old.elements ++ element ∷ [] }
     {
+        // Before the bound, the end of the ring, is the last element; in an order without elements it is the bound itself.
         let end = self.bound;
         let last = self.links[end as usize].before;
         self.links[last as usize].after = element;
@@ -103,7 +106,8 @@ impl ElementOrder {
         self.count += 1;
     }
 
-    /// Takes all elements out.
+    /// Takes all elements out: in the ring the bound is then its own neighbour. No other link is written, since the link of an element that
+    /// is not in the order means nothing.
     pub fn clear(&mut self)
         ensures bound { self.new.bound ≡ self.old.bound }
         ensures elements { self.new.elements ≡ [] }
@@ -116,7 +120,8 @@ impl ElementOrder {
         self.count = 0;
     }
 
-    /// Takes an element out of the order, which has it. The others keep their order.
+    /// Takes an element out of the order, which has it: its neighbours in the ring, of which each may be the bound, are linked to each
+    /// other. The other elements keep their order.
     pub(crate) fn remove(&mut self, element: u32)
         requires { 0 < occurrences element self.old.elements }
         ensures bound { self.new.bound ≡ self.old.bound }

@@ -50,7 +50,8 @@ impl<K: Eq + Hash + Copy, S: BuildHasher> Model for OrderedMap<K, S> {
 
 impl<K: Eq + Hash + Copy, S: BuildHasher> OrderedMap<K, S> {
     /// A map without keys, for elements less than `bound`. Allocates all memory that it will ever have. The table gets room for four times
-    /// the bound, since removals take some of its room (head of the crate). `AllocError`: out of memory.
+    /// the bound, since removals take some of its room (head of the crate). `rows` gets room for more than half of the bound: a removal
+    /// that fills the table anew copies the second half of the entries to `rows` (`rebuild_without`). `AllocError`: out of memory.
     pub fn new(alloc: Global, bound: u32, hash_builder: S) -> Result<OrderedMap<K, S>, AllocError>
     where
         S: Drop,
@@ -126,7 +127,7 @@ impl<K: Eq + Hash + Copy, S: BuildHasher> OrderedMap<K, S> {
         self.order.push(element);
     }
 
-    /// Removes all keys, and keeps the memory.
+    /// Removes all keys. Keeps the memory, and the bound that each element has to be less than (`bound`).
     pub fn clear(&mut self)
         ensures entries { self.new.entries ≡ [] }
         ensures bound { self.new.bound ≡ self.old.bound }
@@ -142,6 +143,7 @@ impl<K: Eq + Hash + Copy, S: BuildHasher> OrderedMap<K, S> {
         ensures bound { self.new.bound ≡ self.old.bound }
     {
         let index = self.table.get_index_of(key)?;
+        // `take_out` may move entries through `rows`, which is empty before and after.
         let (_key, element) = take_out(&mut self.table, &mut self.rows, self.indices.len(), index);
         // The last key has taken the index. If the removed key was the last, `moved` is its element, whose index now means nothing.
         let moved = element_at(&self.table, index, element);
@@ -151,9 +153,10 @@ impl<K: Eq + Hash + Copy, S: BuildHasher> OrderedMap<K, S> {
     }
 }
 
-/// Whether the entry at the index that `indices` has for `element` has this element; false if `table` has no entry at this index. In an
-/// `OrderedMap`: whether a key has the element. For an element that `indices` does not have, the index is 0. The element of the entry at 0
-/// of an `OrderedMap` is one that `indices` has, so the two differ, and the result is false.
+/// Whether `table` has an entry at the index that `indices` has for `element`, and this entry has `element`. In an `OrderedMap` this is so
+/// exactly if a key has `element`: the index of an element without a key leads to an entry of another element, or to none. For an element
+/// that `indices` does not have, the index is 0: an entry of an `OrderedMap` there has an element that `indices` has, so the result is
+/// false.
 fn has_element<K: Eq + Hash, S: BuildHasher>(
     table: &IndexMap<K, u32, S>,
     indices: &[u32],
@@ -236,9 +239,10 @@ fn put_last<K: Eq + Hash + Copy, S: BuildHasher>(
     let Ok(_) = added else { unreachable!() };
 }
 
-/// Takes out the entry at an index, and returns it; the last entry gets the index. The table keeps room for `bound` entries in all. A
-/// removal may give up room for one, so if the table's capacity is only `bound`, `rebuild_without` puts the second half of the entries back
-/// from `rows`, which is empty before and after and has room for half of `bound` (`buffer`).
+/// Takes out the entry at an index, and returns it; the last entry gets the index. Before and after, the table has room for `bound` entries
+/// in all. A removal (`take_at`) may lose room for one entry, so it is only called if the table's capacity is above `bound`. Else
+/// `rebuild_without` copies the second half of the entries to `rows`, and puts them back without the entry. `rows` is empty before and
+/// after, and has room for half of `bound` (`buffer`).
 fn take_out<K: Eq + Hash + Copy, S: BuildHasher>(
     table: &mut IndexMap<K, u32, S>,
     rows: &mut Vec<(K, u32)>,
@@ -263,8 +267,8 @@ fn take_out<K: Eq + Hash + Copy, S: BuildHasher>(
     }
 }
 
-/// Takes out the entry at an index, and returns it; the last entry gets the index. The table, which has an entry there, may lose room for
-/// one entry.
+/// Takes out the entry at an index, and returns it; the last entry gets the index. The table has an entry at the index. The number of its
+/// entries and of those for which it has room, together, falls by one at most (`room`).
 #[inline(always)]
 fn take_at<K: Eq + Hash + Copy, S: BuildHasher>(
     table: &mut IndexMap<K, u32, S>,
@@ -282,9 +286,10 @@ fn take_at<K: Eq + Hash + Copy, S: BuildHasher>(
     entry
 }
 
-/// Takes out the entry at an index, and returns it; the last entry gets the index. The table loses no room: the second half of its entries
-/// is copied to `rows`, removed from the table, and put back without the entry. `rows` is empty before and after. A call takes more steps
-/// the more entries there are, but is rare, so the function is out of line.
+/// Takes out the entry at an index, and returns it; the last entry gets the index. The table loses no capacity (`room`), while `take_at`
+/// may lose that for one entry. To keep it, the second half of the table's entries is copied to `rows`, removed from the table, and put
+/// back without the entry. `rows` is empty before and after, and has room for this half (`buffer`). A call takes more steps the more
+/// entries there are, but is rare, so the function is out of line.
 #[cold]
 #[inline(never)]
 fn rebuild_without<K: Eq + Hash + Copy, S: BuildHasher>(

@@ -35,8 +35,9 @@ abbrev pub loaded : AccessSize → Bool → Kind
 loaded size true = Scalar (full 64)
 loaded size false = Scalar (full (8 * bytes_of size))
 
--- the kind of the value that a load of the bytes of mask `bits` from a slot gives; a spill is only
--- loaded whole, and other bytes only if all are written
+-- the kind of the value that a load of the bytes of mask `bits` from a slot gives, with its sign
+-- extended if `signed`. A spill is loaded only whole, by a double word, else PartOfSpill. Other
+-- bytes are loaded as a number, and only if all of them are written, else UnwrittenStack
 abbrev pub read_slot : Slot → ℕ → AccessSize → Bool → Result Kind Reason
 read_slot (Spill k) bits size signed = if is_double size then Ok k else Err PartOfSpill
 read_slot (Bytes mask) bits size signed =

@@ -44,7 +44,7 @@ impl Facts {
         self.registers[usize::from(reg.number())] = kind;
     }
 
-    /// What is known of stack slot `index`, 0 to 63.
+    /// What is known of stack slot `index`, 0 to 63, of which 0 is the lowest.
     pub(crate) fn slot(&self, index: usize) -> Slot
         requires { index < STACK_SLOTS }
         ensures { result ≡ slot_at self.now index }

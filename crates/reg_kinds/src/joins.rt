@@ -178,7 +178,8 @@ fn includes_offsets(p: &ValuePointer, q: &ValuePointer) -> bool
 }
 
 /// Whether both kinds are the context, the same stack offset, the same map, or the result of the same look-up: then their join changes
-/// nothing.
+/// nothing. False for two numbers, pointers into values or unreadable kinds, even if they are equal: the callers test or join these
+/// themselves.
 #[inline(always)]
 fn are_same(known: &Kind, edge: &Kind) -> bool
     ensures kinds { result ≡ true → kind_join known.now edge.now ≡ known.now }
@@ -209,8 +210,9 @@ fn keep_common(mask: &mut u8, other: u8) -> bool
     true
 }
 
-/// Joins `edge`, what is known of a stack slot on another edge, into `known`. Returns false only if `known` is unchanged; after a join out
-/// of line, by `join_other_slots`, it returns true whether `known` has changed or not.
+/// Joins `edge`, what is known of a stack slot on another edge, into `known`. If only one of them is a spill, no byte of the join counts as
+/// written (`Bytes(0)`). Returns false only if `known` is unchanged. After a join by `join_other_slots`, which is not inlined, returns true
+/// whether `known` has changed or not.
 #[inline(always)]
 fn join_slot(known: &mut Slot, edge: &Slot) -> bool
     ensures slot { known.new ≡ slot_join known.old edge.now }
@@ -233,9 +235,9 @@ fn join_slot(known: &mut Slot, edge: &Slot) -> bool
     }
 }
 
-/// Joins the stack slot `edge` into `known`, a spill that the join may change. A program can force two cases in many slots: both slots are
-/// spilled pointers into values of one map, or `edge` has bytes. This function joins in these cases; in all others it calls
-/// `join_any_slots`, which is not inlined.
+/// Joins the stack slot `edge` into `known`, a spill that the join may change. A program can force two cases in many slots, and this
+/// function joins in these itself. If both are spilled pointers into values of one map, the join includes the offsets of both. If `edge` is
+/// no spill, the join has no written byte. In all other cases it calls `join_any_slots`, which is not inlined.
 #[inline(never)]
 fn join_other_slots(known: &mut Slot, edge: &Slot)
     ensures { known.new ≡ slot_join known.old edge.now }
@@ -261,7 +263,8 @@ fn join_any_slots(known: &mut Slot, edge: &Slot)
 /// Joins the stack slots of `group` in `edge`, the facts on another edge to the same instruction, into those in `facts`; no other slot and
 /// no register changes. Returns false only if no slot has changed.
 pub fn join_group(facts: &mut Facts, edge: &Facts, group: StackGroup) -> bool
-    ensures facts { facts.new ≡ with_slots facts.old (group_joined group.number facts.old edge.now) }
+    ensures facts { facts.new ≡ with_slots facts.old
+        (group_joined group.number facts.old edge.now) }
     ensures stack { result ≡ false → facts.new.slots ≡ facts.old.slots }
 {
     let mut changes = false;

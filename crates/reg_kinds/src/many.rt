@@ -137,9 +137,9 @@ pub fn check_read(facts: &Facts, offset: i32, count: u32) -> Result<(), Reason>
 }
 
 /// Changes the facts to those after a write of at least `least` and at most `most` bytes at `offset` from the stack's upper end. The first
-/// `least` bytes count as written. A spill that `most` bytes touch is lost, and its other bytes count as unwritten. `OutsideStack`, and
-/// nothing changes, if `most` bytes don't all lie in the stack. If `least` is above `most`, no write has such a length, and the facts
-/// describe no run.
+/// `least` bytes count as written. A spill that the first `most` bytes touch is lost: those of its bytes that are not among the first
+/// `least` count as unwritten. All other bytes that were written stay written. `OutsideStack`, and nothing changes, if `most` bytes don't
+/// all lie in the stack. If `least` is above `most`, no write has such a length, and the facts describe no run.
 pub fn fill_stack(facts: &mut Facts, offset: i32, least: u32, most: u32) -> Result<(), Reason>
     ensures { MatchResult (stack_filled facts.old offset least most)
         (λ after. (result ≡ Ok tt) × (facts.new ≡ after))
@@ -150,10 +150,11 @@ pub fn fill_stack(facts: &mut Facts, offset: i32, least: u32, most: u32) -> Resu
     Ok(())
 }
 
-/// What is known of stack slot `index`, which was `slot` before, after a write of `least` to `most` bytes from byte index `start` on. The
-/// first `least` bytes count as written. If `most` bytes touch a spill, it is lost, and its other bytes count as unwritten; a slot that
-/// they don't touch is unchanged. `most` bytes lie in the stack. `least` may be above `most`: then no write has such a length, and the
-/// result describes no run. `least` comes from a `u32`, so its sum with `start` can't overflow.
+/// What is known of stack slot `index` after a write of `least` to `most` bytes from byte index `start` on; `slot` was known before. If
+/// `most` bytes don't touch the slot, it is unchanged. Otherwise those of its bytes that are among the first `least` count as written. If
+/// the slot was a spill, the spill is lost, and its other bytes count as unwritten. `most` bytes lie in the stack. `least` may be above
+/// `most`: then no write has such a length, and the result describes no run. `least` comes from a `u32`, so its sum with `start` can't
+/// overflow.
 fn filled_slot(slot: Slot, start: usize, least: usize, most: usize, index: usize) -> Slot
     requires least { least < 2 ^ 32 }
     requires within { start + most ≤ stack_size }

@@ -76,8 +76,9 @@ fn settle_slot(slot: &mut Slot, site: usize, null: bool)
 }
 
 /// Splits the facts before a null test of the look-up at slot `site`: `taken`, whose old facts are lost, gets those on the jumping edge,
-/// `facts` those on the falling edge. `null` is whether the result is null on the jumping edge; on the falling edge it is the opposite. All
-/// copies are settled as by `settle`, with one pass over the facts.
+/// `facts` those on the falling edge. `null` is whether the result is null on the jumping edge; on the falling edge it is the opposite.
+/// On the edge with the null result, each copy in a register becomes the number 0, and each in the stack eight written bytes; on the other
+/// edge each copy becomes a pointer to the start of a value. One pass over the facts serves both edges.
 pub fn settle_both(facts: &mut Facts, taken: &mut Facts, site: usize, null: bool)
     ensures taken { taken.new ≡ facts_settled site null facts.old }
     ensures falls { facts.new ≡ facts_settled site (not null) facts.old }

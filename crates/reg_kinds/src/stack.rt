@@ -30,8 +30,9 @@ pub fn read_stack(
     read_slot(facts.slot(index), bits, size, signed)
 }
 
-/// The kind of the value that a load of the bytes of the mask `bits` from `slot` gives; a number is sign-extended if `signed`. A spill is
-/// only loaded whole, else `PartOfSpill`; other bytes only if all are written, else `UnwrittenStack`.
+/// The kind of the value that a load of this size from `slot` gives; `bits` is the mask of the slot's bytes that are loaded. A number is
+/// sign-extended if `signed`. A spill is only loaded whole, by eight bytes, else `PartOfSpill`; other bytes only if all that are loaded are
+/// written, else `UnwrittenStack`.
 fn read_slot(slot: Slot, bits: u8, size: AccessSize, signed: bool) -> Result<Kind, Reason>
     ensures { result ≡ read_slot slot bits size signed }
 {
@@ -67,8 +68,9 @@ pub fn write_stack(
     Ok(index)
 }
 
-/// The stack slot of an access at `offset` from the stack's upper end, and the mask of its bytes there. The error is `OutsideStack` if the
-/// access is not in the stack, else `UnalignedStack` if it is not aligned to its size. An aligned access is in one slot.
+/// The stack slot of an access at `offset` from the stack's upper end, counted from the stack's lowest byte, and the mask of the bytes of
+/// the access in this slot: bit k for byte k. The error is `OutsideStack` if the access is not in the stack, else `UnalignedStack` if it
+/// is not aligned to its size. An aligned access is in one slot.
 fn touched(offset: i32, size: AccessSize) -> Result<(usize, u8), Reason>
     ensures value { result ≡ touched offset size }
     ensures bound { IfOk result (λ t. t.0 < stack_slots) }
@@ -122,8 +124,9 @@ fn zero_extended(size: AccessSize) -> Range
     }
 }
 
-/// What is known of `slot` after a store of a value of kind `value` to its bytes of the mask `bits`. A number makes them written, a pointer
-/// is spilled whole; `PartOfSpill` if only some bytes of a pointer are stored. `write_stack` has rejected an unreadable value before.
+/// What is known of `slot` after a store of `size` bytes of a value of kind `value`, to its bytes of the mask `bits`. A number makes these
+/// bytes written, and a spill that was in the slot is lost. A pointer or a map is spilled if all its eight bytes are stored, else the error
+/// is `PartOfSpill`. `write_stack` has rejected an unreadable value before.
 fn slot_written(slot: Slot, bits: u8, size: AccessSize, value: Kind) -> Result<Slot, Reason>
     ensures { result ≡ slot_written slot bits size value }
 {

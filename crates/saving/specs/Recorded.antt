@@ -25,7 +25,8 @@ abbrev pub IsRecorded : RecordedTenant → Type 0
 IsRecorded t =
     (part : List ℕ) → HoldsItsMaps (tenant_state part t) × AreBirths (tenant_state part t) t.births
 
--- the births after a frame with result a, by its command; a frame without a command changes none
+-- the births after a frame with result a, from those before it (`births`): if its bytes are a
+-- command (Ok), those after this command; if they are none (Err), unchanged
 abbrev pub births_after_frame : Result Command BadFrame → Answer → List Birth → List Birth
 births_after_frame (Err fault) a births = births
 births_after_frame (Ok command) a births = births_after command a births

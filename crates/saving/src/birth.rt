@@ -41,7 +41,8 @@ impl Model for Births {
     ghost invariant = { λ b. MOST_BIRTHS ≤ vec_capacity b.oldest_first };
 }
 
-/// Whether the object of a birth is still live: the map is live, or the descriptor names a program.
+/// Whether the object of a birth is still live: the map is live, or the descriptor names a program. This program is that of the
+/// birth: `keep_living` runs after each close, so no birth of a closed program is left when a load opens another one at the descriptor.
 fn lives(tenant: &Tenant, birth: &Birth) -> bool
     ensures { (part : List ℕ) → result ≡ lives_in (state_in part tenant.now) birth.now }
 {
@@ -68,7 +69,8 @@ impl Births {
         &self.oldest_first
     }
 
-    /// Adds the latest birth. There is room for it: `new` allocated room for `MOST_BIRTHS`, and there are fewer before.
+    /// Adds the latest birth, which is the last one here, and the first one that contracts see. No memory is needed: `new` allocated room
+    /// for `MOST_BIRTHS`, and the caller makes sure that there are fewer before.
     fn push(&mut self, birth: Birth)
         requires { length self.old < MOST_BIRTHS }
         ensures { self.new ≡ birth ∷ self.old }
@@ -79,7 +81,8 @@ impl Births {
     /// Adds the birth of the object that a command opened, if its reply has the new descriptor; after any other reply or an error, none.
     /// `tenant` is the tenant after the command. By the law `births_are_kept` there are at most `MOST_BIRTHS` then, so there is room.
     pub(crate) fn note(&mut self, tenant: &Tenant, answer: &Result<Reply<'_>, Errno>)
-        requires { length (births_after_reply answer.now tenant.now.objects self.old) ≤ MOST_BIRTHS }
+        requires { length (births_after_reply answer.now tenant.now.objects self.old)
+            ≤ MOST_BIRTHS }
         ensures { self.new ≡ births_after_reply answer.now tenant.now.objects self.old }
     {
         if let Ok(Reply::Opened(fd)) = answer {

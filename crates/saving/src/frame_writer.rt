@@ -156,7 +156,8 @@ impl FrameWriter {
         append_framed(&mut self.frames, &self.frame)
     }
 
-    /// Appends the frames that open a program at each descriptor of a new tenant: `MOST` loads of `FILLER`. `AllocError`: out of memory.
+    /// Appends the frames that open a program at each descriptor of a new tenant: `MOST` loads of `FILLER`. Then no descriptor is free. So
+    /// the frames that restore an object first close its descriptor, and the object gets this one. `AllocError`: out of memory.
     fn append_filling(&mut self) -> Result<(), AllocError>
         ensures written { OnOk result (self.new.frames.items
             ≡ self.old.frames.items ++ frames_of self.old.number (filled most)) }
@@ -169,8 +170,8 @@ impl FrameWriter {
         Ok(())
     }
 
-    /// Appends the frame that closes a descriptor, if it is not open in the saved tenant; none if it is. The tenant that is restored has
-    /// each descriptor open until then. `AllocError`: out of memory.
+    /// Appends the frame that closes a descriptor, if it is not open in the saved tenant; none if it is. The frames before the closes open
+    /// all descriptors of the tenant that is restored. `AllocError`: out of memory.
     fn append_close_unless_open(&mut self, tenant: &Tenant, fd: u32) -> Result<(), AllocError>
         ensures written { OnOk result (self.new.frames.items
             ≡ self.old.frames.items ++ frames_of self.old.number
@@ -226,9 +227,9 @@ impl FrameWriter {
         Ok(())
     }
 
-    /// Appends the frames that put the keys of `map` from index `first` on, with their values, into the map at descriptor `fd`, in their
-    /// order and at most `KEYS_OF_PART`; none if `map` is not live, which does not happen for the map of a birth. `part` has the tenant's
-    /// `PART` bytes of the arena. `AllocError`: out of memory.
+    /// Appends the frames of one part of a save that put keys of `map`, with their values, into the map at descriptor `fd`: the keys from
+    /// index `first` on in the order of `map`, at most `KEYS_OF_PART`. Appends no frame if `map` is not live, which does not happen for the
+    /// map of a birth. `part` is no part of a save: it has the tenant's `PART` bytes of the arena. `AllocError`: out of memory.
     fn append_keys(
         &mut self,
         tenant: &Tenant,
@@ -305,7 +306,8 @@ impl FrameWriter {
         }
     }
 
-    /// Appends the frames of the part `wanted` of a save. `part` has the tenant's `PART` bytes of the arena. `AllocError`: out of memory.
+    /// Appends the frames of `wanted`, one part of a save. The argument `part` is no part of a save: it has the tenant's `PART` bytes of
+    /// the arena, among them the values of maps. `AllocError`: out of memory.
     pub(crate) fn write(
         &mut self,
         tenant: &Tenant,

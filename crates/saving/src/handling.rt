@@ -54,7 +54,8 @@ fn reply_to_command(
     requires short { tail_length (shown_command headed.command) ≤ longest_frame }
     requires part { IsPartOf number arena.old }
     requires recorded { IsRecorded (record { kept = tenant.old; births = births.old }) }
-    ensures replied { AnswersCommand (shown_command headed.entry.command) headed.entry.head reply.new
+    ensures replied { AnswersCommand (shown_command headed.entry.command) headed.entry.head
+        reply.new
         (state_in (part_bytes arena.old number) tenant.old)
         (state_in (part_bytes arena.new number) tenant.new) births.old births.new }
     ensures changes { ChangesPart number arena.old arena.new }
@@ -119,6 +120,7 @@ impl SavableTenant {
     /// Executes the command of a frame of this tenant, and writes the reply to `reply`; a frame without a command gets an error and changes
     /// nothing. `frame` is what follows the length field, and `head` its head, which the host has read. `tenant` is the number of the
     /// tenant's part in the arena. A load is verified in `working`, the memory for the loads of all tenants, whose contents mean nothing.
+    /// The births change as the command says (`recorded`), and no reply is the error of a run that faults, EFAULT (`no_fault`).
     pub fn handle(
         &mut self,
         head: Head,

@@ -32,9 +32,9 @@ fn status_of(reply: &Result<Reply<'_>, Errno>) -> i32
 }
 
 impl SavableTenant {
-    /// Opens a program that was verified elsewhere, as the frame that loads it does, whatever number the tenant has. Returns the status of
-    /// the reply to that frame, which has no payload: the new descriptor, or a negative number if no descriptor is free or memory is
-    /// refused.
+    /// Opens a program that was verified elsewhere, and records its birth, as at the frame that loads the program, with any number of the
+    /// tenant in the frame. Returns the status of the reply to that frame, which has no payload: the new descriptor, or a negative number
+    /// if no descriptor is free or memory is refused. `no_fault`: never that of `BadAddress`, the error of a run that faults.
     ///
     /// # Errors
     ///

@@ -72,8 +72,9 @@ pub fn restored_by_frames()
     restored_is_alike();
 }
 
-/// A law, what a save is for: after any commands to a tenant, even if memory was refused to some, the frames that restore its state make a
-/// new tenant that replies as it does, while no memory is refused.
+/// A law, what a save is for: after any commands to a new tenant, even if memory was refused to some, another new tenant, to which no
+/// memory is refused, succeeds at each of the frames that restore the state of the first. From then on both reply alike to equal frames,
+/// while no memory is refused to either.
 pub fn histories_are_restored()
     ensures { HistoriesAreRestored }
 {

@@ -65,12 +65,13 @@ impl SavableTenant {
     }
 
     /// The frames of part `index` of a save, from 0: frames of tenant `number`, each with its length before it. `None` after the last
-    /// part, and if `part`, the bytes of the tenant in the arena, are not `PART` bytes.
+    /// part of the save. Also `None` if `part`, the bytes of the tenant's part of the arena, are not `PART` bytes.
     ///
-    /// A new tenant that is given the frames of all parts in their order, and to which no memory is refused, then replies as this one does.
-    /// Between two parts nothing may change in this tenant, but other tenants may be served. Part 0 opens a program at each descriptor. For
-    /// each birth, the oldest first, one part creates the map or loads the program, and the parts after it put the keys of the map, at most
-    /// `KEYS_OF_PART` each. The last part closes the descriptors that are not open.
+    /// A new tenant that is given the frames of all parts of the save in their order, and to which no memory is refused, then replies as
+    /// this one does. Between two parts nothing may change in this tenant, but other tenants may be served. Part 0 opens a program at each
+    /// descriptor. For each birth, the oldest first, one part closes the descriptor of the birth, so that it is the only free one, and
+    /// creates the map or loads the program, which gets it. The parts after it put the keys of the map, at most `KEYS_OF_PART` each. The
+    /// last part closes the descriptors that are not open in this tenant.
     ///
     /// # Errors
     ///

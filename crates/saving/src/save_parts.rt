@@ -71,7 +71,8 @@ fn part_of_birth(tenant: &Tenant, birth: Birth, index: usize) -> Option<SavePart
 }
 
 /// The part at an index of a save of a tenant with these births, the oldest first. Part 0 opens a program at each descriptor, then each
-/// birth has its parts, and the last part closes the descriptors that are not open in the tenant. `None` after the last part.
+/// birth has its parts, and the last part closes the descriptors that are not open in the tenant. `None` after the last part. In the
+/// contract, `part` is the tenant's part of the arena, with any bytes.
 pub(crate) fn part_at(tenant: &Tenant, births: &[Birth], index: usize) -> Option<SavePart>
     ensures { (part : List ℕ) → option_map (part_commands (state_in part tenant.now)) result
         ≡ slice_get (ordered_parts (state_in part tenant.now) births.now) index }

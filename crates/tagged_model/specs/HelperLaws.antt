@@ -62,8 +62,8 @@ pub data MapAfterCall (t : RunMap) : RunMap → Type 0 where
       → MapAfterCall t (updated t key value flags).map
   after_delete : (key : List ℕ) → MapAfterCall t (removed t key).map
 
--- the map of one descriptor before a call and after it: no map both times (None), or a call may
--- make the second map of the first one (`MapAfterCall`)
+-- the map of one descriptor before a call and after it: no map both times (None), or a map and one
+-- that a call may leave of that map (`MapAfterCall`). A call neither adds nor removes a map
 abbrev pub EntryAfterCall : Option RunMap → Option RunMap → Type 0
 EntryAfterCall None None = Unit {0}
 EntryAfterCall (Some t) (Some u) = MapAfterCall t u
@@ -93,8 +93,9 @@ entry_same (Some t) = unchanged
 state_same : (s : RunState) → IsAfterCall s s
 state_same s = record { words = refl; maps = λ m. entry_same (s.maps m) }
 
--- if s has the map t at descriptor m, and a call may change t to u (`MapAfterCall`), then for each
--- descriptor k a call may change what s has at k to what s with u at m has there (`EntryAfterCall`)
+-- if s has the map t at descriptor m, and a call may change t to u (`MapAfterCall`), then u may
+-- replace t in s: each descriptor k then has a map that a call may make of the map that k has in s,
+-- or no map if it has none in s (`EntryAfterCall`)
 entry_set : (s : RunState) (m : ℕ) (t u : RunMap)
     → s.maps m ≡ Some t
     → MapAfterCall t u
@@ -132,17 +133,18 @@ replied s m t reply there change = record {
   maps = entry_set s m t reply.map there change;
 }
 
--- a computation takes the value of the option o, and continues with f: `PermitsAfterCall` permits
--- its result if it permits that of f for this value. Without a value this is a fault, which is
--- permitted
+-- `PermitsAfterCall` permits a fault, and a state that can be that after a call that begins in s.
+-- If it permits f x for the value x of the option o, it permits the result of the computation that
+-- takes the value of o and continues with f. If o is None, this result is a fault
 then_leaves : {A : Type 0} (s : RunState) (o : Option A) (f : A → Option RunState)
     → ((x : A) → o ≡ Some x → PermitsAfterCall s (f x))
     → PermitsAfterCall s (and_then o f)
 then_leaves s None f h = tt
 then_leaves s (Some x) f h = h x refl
 
--- if `PermitsAfterCall` permits the result of a computation, it also permits this result with v in
--- register 0 and registers 1 to 5 empty
+-- o is the result of a computation in a call that begins in state s: a state, or None, a fault. If
+-- `PermitsAfterCall` permits o, it also permits o with v in register 0 and registers 1 to 5 empty;
+-- None stays None
 return_leaves : (s : RunState) (o : Option RunState) (v : Tagged)
     → PermitsAfterCall s o
     → PermitsAfterCall s (and_then o (λ t. Some (returns t v)))
@@ -151,8 +153,10 @@ return_leaves s (Some t) v h = returned s t v h
 
 -- ---- arguments
 
--- if `PermitsAfterCall` permits what f gives for each map of state s, it permits the result of the
--- computation that reads the map in register r and continues with f
+-- `PermitsAfterCall` permits a fault, and a state that can be that after a call that begins in s.
+-- If it permits what f gives for each map of s, with its descriptor, it permits the result of the
+-- computation that reads the map in register r and continues with f. If register r has no map of
+-- the run, this result is a fault
 map_leaves : (s : RunState) (r : ℕ) (f : GivenMap → Option RunState)
     → ((m : ℕ) (t : RunMap)
     → s.maps m ≡ Some t
@@ -215,8 +219,9 @@ input_long s (Pointer object.Stack x) n =
 input_long s (Pointer (object.Value m number) x) n = object_read_has_length (s.maps m) number x n
 input_long s p n = tt
 
--- a computation reads n bytes at the pointer in register r, and continues with f. If
--- `PermitsAfterCall` permits the result of f for any n bytes, it permits that of the computation
+-- a computation reads n bytes at the pointer in register r of s, and continues with f. If f gives,
+-- for any n bytes, a fault (None) or a state that can be the one after a call that begins in s
+-- (`PermitsAfterCall`), then so does the computation
 bytes_leave : (s : RunState) (r n : ℕ) (f : List ℕ → Option RunState)
     → ((bs : List ℕ) → length bs ≡ n → PermitsAfterCall s (f bs))
     → PermitsAfterCall s (and_then (argument s r (λ p. input s p n)) f)
@@ -230,9 +235,9 @@ bytes_leave s r n f h = by (s.registers r)
     by None = tt
     by (Some p) = read (input s p n) (input_long s p n)
 
--- if a helper's write of bytes at p in state s is no fault, it leads to a state that can be the one
--- after a call that begins in s (`IsAfterCall`). If p is no pointer into the stack or a value, the
--- write is a fault
+-- if a helper's write of the bytes bs at p in state s is no fault, the state after the write can be
+-- the state after a call that begins in s (`IsAfterCall`). If p is no pointer into the stack or a
+-- value, the write is a fault, which `PermitsAfterCall` permits
 output_leaves : (s : RunState) (p : Tagged) (bs : List ℕ) → PermitsAfterCall s (output s p bs)
 output_leaves s (Pointer object.Stack x) bs =
     cond_both (is_in_stack x (length bs))

@@ -70,17 +70,18 @@ impl Tenant {
         }
     }
 
-    /// Runs the program at a descriptor on the packets of a batch, one after another, in the part of `tenant`, the number of this tenant.
-    /// The result of each is written to `results`, from its front on; the rest of it is unchanged.
+    /// Runs the program at a descriptor on the packets of a batch, one after another, in this tenant's part of the arena; `tenant` is the
+    /// number of this tenant. The results are written to the front of `results`, in the order of the packets; the rest of `results` is
+    /// unchanged.
     ///
     /// Results, maps and state afterwards are those of the test runs of these packets in this order.
     ///
     /// # Errors
     ///
     /// `BadDescriptor` if the descriptor is not open. `Invalid` if it names a map, if `results` has room for fewer results than
-    /// packets, or if there is neither one array of words nor one for each packet. Else the error of the first packet that has one:
-    /// `Invalid` if it ends before it begins or after the last byte, `TooBig` if it has more than `LONGEST_PACKET` bytes. After an
-    /// error no packet was run, and nothing has changed.
+    /// packets, or if there is neither one array of context words nor one for each packet. Else the error of the first packet that has
+    /// one: `Invalid` if the packet ends before it begins or after the last byte, `TooBig` if the packet has more than `LONGEST_PACKET`
+    /// bytes. After an error no packet was run, and nothing has changed.
     pub fn run_packets(
         &mut self,
         fd: u32,

@@ -48,7 +48,9 @@ impl Tenant {
     }
 
     /// The loaded program that `program` becomes: the objects with which it was accepted are replaced by those that are open here, and it
-    /// gets the handles of its maps. The caller has seen that it fits, so `OtherShapes` can't occur. `AllocError`: out of memory.
+    /// gets the handles of its maps. The caller has seen that it fits, so `OtherShapes` can't occur. The result is accepted with the open
+    /// descriptors (`judges`), and its maps are live (`there`), with the shapes with which it was accepted (`bound`). `part` may be any
+    /// bytes. `AllocError`: out of memory.
     fn program_here(
         &self,
         alloc: Global,

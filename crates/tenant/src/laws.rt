@@ -12,7 +12,8 @@ pub fn one_answer()
     verifier::laws::one_judgement();
 }
 
-/// A law: in a state, a frame has one reply and one next state if memory is refused to it, and one of each if it is not.
+/// A law: a tenant's state, a frame, and whether memory is refused to the frame's command determine the reply and the next state. For a
+/// tenant that is not served, the frame alone determines the reply.
 pub fn one_reply()
     ensures { OneReply }
 {
@@ -26,7 +27,8 @@ pub fn one_alone()
     one_reply();
 }
 
-/// A law: if a tenant's flag of refused memory is clear after a command, the command's result is that without a refusal of memory.
+/// A law: if a tenant's flag of refused memory is clear after a command, the command has a result that the machine gives if no memory is
+/// refused to it.
 pub fn clear_flag_means_no_refusal()
     ensures { ClearFlagMeansNoRefusal }
 {}
@@ -36,9 +38,10 @@ pub fn clear_flag_means_alone()
     ensures { ClearFlagMeansAlone }
 {}
 
-/// A law: if memory is refused to a command, its result is one that it has without the refusal; or it is a creation or a load, its status
-/// is `NoMemory`, and it only sets the flag. No other command, and none to which memory is not refused, has the status `NoMemory` or
-/// changes the flag. So a load that rejects its program does not have this status.
+/// A law: if memory is refused to a command, its result is one that it may have without the refusal; or the command creates a map or loads
+/// a program, its status is `NoMemory`, and it only sets the tenant's flag of refused memory (`refused`). No other command, and none to
+/// which memory is not refused, has the status `NoMemory` or changes the flag. So a load that rejects its program does not have this
+/// status.
 pub fn refusals_are_reported()
     ensures { RefusalsAreReported }
 {

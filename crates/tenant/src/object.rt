@@ -43,7 +43,8 @@ impl Model for LoadedProgram {
 
 impl LoadedProgram {
     /// An accepted program with the handles of its maps: one for each descriptor of a map that its instructions name, in the order in which
-    /// they first name these.
+    /// they first name these descriptors. `named`: the descriptors with the objects with which the
+    /// program was accepted.
     pub(crate) fn new(program: Verified, maps: Vec<MapKey>) -> LoadedProgram
         requires { length maps.items ≡ length (maps_of program.code) }
         ensures insns { result.insns ≡ program.code }
@@ -60,7 +61,8 @@ impl LoadedProgram {
         &self.maps
     }
 
-    /// The accepted program, without the handles of its maps.
+    /// The accepted program, without the handles of its maps. In the contract, `entries` and `named` are the descriptors in the program
+    /// that were open at the load, with the objects that they named.
     pub fn program(&self) -> &Verified
         ensures code { result.now.code ≡ self.now.insns }
         ensures entries { result.now.entries ≡ self.now.named }

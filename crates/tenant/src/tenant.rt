@@ -71,9 +71,10 @@ pub(crate) fn open(objects: &mut FdTable<OpenObject>, object: OpenObject) -> u32
     }
 }
 
-/// Drops one reference to the map of each handle in `held`, the maps of a program that was closed. These references are still counted
-/// (`held`), so no count falls below 0. A map without references is freed, and the areas after its own move down in `part`, the tenant's
-/// part.
+/// Drops one reference to the map of each handle in `held`, the maps of a program that was closed. The clause `held` requires that the maps
+/// still count these references, so no count falls below 0. `live` requires that each live map has a reference, and that no element is kept
+/// apart. A map without references left is freed, and the areas after its own move down in `part`, the tenant's part. The maps that stay
+/// keep their keys and values (`left`).
 fn release_all(maps: &mut Maps, held: &[MapKey], part: &mut [u8])
     requires live { AreHeld maps.old }
     requires held { (handle : ℕ) → times_listed handle held.now ≤ holds_at maps.old handle }
@@ -130,7 +131,8 @@ impl Tenant {
         }
     }
 
-    /// The open descriptors and their objects, as the verifier sees them. `AllocError`: out of memory.
+    /// The open descriptors, from the lowest on, each with what the verifier is given of its object: the shape of a map, or only that it is
+    /// a program. `AllocError`: out of memory.
     pub fn targets(&self, alloc: Global) -> Result<Vec<Named>, AllocError>
         ensures { IfOk result (λ found. (part : List ℕ) →
             found.items ≡ targets (state_in part self.now)) }
@@ -146,7 +148,8 @@ impl Tenant {
         Ok(found)
     }
 
-    /// MAP_LOOKUP_ELEM: the reply with the bytes of a key's value, borrowed from the tenant's part, which has `PART` bytes.
+    /// MAP_LOOKUP_ELEM: the reply with the bytes of a key's value, borrowed from the tenant's part, which has `PART` bytes. `writable`: the
+    /// value fits in the payload of a reply, and no error is `BadAddress`, the error of a run that faults.
     ///
     /// # Errors
     ///
@@ -178,7 +181,8 @@ impl Tenant {
     ///
     /// The first that applies: `Invalid` if a field is outside its limits or a flag is set; `TooBig` if the values of this map take too
     /// many bytes; `TooManyOpen` if no descriptor is free; `NoSpace` if no handle is free, or if the values of all maps would take too many
-    /// bytes; `NoMemory` if out of memory for a hash map, which sets the tenant's flag of refused memory. Then no map has changed.
+    /// bytes; `NoMemory` if out of memory for a hash map. After any error no map and no descriptor has changed; `NoMemory` only sets the
+    /// tenant's flag of refused memory.
     pub fn create(
         &mut self,
         kind: u32,
@@ -253,7 +257,8 @@ impl Tenant {
         Ok(Reply::Done)
     }
 
-    /// MAP_DELETE_ELEM: deletes a key and its value. No run is in progress, so the element is free at once (`end_run`).
+    /// MAP_DELETE_ELEM: deletes a key and its value. No run is in progress, so the element is free at once (`end_run`). `writable`: no
+    /// error is `BadAddress`, the error of a run that faults.
     ///
     /// # Errors
     ///
@@ -300,8 +305,9 @@ impl Tenant {
         }
     }
 
-    /// CLOSE: closes a descriptor, which drops its reference to a map, or those of its program to their maps. A map without references is
-    /// freed, and the areas after its own move down in `part`, the tenant's part of `PART` bytes.
+    /// CLOSE: closes a descriptor. If the descriptor names a map, this drops the descriptor's reference to the map; if it names a program,
+    /// this drops all references of the program to maps. A map without references is freed, and the areas after its own move down in
+    /// `part`, the tenant's part of `PART` bytes.
     ///
     /// # Errors
     ///

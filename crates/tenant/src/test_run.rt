@@ -20,7 +20,8 @@ use verifier::laws;
 impl Tenant {
     /// PROG_TEST_RUN: runs the program at a descriptor on a packet, with the maps with which it was loaded, and returns its result. The
     /// context is the packet's length and then the ten `words`. The run uses only the part of `tenant`, the number of this tenant, in
-    /// `arena`, and every other part is unchanged. It takes no memory, and never faults.
+    /// `arena`, and every other part is unchanged. It takes no memory, and never faults. `writable`: so no error is `BadAddress`, the error
+    /// of a run that faults. `parts`, `part`: the number and the size of the parts are unchanged.
     ///
     /// # Errors
     ///

@@ -23,8 +23,9 @@ abbrev pub NoLabel : Bool → List ℕ → Type 0
 NoLabel true n = Unit {0}
 NoLabel false n = n ≡ []
 
--- an instruction has a form that a line can have, and a label's name only if its jump names one;
--- nothing is required of a blank line and of the definition of a label
+-- of an instruction: its form is one that a line can have, and the label's name `n` is empty if the
+-- form names no label; if the form names one, `n` may be any. A blank line and the definition of a
+-- label are always well formed
 abbrev pub IsWellFormed : Line → Type 0
 IsWellFormed (code form n) = IsForm form × NoLabel (names_label form) n
 IsWellFormed _ = Unit {0}

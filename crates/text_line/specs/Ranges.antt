@@ -34,7 +34,8 @@ offset_fits n = is_at_most (if n.negative then 32768 else 32767) n.magnitude
 abbrev pub next_imm_fits : Option ℕ → Bool
 next_imm_fits n = is_at_most 4294967295 n
 
--- the constant of an operand fits 32 bits; a register has no number that could be out of range
+-- the constant of an operand fits a signed field of 32 bits; a register has no number that could be
+-- out of range
 abbrev pub source_fits : SourceOperand → Bool
 source_fits (source.Number n) = imm_fits n
 source_fits (source.Reg r) = true

@@ -33,7 +33,9 @@ source_of (Reg r) = source.Reg r
 abbrev pub address_of : ℕ → ℤ → Address
 address_of base off = record { base = base; offset = number_of off }
 
--- the written form of an instruction: the target of a jump is a number, never a label
+-- the written form of an instruction: the target of a jump is a number, never a label. The Boolean
+-- of an operation and of a branch is whether registers are written with the names of their 64 bits,
+-- as they always are in a byte-order conversion; that of `form.Jump` is whether it is a `gotol`
 abbrev pub written : Insn → Form
 written (Alu wide op dst src) = form.Operation wide dst (operation.Binary op (source_of src))
 written (Movsx m) = form.Operation m.wide m.dst (operation.SignExtend m.bits m.src)

@@ -76,7 +76,7 @@ impl SourceOperand {
         }
     }
 
-    /// The second operand of an instruction, with -0 as 0 (`normal_source`); `None` if its constant doesn't fit 32 bits.
+    /// The second operand of an instruction, with -0 as 0 (`normal_source`). `None` if it is a constant that is no signed 32-bit number.
     fn operand(self) -> Option<Operand>
         ensures found { IfSome result (λ src. source_of src ≡ normal_source self) }
         ensures fits { IfSome result (λ _. source_fits self ≡ true) }
@@ -106,8 +106,9 @@ impl JumpTarget {
         }
     }
 
-    /// The offset in slots of a long jump to this target: the target's number, or `distance` if the target is a label. `None` if the number
-    /// doesn't fit 32 bits. The `true` in the contract means a long jump.
+    /// The offset in slots of a long jump to this target: the target's number, or `distance` if the target is a label. `distance` is the
+    /// number of slots from the next slot to the label. It has 16 bits also for a long jump: a program has at most `MAX_SLOTS` slots.
+    /// `None` if the number of the target doesn't fit 32 bits. The `true` in the contract means a long jump.
     fn long_offset(self, distance: i16) -> Option<i32>
         ensures found { IfSome result (λ n. target.Number (number_of n) ≡ placed distance self) }
         ensures fits { IfSome result (λ _. target_fits true self ≡ true) }
@@ -194,7 +195,8 @@ impl Access {
 }
 
 impl WideValue {
-    /// The instruction that loads this value into `dst`; `None` if a number is out of range, which a 64-bit constant is from 2 ^ 64 on.
+    /// The instruction that loads this value into `dst`; `None` if a number is out of range. A 64-bit constant is below 2^64, the
+    /// descriptor of a map is a signed number of 32 bits, and an offset in a map's value is an unsigned number of 32 bits.
     fn insn(self, dst: Reg) -> Option<Insn>
         ensures found { IfSome result (λ insn. written insn
             ≡ normal_form (form.WideLoad dst self)) }
@@ -221,8 +223,8 @@ impl WideValue {
 
 impl Form {
     /// Whether a line can have this form: a sign extension is from fewer bits than the register has, a byte-order conversion is of an `r`
-    /// register, and no double word is loaded with sign extension. The calls of `number` and `register_is_in_range` only give the proof that registers
-    /// are 0 to 10.
+    /// register, and no double word is loaded with sign extension. The calls of `number` and `register_is_in_range` only give the proof
+    /// that registers are 0 to 10.
     fn is_listed(&self) -> bool
         ensures yes { result ≡ true → IsForm self.now }
         ensures no { result ≡ false → IsForm self.now → ⊥ }
@@ -275,7 +277,8 @@ impl Form {
 
     /// The instruction of this form. A label that its jump names is taken to be `distance` slots from the next slot.
     ///
-    /// `None` if a number is out of its field's range, or if no line can have this form.
+    /// `None` if a number is out of its field's range, or if no line can have this form (`is_listed`), as a byte-order conversion of a `w`
+    /// register.
     pub fn insn(self, distance: i16) -> Option<Insn>
         ensures found { IfSome result (λ insn. written insn ≡ resolved distance self) }
         ensures fits { IfSome result (λ _. form_fits self ≡ true) }

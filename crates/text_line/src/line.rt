@@ -69,7 +69,8 @@ fn in_place(wide: bool, dst: Reg, found: Operation, tokens: &[Token<'_>]) -> Opt
 }
 
 /// An operation of one operand with the destination `dst`, from the tokens after `=`: a move with sign extension, a negation, or a
-/// byte-order conversion, which only an `r` register (`wide`) has. `None` if they are none of these.
+/// byte-order conversion, which only an `r` register (`wide`) has. A negation and a byte-order conversion have to name `dst` again, as in
+/// `r1 = -r1`. `None` if the tokens are none of these.
 #[tactic(auto, unfolding(crate::specs::inside::Reading::parsed_unary))]
 fn unary(wide: bool, dst: Reg, tokens: &[Token<'_>]) -> Option<Operation>
     ensures { result ≡ parsed_unary wide dst (shown_tokens tokens.now) }
@@ -89,7 +90,8 @@ fn unary(wide: bool, dst: Reg, tokens: &[Token<'_>]) -> Option<Operation>
 }
 
 /// An operation on `dst`, an `r` register if `wide`, else `w`, from the tokens after the symbol of its operator `op`. `None` if they are
-/// anything else. An operation of one operand (`unary`) is written with `=`, the symbol of a move (`Mov`).
+/// anything else. An operation of one operand (`unary`) is written with `=`, the symbol of a move (`Mov`). Only `unary` needs `dst`: a
+/// negation and a byte-order conversion name the destination again, as `r1 = -r1`.
 #[tactic(auto, unfolding(crate::specs::inside::Reading::parsed_operation))]
 fn operation(wide: bool, op: AluOp, dst: Reg, tokens: &[Token<'_>]) -> Option<Operation>
     ensures { result ≡ parsed_operation wide op dst (shown_tokens tokens.now) }

@@ -33,7 +33,8 @@ const SYMBOLS: [&str; 31] = [
     "&=", "%=", "^=", "==", ">=", "!=", "<=", "=", ">", "<", "&", "+", "-", "*", "(", ")", ":",
 ];
 
-/// The length of the longest symbol with which the text begins; 0 if it begins with none (no symbol is empty).
+/// The length of the longest symbol with which the text begins; 0 if it begins with none (no symbol is empty). `SYMBOLS` has the longer
+/// symbols first, so the first one with which the text begins is the longest.
 #[tactic(auto, unfolding(crate::specs::inside::Tokens::symbol_at))]
 fn symbol_len(text: &[u8]) -> usize
     ensures bound { result ≤ length text.now }

@@ -54,7 +54,8 @@ abbrev pub moved_offset : Direction → ℤ → ℤ → Option ℤ
 moved_offset Forwards x d = near_offset (x +ℤ d)
 moved_offset Backwards x d = near_offset (x -ℤ d)
 
--- the result if there is one; else OffsetTooLarge: the pointer would be too far from 0
+-- the result of a move of a pointer; OffsetTooLarge if it has none (None): the offset would be too
+-- far from 0, or the range of the number by which the pointer moves has numbers of both signs
 abbrev pub near : {A : Type 0} → Option A → Result A Reason
 near None = Err OffsetTooLarge
 near (Some x) = Ok x

@@ -56,7 +56,8 @@ output_facts shapes f r (kind.Value p) =
 output_facts shapes f r (kind.MaybeValue m site) = Err MaybeNull
 output_facts shapes f r k = Err HelperArgument
 
--- the range of an argument that has to be a number; HelperArgument if it is none
+-- the range of an argument that has to be a number, by the argument's kind; HelperArgument if this
+-- is not the kind of a number
 abbrev pub number_range : Kind → Result Range Reason
 number_range (kind.Scalar r) = Ok r
 number_range k = Err HelperArgument

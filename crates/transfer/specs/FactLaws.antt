@@ -16,7 +16,9 @@ kind_raised at n (kind.Scalar r) lt h = h
 kind_raised at n (kind.MaybeValue m site) lt h = omega arith
 kind_raised at n k lt h = tt
 
--- a stack slot that is well formed at a slot of the program is well formed at each later one
+-- a stack slot that is well formed at a slot of the program is well formed at each later one: of
+-- what this requires (`IsSlotAt`), only one bound depends on the slot of the program, that on the
+-- site of a look-up, and a higher slot makes the bound weaker
 slot_raised : (at n : ℕ) (s : Slot) → at < n → IsSlotAt at s → IsSlotAt n s
 slot_raised at n (Bytes mask) lt h = h
 slot_raised at n (Spill k) lt h = kind_raised at n k lt h

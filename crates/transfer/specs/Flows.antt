@@ -8,7 +8,9 @@ use Rattle.transfer.specs.declared.branches.Flow.TheVariants.{Ends, Falls, Write
 use Rattle.reg_kinds.specs.Stack.{ChangesAtMost}
 use Rattle.transfer.specs.Branches.{Edges, with_pair, settled_edges}
 
--- the edges that a flow means, with their facts: f are the facts as `apply` has changed them
+-- the edges that a flow means, with their facts: f are the facts as `apply` has changed them. A
+-- comparison has the ranges of its operands on each edge, None for an edge that can't be taken. A
+-- null test of the look-up at `site` jumps on null (`jumps_on_null` is true) or on not null (false)
 abbrev pub edges_of : Flow → Facts → Edges
 edges_of Ends f = record { falling = None; jumping = None }
 edges_of Falls f = record { falling = Some f; jumping = None }

@@ -29,7 +29,7 @@ IsSafetyReason NoDirectValue = ⊥
 IsSafetyReason Memory = ⊥
 IsSafetyReason reason = Unit {0}
 
--- the instruction names a helper that is unknown
+-- the instruction names a helper by a number that no helper has (`helper_of`)
 abbrev pub IsUnknownHelper : Reference → Type 0
 IsUnknownHelper names.Nothing = ⊥
 IsUnknownHelper (names.Helper id) = helper_of id ≡ None

@@ -163,7 +163,8 @@ fn of_scalars(wide: bool, op: Operator, a: Kind, b: Kind) -> Result<Kind, Reason
 }
 
 /// The kind of an operator's result on one operand, whose kind is `kind`, of 64 bits (`wide`) or 32. `PointerArithmetic` if the operand is
-/// no number. `of_scalars` gets the operand as the first and as the second.
+/// no number. `of_scalars` gets the operand as the first and as the second, since a sign extension reads the second one, any other
+/// operator of one operand the first.
 pub(crate) fn of_scalar(wide: bool, op: Operator, kind: Kind) -> Result<Kind, Reason>
     ensures { result ≡ of_scalar wide op kind }
 {

@@ -44,8 +44,9 @@ pub enum Flow {
     },
 }
 
-/// Sets the ranges of the operands of a comparison: the first of `pair` for `dst`, the second for `src`, if that is a register. A constant
-/// has no range in facts.
+/// Sets the kinds of the operands of a comparison to numbers: in the first range of `pair` for `dst`, in the second for `src`, if that is a
+/// register. A constant has no kind in facts. If a register is compared with itself, `compare_numbers` returns `Flow::Either`, which has no
+/// ranges.
 #[inline(always)]
 pub fn set_ranges(facts: &mut Facts, dst: Reg, src: &Operand, pair: (Range, Range))
     ensures { facts.new ≡ with_pair facts.old dst src.now pair }
@@ -85,7 +86,8 @@ fn compared(
 }
 
 /// The edges of a comparison of two numbers of 64 bits (`wide`) or 32, `dst` in the range `a` and `src` in the range `b`. On each edge both
-/// ranges are refined, but if a register is compared with itself, neither is.
+/// ranges are refined. If a register is compared with itself, no range changes, and both edges count as possible (`Either`), even if the
+/// condition never or always holds.
 #[inline(always)]
 fn compare_numbers(
     wide: bool,

@@ -76,8 +76,8 @@ pub(crate) fn check_room(
 }
 
 /// Checks that an argument of this kind points to `count` bytes that a helper may read. `named` has the maps by descriptor. The error is
-/// that of `check_read` for a pointer into the stack, `OutsideValue` for one into a value (`check_room`), `MaybeNull` for a look-up's result
-/// that may be null, and `HelperArgument` for anything else.
+/// that of `check_read` for a pointer into the stack, `OutsideValue` for one into a value (`check_room`), `MaybeNull` for the result of a
+/// look-up that may be null, and `HelperArgument` for anything else.
 fn input(named: &[Named], facts: &Facts, count: u32, kind: Kind) -> Result<(), Reason>
     ensures { result ≡ input_kind (shapes_named named.now) facts.now count kind }
 {

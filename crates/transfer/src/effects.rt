@@ -137,11 +137,12 @@ fn store_outside(value: Kind) -> Result<(), Reason>
     }
 }
 
-/// Updates the facts for a store of a value of the kind `value`, `offset` bytes from an address of the kind `base`; both may be read, as
-/// the caller has tested. `named` lists the objects of descriptors. Returns the one stack slot that it may change; `None` for a store into
-/// the value of a map, which changes no fact. After an error no fact has changed. In the stack it is that of `stack_offset` or
-/// `write_stack`, and in a value that of `check_room` (`OutsideValue`) or `store_outside` (`PointerStored`). It is `ContextAccess` in the
-/// context, `MaybeNull` for a look-up's result that may be null, and `NotPointer` for any other kind.
+/// Updates the facts for a store of a value of the kind `value`, `offset` bytes from an address of the kind `base`. The caller has tested
+/// that the address and the value may be read. `named` lists the objects of descriptors. Returns the one stack slot that the store may
+/// change; `None` for a store into the value of a map, which changes no fact. After an error no fact has changed. A store to the stack has
+/// the errors of `stack_offset` and `write_stack`, and a store into a value those of `check_room` (`OutsideValue`) and `store_outside`
+/// (`PointerStored`). Any other `base` is an error: `ContextAccess` for the context, `MaybeNull` for a look-up's result that may be null,
+/// else `NotPointer`.
 #[inline(always)]
 fn store(
     facts: &mut Facts,
@@ -160,7 +161,7 @@ fn store(
 {
     match base {
         Kind::Stack(from) => {
-            // No caller passes this kind, but the contract is about it too: for it, a write to the stack fails for this reason even if the
+            // No caller passes an unreadable value, but the contract covers one: its store to the stack fails for this reason, even if the
             // offset does not fit.
             if let Kind::Unreadable = value {
                 return Err(Reason::UnreadableRegister);
@@ -219,10 +220,12 @@ fn is_known_multiple(pointer: ValuePointer, offset: i16, size: AccessSize) -> bo
 
 /// Updates the facts for an atomic operation with an operand of the kind `value`, `offset` bytes from an address of the kind `base`; both
 /// may be read, as the caller has tested. `named` lists the objects of descriptors. Returns the stack slot that the operation may change;
-/// `None` in the value of a map, since no fact changes. After an error no fact has changed. In the stack and in a value the error is
-/// `PointerArithmetic` if the operand is no number. Otherwise, in the stack, it is that of `stack_offset` or `change_stack`; in a value it
-/// is that of `check_room` (`OutsideValue`), or `UnalignedAtomic` if the offset is not known or no multiple of the size. It is `ContextAccess`
-/// in the context, `MaybeNull` for a look-up's result that may be null, and `NotPointer` for any other kind.
+/// `None` in the value of a map, since no fact changes. After an error no fact has changed. The error is the first that applies. In the
+/// stack: the operand is no number (`PointerArithmetic`); the bytes are not in the stack (`OutsideStack`), or not aligned to the size
+/// (`UnalignedStack`); they are only some bytes of a spill, or a whole spill that is no number (`PartOfSpill`); one may be unwritten
+/// (`UnwrittenStack`). In a map's value: the operand is no number (`PointerArithmetic`); the bytes may be outside (`OutsideValue`); the
+/// offset is not known, or no multiple of the size (`UnalignedAtomic`). For other kinds of `base`: `ContextAccess` for the context,
+/// `MaybeNull` for a look-up's result that may be null, else `NotPointer`.
 fn change(
     facts: &mut Facts,
     named: &[Named],
@@ -317,7 +320,7 @@ fn written(slot: Option<usize>) -> Flow
 }
 
 /// The ranges of both operands, that of `dst` first; `None` unless both are numbers. A constant is sign-extended to 64 bits (`wide`) or
-/// taken modulo 2^32.
+/// taken modulo 2^32. The range of a register is that of all its 64 bits, also if `wide` is false.
 #[inline(always)]
 fn numbers(facts: &Facts, wide: bool, dst: Reg, src: &Operand) -> Option<(Range, Range)>
     ensures numbers { IfSome result (λ p. (kind_at facts.now dst ≡ Scalar p.0)
@@ -417,8 +420,9 @@ fn exit(facts: &Facts) -> Result<(), Reason>
     }
 }
 
-/// Applies the transfer function of the instruction at `slot` to the facts before it, and returns the edges out of it (see `Flow`).
-/// `named` lists the objects that descriptors name. What holds only on one edge of a conditional jump is only in the `Flow`.
+/// Applies the transfer function of the instruction at `slot`: `facts`, those before the instruction, become those that hold on each edge
+/// out of the instruction. Returns these edges, with what holds on only one of them (`Flow`). In `facts` no stack slot changes but the one
+/// of `WritesSlot`; after `Writes` any may have changed (`stack`). `named` lists the objects that descriptors name.
 ///
 /// # Errors
 ///

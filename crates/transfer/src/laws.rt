@@ -39,9 +39,9 @@ pub fn transfer_keeps_well_formed()
     interval::laws::results_are_words();
 }
 
-/// A law: an instruction is rejected by `UnknownHelper` only if it calls an unknown helper, by `DescriptorNotMap` only if it names a map by
-/// a descriptor that has no shape, by `NoDirectValue` only if its map does not have the direct value, and never by another reason of a
-/// program's shape, or by `Memory`.
+/// A law: an instruction is rejected for `UnknownHelper` only if it calls an unknown helper, for `DescriptorNotMap` only if its descriptor
+/// names no map (has no shape), and for `NoDirectValue` only if it loads the address of a direct value and the map has none at the offset.
+/// It is never rejected for another reason of a program's shape, nor for `Memory`.
 pub fn transfer_reasons()
     ensures { TransferReasons }
 {}
@@ -55,7 +55,8 @@ pub fn effects_need_no_memory()
     transfer_reasons();
 }
 
-/// A law, soundness of calls: if facts admit a state and allow a call, it is no fault, and the facts after it admit the state after it.
+/// A law, soundness of calls: if facts have only sites below the slot of a state, describe this state (`Describes`) and allow a call of a
+/// helper, the call is no fault, and the facts after the call describe the state after the call.
 pub fn calls_are_sound()
     ensures { CallsAreSound }
 {

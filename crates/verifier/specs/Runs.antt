@@ -21,8 +21,10 @@ executed_by i (goes t) rest = i ∷ rest t
 executed_by i (ends n) rest = i ∷ []
 executed_by i faults rest = []
 
--- what a run executes from state s, by the step of the instruction at its slot (`executed_by`);
--- nothing if no instruction begins there (None); `rest` is what is executed from the next state on
+-- the instructions that a run executes from state s on. The first argument is the instruction i
+-- that begins at the slot of s: its step determines what is executed (`executed_by`). It is None if
+-- no instruction begins there, and then none is executed. `rest` has, for a state, what is executed
+-- from this state on
 abbrev pub executed_at : Option Insn → RunState → (RunState → List Insn) → List Insn
 executed_at None s rest = []
 executed_at (Some i) s rest = executed_by i (act i s) rest

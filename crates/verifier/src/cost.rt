@@ -75,8 +75,8 @@ impl Counts {
     }
 }
 
-/// Joins the counts of the paths that end with a jump to the slot `target` into those that `jumping` has of this slot: of each count the
-/// greater one is kept. `None` is for a jump to below slot 0, which was rejected before; nothing is done then.
+/// `jumping` has, by slot, the counts on the paths that end with a jump there. Joins `counts`, those on such paths to the slot `target`,
+/// into these: of each count the greater one is kept. `None`, a target below slot 0, changes nothing: its jump was rejected before.
 #[inline(always)]
 fn join_at_target(jumping: &mut [Counts], target: Option<usize>, counts: Counts)
     requires { IfSome target (λ to. to < length jumping.old) }
@@ -102,7 +102,8 @@ pub(crate) struct Paths {
 }
 
 impl Paths {
-    /// The paths before slot 0: no instruction and no call.
+    /// The paths when the pass is at slot 0: the one to slot 0 has no instruction and no call (`here`), and no path to an exit has been
+    /// found (`ended`).
     pub(crate) fn new() -> Paths
         ensures here { result.here ≡ no_counts }
         ensures ended { result.ended ≡ no_counts }
@@ -136,8 +137,8 @@ impl Paths {
         self.have_instructions() || slot == 0
     }
 
-    /// Whether a path of at least one instruction, the one at the slot not counted, leads to the slot at which the pass is; before `join`,
-    /// whether one does by the falling edge. The path to slot 0 has none.
+    /// Whether a path with at least one instruction leads to the slot at which the pass is; the instruction at that slot is not counted.
+    /// Before `join`, only the paths along the falling edge are known. `false` at slot 0: the only path there has no instruction.
     #[inline(always)]
     pub(crate) fn have_instructions(&self) -> bool
         ensures { result ≡ nat_lt 0 self.now.here.instructions }
@@ -145,8 +146,8 @@ impl Paths {
         self.here.instructions > 0
     }
 
-    /// Adds a simple instruction to the paths: one that is no call, and whose only successor is the next one. The paths have at most
-    /// `MAX_SLOTS` instructions, so the count does not overflow.
+    /// Adds a simple instruction, one that is no call and whose only successor is the next one, to the paths that lead to it (`here`); the
+    /// paths to the exits (`ended`) stay. The paths have at most `MAX_SLOTS` instructions, so the count does not overflow.
     #[inline(always)]
     pub(crate) fn add_simple(&mut self)
         requires { self.old.here.instructions ≤ MAX_SLOTS }
@@ -160,7 +161,8 @@ impl Paths {
     /// Adds the instruction at `slot`, whose properties are `row`, to the paths that lead there. If it may jump, the new counts are joined
     /// into those of its target in `jumping`; if it is an exit, into those of the paths to the exits (`ended`). Then `here` has the counts
     /// along the falling edge: the new ones, or none if it has no such edge. The target is a slot of the program, as the instruction has no
-    /// fault. Only the contract needs `insn`.
+    /// fault. By `few` the paths to `slot` have at most `MAX_SLOTS` instructions and at most as many calls, so no count overflows. Only the
+    /// contract needs `insn`.
     #[inline(always)]
     pub(crate) fn add(&mut self, jumping: &mut [Counts], insn: &Insn, row: &Profile, slot: usize)
         requires room { slot ≤ MAX_SLOTS }

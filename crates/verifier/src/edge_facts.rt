@@ -27,8 +27,8 @@ impl Model for EdgeFacts {
 }
 
 impl EdgeFacts {
-    /// Joins the facts on another edge into these, or copies them if there are none here. Each group of eight stack slots that a join
-    /// changes gets `fresh`, a new number for its contents.
+    /// Joins the facts on another edge into these, or copies them, with their numbers, if there are none here. Each group of eight stack
+    /// slots that the join changes gets the new number `fresh`: groups of one index and one number have equal facts (`NumberedFacts`).
     pub(crate) fn join(&mut self, edge: &NumberedFacts, fresh: usize)
         ensures { IsJoinedBy fresh self.old edge.now self.new }
     {

@@ -18,7 +18,8 @@ pub fn one_refusal()
         → IsRefused code named m a → IsRefused code named n b → (m ≡ n) × (a ≡ b) }
 {}
 
-/// A law: an accepted program is not rejected. So slots have at most one judgement (`one_judgement`).
+/// A law: if descriptors name the objects of `named`, an accepted program is not rejected, at any slot for any reason. It is used for
+/// `one_judgement`: slots have at most one judgement, an accepted program or a refusal.
 pub fn accepted_is_not_refused()
     ensures { (code : List Insn) (named : List Named) (slot : ℕ) (reason : Reason)
         → IsAccepted code named → ¬ IsRefused code named slot reason }
@@ -50,14 +51,14 @@ pub fn safety_follows_shape()
     transfer::laws::transfer_reasons();
 }
 
-/// A law: each descriptor by which an accepted program loads a map, or a value of one, names a map. So it has a shape in both lists: that
-/// of all open descriptors, and that which is kept with the program.
+/// A law: each descriptor by which an accepted program loads a map, or a value of one, names a map. So each such descriptor has a shape
+/// both among all open descriptors and among those that are kept with the program.
 pub fn loaded_maps_have_shapes()
     ensures { LoadedMapsHaveShapes }
 {}
 
-/// A law: the list of a program's maps (`maps_of`) has each descriptor by which an instruction loads a map, or a value of one. It has each
-/// once, and in `shapes_of` only these descriptors have a shape.
+/// A law: the list of a program's maps (`maps_of`) has each descriptor by which an instruction loads a map, or a value of one, and has no
+/// descriptor twice. `shapes_of`, the shapes of maps by descriptor, gives none to a descriptor that is not in the list.
 pub fn maps_are_listed()
     ensures { MapsAreListed }
 {}
@@ -76,8 +77,8 @@ pub fn step_is_sound()
     transfer::laws::transfer_keeps_well_formed();
 }
 
-/// A law: if the facts before a slot of an accepted program admit a state at it, the step is no fault, and the facts before the next slot
-/// admit the state after it, unless the run ends. So the law can be applied to step after step.
+/// A law: if a state of an accepted program is admitted by the facts before its slot, the step from this state is no fault. Unless the run
+/// ends, the next state is at a later slot, and the facts before that slot admit it. So the law can be applied to step after step.
 pub fn steps_go_on()
     ensures { StepsGoOn }
 {

@@ -22,7 +22,8 @@ pub(crate) struct NumberedFacts {
 }
 
 impl NumberedFacts {
-    /// The facts at program entry. All groups of stack slots have number 1, which is given only here. Nothing has been joined into them.
+    /// The facts at program entry. All groups of stack slots have number 1. No later change of a group gives this number, so groups of one
+    /// index that have it are equal. `includes` is 0 for each group: no group has been joined into it.
     pub(crate) fn at_entry() -> NumberedFacts
         ensures { result ≡ at_entry }
     {
@@ -33,8 +34,8 @@ impl NumberedFacts {
         }
     }
 
-    /// Gives all groups of eight stack slots the new number `fresh`, since any may have changed, and records that since then no group has
-    /// been joined into them (`includes`).
+    /// Gives all groups of eight stack slots the new number `fresh`, since any may have changed. Then no group counts as joined into any of
+    /// them (`includes` is 0, which is no group's number).
     pub(crate) fn renumber(&mut self, fresh: usize)
         ensures { self.new ≡ renumbered self.old fresh }
     {
@@ -42,8 +43,8 @@ impl NumberedFacts {
         self.includes = [0; STACK_GROUPS];
     }
 
-    /// Gives the group of eight that has stack slot `slot` the new number `fresh`, since the slot may have changed. Then no group counts as
-    /// joined into this one (`includes` is 0).
+    /// Gives the group of eight that has stack slot `slot` the new number `fresh`, since the slot may have changed, and records that since
+    /// then no group has been joined into this group (its `includes` is 0).
     #[inline(always)]
     fn renumber_group(&mut self, slot: usize, fresh: usize)
         requires { slot < stack_slots }
@@ -54,9 +55,10 @@ impl NumberedFacts {
         self.includes[group] = 0;
     }
 
-    /// Gives the new number `fresh` to each group of eight stack slots into which an instruction with this flow may have written: the group
-    /// with the slot that the flow names, which is one of the stack's, as `apply` promises, or all groups for `Writes`. Other flows change
-    /// nothing; a null test changes the stack only on its edges (`leave_null_test`).
+    /// Gives the new number `fresh` to each group of eight stack slots into which an instruction with this flow may have written, since
+    /// groups with one index and one number have to be equal in all facts of a pass. These are the group with the slot that the flow names,
+    /// which is one of the stack's, as `apply` promises, or all groups for `Writes`. Other flows change nothing; a null test changes the
+    /// stack only on its edges (`leave_null_test`).
     #[inline(always)]
     pub(crate) fn note(&mut self, flow: &Flow, fresh: usize)
         requires { IsInStack flow.now }
@@ -74,9 +76,10 @@ impl NumberedFacts {
         }
     }
 
-    /// Joins the group of eight stack slots of index `group` in `edge` into that of these facts. `includes` then has the number that the
-    /// group has in `edge`. If the join changes the group of these facts, this gets the new number `fresh`. Not inlined, unlike
-    /// `join_stack_group`, which leaves out joins that would change nothing.
+    /// Joins the group of eight stack slots of index `group` in `edge` into the group of this index in `self`. If the join changes the
+    /// group in `self`, that group gets the new number `fresh`. `includes` then has the number that the group has in `edge`, by which a
+    /// second join with that group is recognized. Not inlined, unlike its caller `join_stack_group`, which leaves out joins that would
+    /// change nothing.
     #[inline(never)]
     fn join_other_group(&mut self, edge: &NumberedFacts, fresh: usize, group: usize)
         requires { group < stack_groups }
@@ -101,7 +104,8 @@ impl NumberedFacts {
         }
     }
 
-    /// Joins the facts on another edge into these. Each group of eight stack slots that this changes gets the new number `fresh`.
+    /// Joins `edge`, the facts on another edge to the same instruction, into these. Each group of eight stack slots that the join changes
+    /// gets the new number `fresh`, since groups with one index and one number are the same in all facts of a pass.
     pub(crate) fn join(&mut self, edge: &NumberedFacts, fresh: usize)
         ensures { IsJoin fresh self.old edge.now self.new }
     {
@@ -109,6 +113,7 @@ impl NumberedFacts {
         for group in 0..STACK_GROUPS {
             self.join_stack_group(edge, fresh, group);
         }
+        // For the proof: a law, which does nothing.
         facts_have_all_slots(&self.facts);
     }
 }

@@ -42,11 +42,11 @@ pub(crate) struct Pass {
     taken: NumberedFacts,
 }
 
-/// Joins the facts on the jumping edge of a comparison of `dst` with `src` into those that `entries` has for `target`, a slot of the
-/// program, since the program's shape has no fault; if `target` is `None`, nothing is joined. `jumps` has the operands' ranges on this
-/// edge; if `jumps` is `None`, the edge can't be taken, and nothing is done. `hand` has the facts before the jump. Only the operands'
-/// ranges in it change, to `jumps`; the caller then sets those of the falling edge. Each group of eight stack slots at the target that the
-/// join changes gets the new number `fresh`. The error is out of memory.
+/// Joins the facts on the jumping edge of a comparison of `dst` with `src` into those that `entries` has for `target`. This is a slot of
+/// the program, since the program's shape has no fault; for `None`, a jump to below slot 0, nothing is joined. `jumps` has the
+/// operands' ranges on this edge; if `jumps` is `None`, the edge can't be taken, and nothing is done. `hand` has the facts before the jump.
+/// Only the operands' ranges in `hand` change, to `jumps`; the caller then sets those of the falling edge. Each group of eight stack slots
+/// at the target that the join changes gets the new number `fresh`. The error is out of memory.
 #[inline(always)]
 fn send_compared(
     hand: &mut NumberedFacts,
@@ -191,9 +191,10 @@ fn leave_by(
 }
 
 /// Passes the facts after the instruction at `slot`, which are in `hand`, along the edges of its `flow`: those on the jumping edge are
-/// joined into those that `entries` has for the jump's target, those on the falling edge are then in `hand`. `taken` is space for a null
-/// test. Returns whether the falling edge can be taken. The target is computed only for a flow that may jump; it is a slot of the program,
-/// as its shape has no fault. The error is out of memory.
+/// joined into those that `entries` has for the jump's target, those on the falling edge are then in `hand`. Returns whether the falling
+/// edge can be taken; if not, `hand` means nothing afterwards. `taken` is space for the facts on the jumping edge of a null test. The
+/// target is not computed for a flow that has only the falling edge; it is a slot of the program, as its shape has no fault. The error is
+/// out of memory.
 #[inline(always)]
 fn leave(
     hand: &mut NumberedFacts,
@@ -225,10 +226,11 @@ fn leave(
     }
 }
 
-/// Changes `hand` from the facts before the instruction at `slot`, which the watcher receives, to those on the falling edge, and returns
-/// whether this edge can be taken; if not, `hand` means nothing then. The facts on the jumping edge are joined into those that `entries`
-/// has for the jump's target, a slot of the program, as the program's shape has no fault. The error is why the instruction may not be run
-/// with these facts, or out of memory. `named` has the program's maps, and `taken` is space for a null test.
+/// Passes the facts before the instruction at `slot`, which are in `hand`, to the watcher, and then changes `hand` to the facts on the
+/// falling edge. Returns whether this edge can be taken; if not, `hand` means nothing then. If the instruction may jump, the facts on
+/// the jumping edge are joined into those that `entries` has for the jump's target. The target is a slot of the program (`lands`), since
+/// the program's shape has no fault. The error is why the instruction may not be run with the facts before it, or out of memory. `named`
+/// has the program's maps, and `taken` is space for a null test.
 #[inline(always)]
 fn run_past<W: Watcher>(
     hand: &mut NumberedFacts,
@@ -274,8 +276,8 @@ impl Pass {
         }
     }
 
-    /// Begins a pass: the facts are those at program entry, and no jump has facts. `judge` has called `end` after the last pass, but no
-    /// contract says so; so `begin` calls it again.
+    /// Begins a pass: the facts are those at program entry, and no jump has facts. `end` removes the facts on jumps. `judge` has called
+    /// `end` after the last pass, but no contract says so; so `begin` calls it again.
     fn begin(&mut self)
         ensures falling { self.new.falling ≡ Some at_entry }
         ensures entries { self.new.entries ≡ [] }
@@ -285,18 +287,18 @@ impl Pass {
         self.falling.is_known = true;
     }
 
-    /// Removes the facts on jumps that a rejected program has left. Their memory is kept.
+    /// Ends a pass: removes the facts on jumps that a rejected program leaves in `entries`. Their memory is kept for later passes.
     pub(crate) fn end(&mut self)
         ensures { self.new.entries ≡ [] }
     {
         self.entries.clear();
     }
 
-    /// Passes the facts before the instruction at `slot`, which are in `falling`, to the watcher. Then `falling` has those on the falling
-    /// edge, or none if this edge can't be taken. If the instruction may jump, the facts on its jumping edge are joined into those that
-    /// `entries` has for the target, which is a slot of the program, as the shape has no fault. If `falling` has no facts before, no run
-    /// reaches the instruction, and nothing is done. The error is why the instruction may not be run with these facts, or out of memory.
-    /// `named` has the program's maps.
+    /// Passes the facts before the instruction at `slot` to the watcher; they are in `falling` at the call. Afterwards `falling` has those
+    /// on the falling edge, or none if this edge can't be taken. If the instruction may jump, the facts on its jumping edge are joined into
+    /// those that `entries` has for the target, which is a slot of the program, as the shape has no fault. If `falling` has no facts at the
+    /// call, no run reaches the instruction, and nothing is done. The error is why the instruction may not be run with these facts, or out
+    /// of memory. `named` has the program's maps.
     #[inline(always)]
     fn go_past<W: Watcher>(
         &mut self,
@@ -332,11 +334,11 @@ impl Pass {
         Ok(())
     }
 
-    /// Joins the facts on all edges to `slot` into `falling`, and calls `go_past` for `insn`, the instruction there: this function passes
-    /// the facts to the watcher, changes them to those on the falling edge, and joins the facts on the jumping edge into those that
-    /// `entries` has for the jump's target, a slot of the program. The error is why the instruction may not be run with the joined facts,
-    /// or out of memory. `named` has the program's maps. The proof needs `absorb` and `numbered`: by them, a join of `NumberedFacts` leaves
-    /// out only joins of stack slots that would change nothing.
+    /// Joins the facts on jumps to `slot` into `falling`, which has those on the falling edge to it, and calls `go_past` for `insn`, the
+    /// instruction there. `go_past` passes the joined facts to the watcher, changes them to those on the falling edge out of `insn`, and
+    /// joins those on its jumping edge into the ones that `entries` has for the jump's target, a slot of the program. The error is why the
+    /// instruction may not be run with the joined facts, or out of memory. `named` has the program's maps. The proof needs `absorb` and
+    /// `numbered`: by them, a join of `NumberedFacts` leaves out only joins of stack slots that would change nothing.
     fn step<W: Watcher>(
         &mut self,
         named: &[Named],

@@ -181,9 +181,10 @@ fn pass_checked(
     }
 }
 
-/// Adds the instruction at `slot`, with the properties `row`, to `paths`, those that lead there, or returns its first fault of shape. A
-/// simple instruction (`is_simple`) has no such fault, and is not checked. `jumping` has, by slot, the most instructions and calls on the
-/// paths that end with a jump to this slot; an instruction that may jump is counted in those of its target.
+/// Adds the instruction at `slot`, with the properties `row`, to `paths`, the counts on the paths that lead to this slot, or returns its
+/// first fault of shape. A simple instruction (`is_simple`) has no such fault, and is not checked. `jumping` has, by slot, the most
+/// instructions and calls on the paths that end with a jump to this slot. If the instruction may jump, the counts with it are joined into
+/// those of its target in `jumping`.
 #[inline(always)]
 fn pass(
     program: &Program,

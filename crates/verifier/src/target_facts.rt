@@ -148,8 +148,9 @@ impl TargetFacts {
         append_empty(&mut self.facts, slot + 1)
     }
 
-    /// Joins the facts on a jump to `target`, a slot of a program, into those on the jumps there so far. Nothing is done without a target
-    /// (`None`). Each group of eight stack slots that a join changes gets the new number `fresh`. The error is out of memory.
+    /// Joins `facts`, those on a jump to `target`, a slot of a program, into the facts on the earlier jumps to this slot, or copies them if
+    /// there are none. Nothing is done without a target (`None`). Each group of eight stack slots that a join changes gets the new number
+    /// `fresh`, since equal numbers mean equal groups (`NumberedFacts`). The error is out of memory.
     pub(crate) fn send(
         &mut self,
         target: Option<usize>,
@@ -165,8 +166,9 @@ impl TargetFacts {
         Ok(())
     }
 
-    /// Joins the facts on a jump to `slot`, a slot of a program, into those on the jumps there so far. Each group of eight stack slots that
-    /// a join changes gets the new number `fresh`. The error is out of memory.
+    /// Joins the facts on a jump to `slot`, a slot of a program, into those on the jumps there so far; the first jump's are copied. Each
+    /// group of eight stack slots that a join changes gets the new number `fresh`: groups with one index and one number are the same in all
+    /// facts (`NumberedFacts`). The error is out of memory.
     pub(crate) fn put(
         &mut self,
         slot: usize,

@@ -48,7 +48,7 @@ impl Model for Verified {
 }
 
 impl Verified {
-    /// The program that was verified.
+    /// The program that was verified. By `verified` it was accepted, with the objects that its descriptors named then.
     pub fn program(&self) -> &Program
         ensures value { result.now ≡ self.now.code }
         ensures verified { IsVerified self.now }
@@ -63,8 +63,8 @@ impl Verified {
         &self.found.maps
     }
 
-    /// What the program costs: the most instructions and the most calls of helpers on a path from slot 0 to an exit. No run
-    /// executes more.
+    /// What the program costs: the most instructions and the most calls of helpers on a path from slot 0 to an exit. No run on maps of the
+    /// shapes with which the program was accepted executes more.
     pub fn cost(&self) -> Cost
         ensures most { IsCostOf result self.now.code }
         ensures runs { RunsCostAtMost result (shapes_in self.now) self.now.code }
@@ -144,9 +144,9 @@ pub fn verify_slots(
         Judges named.now slots.now (Err refusal))) }
     ensures entries { IfOk result (λ verdict. IfOk verdict (λ program.
         program.entries ≡ entries_of (maps_of program.code) named.now)) }
-    // Memory is requested only if a program may have so many slots.
+    // Memory is refused only if a program may have this number of bytes (`length_fault`).
     ensures memory { IfErr result (λ _. length_fault (length slots.now) ≡ None) }
-    // The slot of a refusal is one of the slots', or the one after them.
+    // The slot that a refusal names is one of `slots`, or the number after the last one.
     ensures slot { IfOk result (λ verdict. IfErr verdict (λ refusal.
         8 * refusal.slot ≤ length slots.now)) }
 {

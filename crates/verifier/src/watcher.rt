@@ -29,6 +29,7 @@ pub trait Watcher {
 pub(crate) struct Unwatched;
 
 impl Watcher for Unwatched {
+    /// Ignores the facts, and never fails.
     #[inline(always)]
     fn before(&mut self, _slot: usize, _facts: &Facts) -> Result<(), AllocError> {
         Ok(())

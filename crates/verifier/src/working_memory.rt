@@ -34,7 +34,8 @@ impl WorkingMemory {
         self.alloc
     }
 
-    /// The memory for the facts of a pass. `AllocError`: out of memory for it.
+    /// The memory for the facts of a pass. The first call allocates it, and later calls return the same memory. Facts in it mean nothing
+    /// until the pass begins. `AllocError`: out of memory for it.
     pub(crate) fn pass(&mut self) -> Result<&mut Pass, AllocError> {
         if self.pass.is_none() {
             self.pass = Some(Box::new(self.alloc, Pass::new(self.alloc))?);

@@ -18,7 +18,8 @@ fn run(rt: &HostRuntime) -> io::Result<u8> {
     Ok(run_log_words(alloc, &arguments, rt.stdin(), rt.stdout(), rt.stderr()))
 }
 
-/// Ends the program with the exit status of `run`, or with that of arguments that could not be read.
+/// Ends the program with the exit status of `run`. If the arguments could not be read (`Err`), the program writes a line about that to
+/// standard error, and the exit status is 4 if out of memory, else 2.
 fn main(rt: HostRuntime) -> ExitCode {
     let status = match run(&rt) {
         Ok(status) => status,

@@ -40,7 +40,7 @@ fn sizes_of_accesses() {
     prove!(!is_double);
 }
 
-/// A move of 32 bits can extend the sign from 16 bits, and not from 32.
+/// A move of 32 bits can extend the sign from fewer than 32 bits (`is_short`): from 16, and not from 32.
 fn sign_extensions_of_32_bits() {
     let from_half = ExtendedBits::Bits16.is_short();
     prove!(from_half);

@@ -88,7 +88,8 @@ impl KeptBits {
     ghost use Rattle.std.specs.Prelude.{◌≡◌};
     ghost use Rattle.words.specs.Operate.{kept_bits};
 
-    /// The number of bits: 16, 32 or 64. It has the type of the immediate field, in which a slot has it.
+    /// The number of low bits that a byte-order conversion keeps: 16, 32 or 64. A slot has this number in its immediate field, so the
+    /// result has the type of this field.
     pub fn count(self) -> u32
         ensures { result ≡ kept_bits self }
     {

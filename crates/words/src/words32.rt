@@ -149,7 +149,7 @@ pub fn signed_shift_right(a: u64, b: u64) -> u64
     u64::from((low_word(a).cast_signed() >> (low_word(b) % 32)).cast_unsigned())
 }
 
-/// The low half of `b`, the result of a move: it does not read the first operand.
+/// The low half of `b`, the second operand: the result of a 32-bit move, which does not read the first operand.
 #[inline(always)]
 pub fn move_low(b: u64) -> u64
     ensures { result ≡ low 32 b }

@@ -55,7 +55,8 @@ flat_look_up site map key = option_map (key_word site) (key_named site map key)
 
 -- ---- an update
 
--- what an update returns for a claim: 0, or the number of the fault's error, negated
+-- what an update returns, by the result of its claim of an element: 0 if an element was claimed,
+-- else the number of the fault's error, negated modulo 2 ^ 64
 abbrev pub claim_word : Result ℕ MapFault → ℕ
 claim_word (Ok element) = 0
 claim_word (Err fault) = negative (errno fault)

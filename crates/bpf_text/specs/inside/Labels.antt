@@ -48,7 +48,9 @@ abbrev pub kept_line : Option Definition → ℕ → ℕ
 kept_line None line = line
 kept_line (Some definition) line = definition.line
 
--- the slot of the definition that is kept; 0 if none is
+-- the number of slots before the line that defines a label, by the definition that is kept for the
+-- label. 0 if none is kept (None): no jump uses this slot, since a jump to a label without a
+-- definition is a fault
 abbrev pub kept_slot : Option Definition → ℕ
 kept_slot None = 0
 kept_slot (Some definition) = definition.slot

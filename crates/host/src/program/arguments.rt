@@ -118,7 +118,8 @@ fn task_named<'m, 'a>(name: &str, options: &'m ArgMatches<'a>) -> Option<Task<'m
     }
 }
 
-/// The task of the chosen subcommand; `None` if its options are wrong, or if none is chosen, which clap rejects before.
+/// The task of the chosen subcommand. That of `serve` has a number of tenants from 1 to `MOST_TENANTS` (`tenants`). `None` if the
+/// subcommand's options are wrong, or if no subcommand is chosen, which clap rejects before.
 fn chosen_task<'m, 'a>(matches: &'m ArgMatches<'a>) -> Option<Task<'m, 'a>>
     ensures tenants { IfSome result HasTenants }
     ensures asked { option_map asked_by result ≡ asked_of (subcommand_rows_of matches.now) }
@@ -179,8 +180,9 @@ fn maps_given(alloc: Global, arguments: Option<&[&str]>) -> Result<Vec<Named>, F
     }
 }
 
-/// Reads the map arguments (`None`: no argument) and the input, and writes the verdict on its program. Returns the exit status: 0 if
-/// the program is accepted, else 1. It fails like `maps_given` or `judge`. It consumes the streams, so only the contract of `judge` says
+/// Reads the map arguments (`None`: no argument) and the input, and writes the verdict on the input's program. Returns the exit status: 0
+/// if the program is accepted with these maps, else 1. It fails like `maps_given` or `judge`. A failure has status 2 only if a map argument
+/// is wrong; for a wrong one the failure is of status 2 or out of memory. It consumes the streams, so only the contract of `judge` says
 /// what is read and written, and how `judge` fails.
 fn judge_streams<I: Read + Drop, O: Write + Drop>(
     alloc: Global,
@@ -203,8 +205,10 @@ fn judge_streams<I: Read + Drop, O: Write + Drop>(
     Ok(verdict_status(refusal))
 }
 
-/// Runs the subcommand that the arguments name, and returns the exit status: 1 if `verify` rejects a program, else 0. Every other end is
-/// a `Failure`. The arguments are those after the name of the program. Only `serve` needs `seed`: it fails with `Seed` if that is `None`.
+/// Runs the subcommand that the arguments name, and returns the exit status: 1 if `verify` rejects a program, else 0. Every other end is a
+/// `Failure`; its exit status is 2 only if the arguments name no task or a map argument is wrong (`wrong`). Such arguments give a failure
+/// of this status, or `Memory` (`refused`). The arguments are those after the name of the program. Only `serve` needs `seed`: it fails with
+/// `Seed` if that is `None`.
 fn run<I: Read + Drop, O: Write + Drop>(
     alloc: Global,
     seed: Option<HashSeed>,
@@ -237,7 +241,8 @@ fn run<I: Read + Drop, O: Write + Drop>(
 /// Runs the program on its arguments, those after its name, and returns its exit status: 1 if the input or its program is
 /// rejected, 2 if arguments are wrong, 3 if input or output failed, or if there is no seed for the maps of `serve`, 4 if out of
 /// memory, else 0. A fault is one line on `faults`; if that line can't be written, the status is still the fault's. `seed` is
-/// `None` if none could be drawn; only `serve` needs it.
+/// `None` if none could be drawn; only `serve` needs it. With status 0 for `verify` the input has a program that is accepted with
+/// the maps of the arguments, if contracts know the bytes of the input (`accepted`).
 pub fn run_words<I: Read + Drop, O: Write + Drop, F: Write + Drop>(
     alloc: Global,
     seed: Option<HashSeed>,

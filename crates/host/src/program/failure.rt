@@ -97,7 +97,7 @@ impl<T: Drop> From<AllocFailed<T>> for Failure {
 
     ghost from_gives = { λ _ failure. failure ≡ Memory };
 
-    /// Out of memory; what the error holds is dropped.
+    /// Memory was refused, and the error gives a value back. The failure is `Memory`; the value is dropped.
     fn from(_error: AllocFailed<T>) -> Failure {
         Failure::Memory
     }
@@ -109,11 +109,11 @@ impl From<clap::Error> for Failure {
 
     ghost from_gives = { λ error failure. failure ≡ arguments_failure (kind_of error) };
 
-    /// Out of memory, or wrong arguments.
+    /// The failure for an error of clap: `Memory` if out of memory, else `WrongArguments`.
     fn from(error: clap::Error) -> Failure {
         match error.kind() {
             ErrorKind::OutOfMemory => Failure::Memory,
-            // Help and version too: there are no such options.
+            // Clap reports a request for help or the version as an error, too. It is wrong here: `bpfhost` has no such options.
             _ => Failure::WrongArguments,
         }
     }

@@ -26,7 +26,8 @@ pub fn whole_input<I: Read + Drop>(alloc: Global, input: I) -> Result<Vec<u8>, F
     read_input(alloc, &mut reader)
 }
 
-/// The maps that map arguments name, as `verify` reads them.
+/// The maps that map arguments name, in order. A map argument is `FD:KIND:KEY:VALUE:MAX`, as on the command line of `verify`
+/// (`read_shape`).
 ///
 /// # Errors
 ///

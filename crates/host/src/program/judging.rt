@@ -60,9 +60,10 @@ pub(crate) fn verdict_status(refusal: Option<Refusal>) -> u8
     }
 }
 
-/// Reads the input, verifies the slots on its hex lines, if these maps are open, and writes a line with the verdict. Returns why the slots
-/// are rejected; `None` if their program is accepted. It fails like `read_input` or `refusal_of_input`, or with `Memory` if out of memory
-/// for the line; then nothing is written. It fails with `Write` if a call of the writer failed; then a front of the line may be written.
+/// Reads the input, verifies the slots on its hex lines, and writes a line with the verdict. `maps` are the descriptors that count as open,
+/// with their maps. Returns why the slots are rejected; `None` if their program is accepted. Fails with `TooLong` or `Read` as `read_input`
+/// does, with `Line` as `refusal_of_input` does, and with `Memory` if out of memory; then nothing is written. Fails with `Write` if a call
+/// of the writer failed; then a front of the line may be written.
 pub(crate) fn judge<S: Source, O: Sink>(
     alloc: Global,
     maps: &[Named],

@@ -82,7 +82,8 @@ fn descriptor(field: &str) -> Option<u32>
     }
 }
 
-/// The map that an argument names, as `read_shape` says; `None` if it names no map.
+/// The map that an argument names: a descriptor from 3 to 66, `array` or `hash`, the sizes of a key and of a value in bytes, and
+/// `max_entries`, with colons between the five. `None` for any other argument, or if no map may have this shape (`MapShape::new`).
 fn map_of(argument: &str) -> Option<Named>
     ensures { (map : AnyNamed) → (result ≡ Some map) ↔ IsMapArgument argument.now map }
 {

@@ -89,8 +89,8 @@ pub(crate) fn program_on(alloc: Global, input: &[u8]) -> Result<Program, Failure
     Ok(program)
 }
 
-/// The text of the program whose hex lines are the input. Fails like `program_on`: `Line` or `Slot` for an input without a program,
-/// `Memory` if out of memory.
+/// The text of the program whose hex lines are the input. `Line` if the input is not UTF-8, a line has a fault or no line has a slot;
+/// `Slot` if the slots are no program; `Memory` if out of memory.
 fn disassembled(alloc: Global, input: &[u8]) -> Result<String, Failure>
     ensures made { IfOk result (λ text. IsDisassembly input.now (string_bytes text)) }
     ensures only { (output : List ℕ) → IsDisassembly input.now output

@@ -50,8 +50,8 @@ struct Access {
     access_kind: AccessKind,
 }
 
-/// The access to `size` bytes, `off` bytes from the address in `base`. `given` is the number of the register whose value it stores or
-/// computes with; `None` for a load, and for a store of a constant.
+/// The access to `size` bytes, `off` bytes from the address in `base`. `given` is the number of the register whose value the instruction
+/// stores or computes with; `None` for a load, and for a store of a constant. `access_kind` is what the instruction does with the bytes.
 fn access_at(
     base: Reg,
     off: i16,
@@ -77,7 +77,8 @@ fn load_deed(is_signed: bool) -> AccessKind {
     }
 }
 
-/// The access of an instruction; `None` if it accesses no memory.
+/// The memory access of a load, a store or an atomic operation; `None` for any other instruction, calls included. The fourth argument of
+/// `access_at` is the number of the source register; `None` for a load, and for a store of a constant.
 fn access_of(insn: &Insn) -> Option<Access> {
     match *insn {
         Insn::Load(ref load) => Some(access_at(
@@ -160,8 +161,8 @@ fn unwritten(facts: &Facts, first: i64, last: i64) -> (i64, i64) {
     (lowest.unwrap_or(first), highest)
 }
 
-/// Writes the first and the last of the stack bytes from `first` to `last` that may be unwritten (`unwritten`), and why the bytes may not
-/// be read (`write_way`).
+/// Writes which of the stack bytes from `first` to `last` may be unwritten, as the range from the first such byte to the last
+/// (`unwritten`), and why the bytes of this range are missing (`write_way`).
 pub(crate) fn write_unwritten(
     text: &mut String,
     refusal: &RefusedProgram<'_>,
@@ -336,8 +337,8 @@ fn write_stack_need(
     }
 }
 
-/// Writes what is known of `access`, that of the rejected instruction, and what is required, by the reason of the refusal. The last arm has
-/// the four reasons of `write_stack_need`.
+/// Writes what is known of `access`, the access of the rejected instruction, and what is required, by the reason of the refusal. The last
+/// arm has the four reasons of an access to the stack: `OutsideStack`, `UnalignedStack`, `UnwrittenStack` and `PartOfSpill`.
 fn write_access_need(
     text: &mut String,
     refusal: &RefusedProgram<'_>,
@@ -386,9 +387,9 @@ fn write_access_need(
     }
 }
 
-/// Writes what is known of the access of the rejected instruction, against what it needs. `access_of` does not return `None` here: the
-/// caller handles all other instructions, except unconditional jumps and loads of constants, maps and direct values. These break no rule of
-/// safety.
+/// Writes what is known of the memory access of the rejected instruction `insn`, and what the access needs. Writes nothing if `insn`
+/// accesses no memory, which can't occur: of such instructions the caller passes only unconditional jumps and wide loads, and these break
+/// no rule of safety.
 pub(crate) fn write_need(
     text: &mut String,
     refusal: &RefusedProgram<'_>,

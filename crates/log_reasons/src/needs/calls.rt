@@ -105,9 +105,9 @@ pub(crate) fn has_argument(id: i32, register: u8) -> bool {
     }
 }
 
-/// How many bytes an argument points to: the size of a key or a value of the map in register 1, or the greatest length that register 4 may
-/// have. 0 if it points to none, or if no map or length is known, or the length does not fit 32 bits: then the map or the length is itself
-/// rejected.
+/// How many bytes an argument of this role points to: for `Key` or `Value` the size of a key or a value of the map in register 1, for
+/// `Room` the greatest length that register 4 may have. `named` has the open descriptors. 0 for any other role, or if no map or length is
+/// known, or the length does not fit 32 bits: then the map or the length is itself rejected.
 fn byte_count(named: &[Named], facts: &Facts, role: Role) -> u32 {
     let (map, length) = (kind_of(facts, 1), kind_of(facts, 4));
     match (role, map, length) {
@@ -123,8 +123,9 @@ fn is_outside_stack(first: i64, last: i64) -> bool {
     first < -(STACK_SIZE as i64) || last > -1
 }
 
-/// Why the bytes that an argument points to may not be read, or in the role `Room` not be written; `None` if they may. Room in the stack
-/// only has to lie in it: unwritten bytes and spills may be overwritten. The last arm has what is no pointer to the stack or to a value.
+/// Why the bytes that an argument of `kind` points to may not be read, or written if `role` is `Room`; `None` if they may. `role` is `Key`,
+/// `Value` or `Room`, and `byte_count` says how many bytes. `facts` are those before the call. Room in the stack only has to lie in
+/// the stack: unwritten bytes and spills may be overwritten. The last arm has what is no pointer to the stack or to a value.
 fn bytes_reason(named: &[Named], facts: &Facts, role: Role, kind: Kind) -> Option<Reason> {
     let count = byte_count(named, facts, role);
     let (first, last) = touched(kind, 0, i64::from(count));
@@ -146,7 +147,8 @@ fn bytes_reason(named: &[Named], facts: &Facts, role: Role, kind: Kind) -> Optio
     }
 }
 
-/// Why an argument is rejected; `None` if it is allowed. The roles of the last arm are `Key`, `Value` and `Room`, which need pointers.
+/// Why an argument of a helper is rejected; `None` if it is allowed. `facts` are those before the call, and `named` has what each open
+/// descriptor names. The roles of the last arm are `Key`, `Value` and `Room`, which need pointers.
 fn argument_reason(named: &[Named], facts: &Facts, argument: Argument) -> Option<Reason> {
     let kind = kind_of(facts, argument.register);
     match (argument.role, kind) {
@@ -198,7 +200,9 @@ fn write_length(text: &mut String, kind: Kind) -> Result<(), AllocError> {
     write!(text, ", and a length is from 1 to {greatest}")
 }
 
-/// Writes what is known of the rejected argument, against what is needed. The reason of the last arm is `HelperArgument`.
+/// Writes what is known of the rejected argument, against what is needed. If the argument is a pointer into the stack or into a value,
+/// `first` and `last` are the offsets of the first and the last byte that the helper may read there, or in the role `Room` write. The
+/// reason of the last arm is `HelperArgument`: an argument of this role may not have this kind.
 fn write_argument(
     text: &mut String,
     refusal: &RefusedProgram<'_>,

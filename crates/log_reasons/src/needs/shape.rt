@@ -46,7 +46,8 @@ fn write_backward(
     write!(text, "it leads to slot {target}, and jumps go forward only")
 }
 
-/// The descriptor by which an instruction names a map; 0 if it names none, but no such instruction is rejected for the callers' reasons.
+/// The descriptor by which an instruction names a map; 0 if it has none. Callers write about a rejection for what a descriptor names, so
+/// the instruction has one.
 fn fd_of(insn: &Insn) -> u32 {
     insn.profile().reference.descriptor().unwrap_or(0)
 }

@@ -22,7 +22,8 @@ abbrev pub entries_after : {K : Type 0} → ℕ → List (K × ℕ) → List (K 
 entries_after p [] = []
 entries_after p (e ∷ es) = if nat_eq p e.1 then es else entries_after p es
 
--- all entries if no element is given, else those after the entry of this element
+-- all entries for None, else those after the entry of element p, none if no entry has that element.
+-- The second component of an entry is the number of its element
 abbrev pub rest_after : {K : Type 0} → Option ℕ → List (K × ℕ) → List (K × ℕ)
 rest_after None es = es
 rest_after (Some p) es = entries_after p es

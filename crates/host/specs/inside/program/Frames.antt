@@ -7,8 +7,8 @@ use Rattle.host_core.specs.State.{TenantState}
 use Rattle.host.specs.declared.program.failure.Failure.{Failure}
 use Rattle.host.specs.program.Statuses.{stream_failure}
 
--- what `serve_frames` returns if serving the stream has this result: nothing for a number of
--- frames, and for a fault its failure
+-- what `serve_frames` returns, from the result of serving the stream: Ok without a value if the
+-- stream was served to its end (Ok, with the number of frames), and for a fault (Err) its failure
 abbrev pub stream_end : Result ℕ ServeFault → Result (Unit {0}) Failure
 stream_end (Ok count) = Ok tt
 stream_end (Err fault) = Err (stream_failure fault)

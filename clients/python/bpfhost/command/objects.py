@@ -10,7 +10,7 @@ from typing import TYPE_CHECKING
 
 from bpfhost.captures import is_capture
 from bpfhost.command.subjects import hint_of_filter
-from bpfhost.errors import InputError, MissingPackage
+from bpfhost.errors import InputError
 
 if TYPE_CHECKING:
     from bpfhost.objects import ObjectFile
@@ -25,10 +25,8 @@ def read_object(said: argparse.Namespace, path: str) -> ObjectFile:
         raise InputError(f"{path}: No such file or directory{hint_of_filter(path)}")
     if is_capture(path):
         raise InputError(f"{path} is a capture, and not an object")
-    try:
-        from bpfhost.objects import Form, is_built, load_built, load_object
-    except ModuleNotFoundError as error:
-        raise MissingPackage("elftools", "python3-pyelftools") from error
+    from bpfhost.objects import Form, is_built, load_built, load_object
+
     form = Form.AS_IS if said.as_is else Form.STRICT if said.strict else Form.LOWERED
     found = load_built(path, form) if is_built(path) else load_object(path, form)
     tell_changes(path, found.changes)

@@ -13,9 +13,9 @@ from dataclasses import dataclass
 from functools import cached_property
 from typing import Any
 
-from bpfhost.errors import MissingPackage
 from bpfhost.objects.byte_reader import LONGEST_NAME, printable
 from bpfhost.objects.errors import ObjectError
+from bpfhost.optional import optional_module
 
 # A larger file, or one with more sections, is not read: no compiler writes such an object.
 LARGEST_FILE = 8 * 1024 * 1024
@@ -175,13 +175,10 @@ def _told(part: str, read: Callable[[], Any]) -> Any:
 
 
 def _reader(content: bytes) -> Any:
-    try:
-        from elftools.elf.elffile import ELFFile
-    except ImportError as error:
-        raise MissingPackage("elftools", "python3-pyelftools") from error
+    elf_file = optional_module("elftools.elf.elffile").ELFFile
     if content[:4] != b"\x7fELF":
         raise ObjectError("the file is not an ELF object")
-    return _told("the ELF header", lambda: ELFFile(io.BytesIO(content)))
+    return _told("the ELF header", lambda: elf_file(io.BytesIO(content)))
 
 
 def _check_header(reader: Any) -> None:

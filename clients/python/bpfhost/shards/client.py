@@ -50,7 +50,9 @@ class AsyncClient(AbstractAsyncContextManager["AsyncClient"]):
     async def close(self) -> None:
         """Closes the connections."""
         for redis in self._servers.values():
-            await redis.nodes.close()
+            redis.nodes.close()
+        # The event loop ends them in its next round.
+        await asyncio.sleep(0)
 
     def customer(self, name: str, seconds: float = SECONDS, session: str | None = None) -> AsyncCustomer:
         """A customer by its name, which waits for so many seconds at most.

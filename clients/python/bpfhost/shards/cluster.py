@@ -9,12 +9,12 @@ so have all keys of the directory, so each of these sets is on one node.
 from __future__ import annotations
 
 import asyncio
-from collections import deque
 from collections.abc import Sequence
 from typing import Any
 
+from bpfhost.optional import optional_module
 from bpfhost.shards.errors import Away, Moved, RedisError
-from bpfhost.shards.link import RedisLink, Word, library
+from bpfhost.shards.link import RedisLink, Word
 from bpfhost.shards.system import System
 
 # Commands that may write. WAIT is sent after them. It covers the last write, so after a script something is written, also without memory:
@@ -37,12 +37,11 @@ class Nodes:
 
     def __init__(self, url: str, system: System) -> None:
         """Raises RedisError if it is no URL. With TLS, the name in the server's certificate is checked."""
-        redis = library("redis.asyncio")
+        redis = optional_module("redis.asyncio")
         try:
             pool = redis.ConnectionPool.from_url(url)
             kind, words = pool.connection_class, pool.connection_kwargs
-            if kind is redis.SSLConnection:
-                words.setdefault("ssl_check_hostname", True)
+            words |= {"ssl_check_hostname": True, **words} if kind is redis.SSLConnection else {}
             cluster, replicas = words.pop("cluster", "0"), words.pop("replicas", "0")
             # The class refuses an option that it does not have.
             pool.make_connection()
@@ -60,9 +59,7 @@ class Nodes:
         self._known: dict[int | str, str] = {}
         self.is_watched = self.has_changed = False
         # The lines that are not in use, with the times since when, the oldest first; and all of them.
-        self._idle: deque[tuple[float, Line]] = deque()
-        self.lines: set[Line] = set()
-        self._timer: asyncio.TimerHandle | None = None
+        self._idle, self.lines = list[tuple[float, Line]](), set[Line]()
 
     # Connections.
 
@@ -76,25 +73,17 @@ class Nodes:
         return self._idle.pop()[1] if self._idle else Line(self)
 
     def give_back(self, line: Line) -> None:
-        """Keeps a line for the next call."""
+        """Keeps a line for the next call, and ends those that were not used for a while."""
         self._idle.append((self._system.now(), line))
-        if not self._timer:
-            self._shrink()
+        while self._idle[0][0] <= self._system.now() - SECONDS_IDLE:
+            _, unused = self._idle.pop(0)
+            self.lines.discard(unused)
+            unused.cut()
 
-    def _shrink(self) -> None:
-        """Ends the lines that were not used for a while, now and later."""
-        while self._idle and self._idle[0][0] <= self._system.now() - SECONDS_IDLE:
-            _, line = self._idle.popleft()
-            self.lines.discard(line)
-            line.cut()
-        self._timer = asyncio.get_running_loop().call_later(SECONDS_IDLE, self._shrink) if self._idle else None
-
-    async def close(self) -> None:
-        """Ends all connections."""
+    def close(self) -> None:
+        """Ends all connections; the event loop does it in its next round."""
         for line in self.lines:
             line.cut()
-        # The event loop ends them in its next round.
-        await asyncio.sleep(0)
 
     # What is known.
 
@@ -115,11 +104,10 @@ class Nodes:
         return before != now
 
     def note(self, node: str, is_away: bool) -> None:
-        """Notes whether a node could be reached. If none could, all are asked again, the first one last."""
+        """Notes whether a node could be reached. If none could, all are asked again."""
         self._all[node] = is_away
         if all(self._all.values()):
-            first, *others = self._all
-            self._all = dict.fromkeys([*others, first], False)
+            self._all = dict.fromkeys(self._all, False)
 
 
 class Line:
@@ -141,26 +129,24 @@ class Line:
 
     def _to(self, node: str) -> RedisLink:
         """The connection to a node."""
-        link = self._links.get(node)
-        if not link or link.is_over:
-            link = self._links[node] = self._nodes.connect(node)
-        return link
+        if node not in self._links or self._links[node].is_over:
+            self._links[node] = self._nodes.connect(node)
+        return self._links[node]
 
     async def _called(self, words: Sequence[Word], seconds: float, slot: int) -> Any:
-        nodes = self._nodes
-        node = nodes.find(slot)
+        node = self._nodes.find(slot)
         for _ in range(_MOST_MOVES):
             try:
                 return await self._asked(node, words, seconds)
             except Moved as moved:
                 node = str(moved).split()[-1]
                 # The caller has to know that the history of the new node of a slot may be another one.
-                if nodes.learn(slot, node):
+                if self._nodes.learn(slot, node):
                     raise Away(f"{node} of the cluster serves a slot now, which another node served") from None
             except Away:
                 # It may report another history when it can be reached again.
                 self._links[node].is_checked = False
-                nodes.note(node, is_away=True)
+                self._nodes.note(node, is_away=True)
                 raise
         raise Away("the nodes of the cluster do not agree on who serves a slot")
 

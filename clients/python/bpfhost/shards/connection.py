@@ -11,15 +11,16 @@ import urllib.parse
 from collections.abc import Mapping, Sequence
 from typing import Any, cast
 
+from bpfhost.optional import optional_module
 from bpfhost.shards.cluster import Line, Nodes
 from bpfhost.shards.errors import Away, NoScript, NotAllowed, RedisError
-from bpfhost.shards.link import Word, library
+from bpfhost.shards.link import Word
 from bpfhost.shards.names import START, before
 from bpfhost.shards.system import MACHINE, System, Work
 
-# A server that does not reply for so many seconds is taken to be away. A call blocks for so many seconds at most.
-_SECONDS_TO_ANSWER, _SECONDS_TO_BLOCK = 30.0, 1.0
-_LEAST_SECONDS, _SECONDS_FOR_AN_ANSWER = 0.25, 0.2
+# A server that does not reply for so many seconds is taken to be away; it has the second time even if a call is to end earlier. A call
+# blocks for so many seconds at most.
+_SECONDS_TO_ANSWER, _LEAST_SECONDS, _SECONDS_TO_BLOCK = 30.0, 0.25, 1.0
 _PAUSE, _LONGEST_PAUSE = 0.01, 0.25
 # What the options of a URL begin with that are for only one process.
 _OWN = ("username", "password", "ssl_")
@@ -64,7 +65,7 @@ class Redis:
 
     def near(self, key: str) -> Redis:
         """The same server; of a cluster, the node of this key. All keys that are used have the key's hash tag."""
-        return self._with(_slot=library("redis.crc").key_slot(key.encode())) if self.nodes.is_cluster else self
+        return self._with(_slot=optional_module("redis.crc").key_slot(key.encode())) if self.nodes.is_cluster else self
 
     def until(self, deadline: float) -> Redis:
         """The same server, whose calls end at a time of the system's clock."""
@@ -85,8 +86,8 @@ class Redis:
             try:
                 return await self.begin(line, words, wait)
             except NoScript:
+                # The server is given the text next.
                 words = ("EVAL", text, *words[2:])
-                continue
             except Away:
                 if self.system.now() + pause > min(self.deadline, began + self._patience) or self.nodes.has_changed:
                     raise
@@ -119,8 +120,7 @@ class Redis:
     async def xread(self, name: str, place: bytes, many: int) -> list[Entry]:
         """Entries of a stream after an id, at most so many; waits a little if there is none."""
         # The server replies before the client gives the call up.
-        left = self.deadline - self.system.now()
-        wait = max(0.0, min(_SECONDS_TO_BLOCK, left - min(_SECONDS_FOR_AN_ANSWER, left / 2)))
+        wait = max(0.0, min(_SECONDS_TO_BLOCK, (self.deadline - self.system.now()) / 2))
         return entries_of(await self.call(*xread_words({name: place}, many, wait), wait=wait)).get(name, [])
 
     async def stream(self, name: str) -> dict[bytes, Any]:

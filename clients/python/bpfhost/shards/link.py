@@ -4,15 +4,13 @@ from __future__ import annotations
 
 import asyncio
 import functools
-import importlib
 import math
 import re
 import socket
-from collections import deque
 from collections.abc import Callable, Iterable, Sequence
 from typing import Any, cast
 
-from bpfhost.errors import PACKAGES, MissingPackage
+from bpfhost.optional import optional_module
 from bpfhost.shards.errors import Away, Moved, NoScript, NotAllowed, OutOfMemory, RedisError
 
 # An argument of a Redis command: bytes, a text or a number.
@@ -20,11 +18,9 @@ Word = object
 
 # A read of the system allocates nothing: for the 256 KiB that asyncio asks for by itself it would map memory each time.
 _SECONDS_TO_CONNECT, _READ_AT_ONCE = 5.0, 1 << 16
-# A connection over a network that is gone ends by itself: if probes, or what was sent, are not acknowledged for some seconds. Linux's
-# TCP_USER_TIMEOUT has no name in the types of the standard library.
-_OF_TCP = {"TCP_KEEPIDLE": 4, "TCP_KEEPINTVL": 2, "TCP_KEEPCNT": 3, "TCP_USER_TIMEOUT": 10_000}
-_WATCHED = [(socket.IPPROTO_TCP, getattr(socket, name), value) for name, value in _OF_TCP.items() if hasattr(socket, name)]
-_WATCHED += [(socket.SOL_SOCKET, socket.SO_KEEPALIVE, 1)]
+# A connection over a network that is gone ends by itself: if probes, or what was sent, are not acknowledged for some seconds. The types of
+# the standard library do not know all of the names.
+_OF_SOCKET = {"SO_KEEPALIVE": 1, "TCP_KEEPIDLE": 4, "TCP_KEEPINTVL": 2, "TCP_KEEPCNT": 3, "TCP_USER_TIMEOUT": 10_000}
 _SILENT = "it does not answer in time"
 # What Redis's errors begin with, and what is raised. With those of the second kind a server, or its cluster, can't run a command now, and
 # has run nothing of it.
@@ -38,17 +34,6 @@ _ERRORS: tuple[tuple[str, type[RedisError], str], ...] = (
     (".*OOM|.*allow-oom", OutOfMemory, "Redis has no memory: {said}"),
     ("", RedisError, "Redis refuses a command: {said}"),
 )
-
-
-@functools.cache
-def library(name: str) -> Any:
-    """A module of a package that may be missing."""
-    # By its name: the types that mypy may find of it are not those of Debian's version.
-    try:
-        return importlib.import_module(name)
-    except ModuleNotFoundError:
-        package = name.partition(".")[0]
-        raise MissingPackage(package, PACKAGES[package]) from None
 
 
 def _error(said: str) -> RedisError:
@@ -74,8 +59,7 @@ _kept = functools.lru_cache(512)(_joined)
 @functools.lru_cache(4096)
 def _part(word: Word) -> bytes:
     """A text or a whole number as the server reads it: both are sent again and again."""
-    data = str(word).encode()
-    return b"$%d\r\n%b\r\n" % (len(data), data)
+    return _joined([str(word).encode()])
 
 
 class RedisLink(asyncio.BufferedProtocol):
@@ -94,10 +78,10 @@ class RedisLink(asyncio.BufferedProtocol):
     def __init__(self, **words: Any) -> None:
         """The arguments are those of the library's class."""
         super().__init__(**words)
-        self._replies = library("hiredis").Reader(protocolError=RedisError, replyError=_error)
+        self._replies = optional_module("hiredis").Reader(protocolError=RedisError, replyError=_error)
         self._read = memoryview(bytearray(_READ_AT_ONCE))
         # Who waits, and until when.
-        self._waiting: deque[tuple[asyncio.Future[Any], float]] = deque()
+        self._waiting: list[tuple[asyncio.Future[Any], float]] = []
         # What is written before the library has logged in is sent then.
         self._unsent: list[bytes] = []
         self._write: Callable[[bytes], object] = self._unsent.append
@@ -121,14 +105,14 @@ class RedisLink(asyncio.BufferedProtocol):
                 else:
                     tls = self.ssl_context and self.ssl_context.get()
                     self.transport, _ = await self._loop.create_connection(lambda: self, self.host, self.port, ssl=tls)
-                    for level, option, value in _WATCHED:
-                        self.transport.get_extra_info("socket").setsockopt(level, option, value)
+                    for name, value in _OF_SOCKET.items():
+                        level = socket.IPPROTO_TCP if name.startswith("TCP") else socket.SOL_SOCKET
+                        self.transport.get_extra_info("socket").setsockopt(level, getattr(socket, name), value)
                 await self.on_connect()
-        except Exception as error:
-            self.cut(error)
-        else:
             self._write = self.transport.write
             self._write(b"".join(self._unsent))
+        except Exception as error:
+            self.cut(error)
 
     async def send_packed_command(self, command: Iterable[bytes], **_options: object) -> None:
         """Sends what the library sends to log in."""
@@ -137,7 +121,7 @@ class RedisLink(asyncio.BufferedProtocol):
     async def read_response(self, **_options: object) -> Any:
         """The reply to that, which comes before all others."""
         reply = self._loop.create_future()
-        self._waiting.appendleft((reply, math.inf))
+        self._waiting.insert(0, (reply, math.inf))
         return await reply
 
     def _look(self) -> None:
@@ -160,7 +144,6 @@ class RedisLink(asyncio.BufferedProtocol):
                 reply.set_exception(error if isinstance(error, RedisError) else Away(f"Redis can't be reached: {str(error) or _SILENT}"))
                 # Perhaps nobody waits any more.
                 reply.exception()
-        self._waiting.clear()
 
     # What the event loop calls.
 
@@ -172,7 +155,7 @@ class RedisLink(asyncio.BufferedProtocol):
         try:
             self._replies.feed(self._read, 0, nbytes)
             while (reply := self._replies.gets()) is not False:
-                waits, _ = self._waiting.popleft()
+                waits, _ = self._waiting.pop(0)
                 if not waits.done():
                     (waits.set_exception if isinstance(reply, RedisError) else waits.set_result)(reply)
         except (RedisError, IndexError):

@@ -14,8 +14,8 @@ from collections.abc import Callable, Mapping
 from typing import Any, NamedTuple
 
 from bpfhost.errors import MissingPackage
+from bpfhost.optional import optional_module
 from bpfhost.shards.errors import ShardError
-from bpfhost.shards.link import library
 
 
 class Metric(NamedTuple):
@@ -72,7 +72,7 @@ class Told:
         # The time at which each metric was made is of no use here.
         os.environ.setdefault("PROMETHEUS_DISABLE_CREATED_SERIES", "true")
         try:
-            client = library("prometheus_client")
+            client = optional_module("prometheus_client")
         except MissingPackage:
             return
         self.registry = client.CollectorRegistry()
@@ -103,7 +103,7 @@ class Told:
 
     def text(self) -> str:
         """All of them, in Prometheus's text format; raises MissingPackage without the library."""
-        client = library("prometheus_client")
+        client = optional_module("prometheus_client")
         for name, value in self._look().items():
             self.set(name, value)
         return str(client.generate_latest(self.registry), "utf-8")

@@ -56,13 +56,11 @@ class Serving:
     ) -> None:
         """With a library the host is in this process, otherwise it is a separate process. It is sent so many frames at most."""
         self._program, self._system, self._library, self._most_asked = program, system, library, most_asked
-        self.alive = alive
-        self.is_careful = False
+        self.alive, self.is_careful = alive, False
 
     def _start(self) -> None:
         self._host = self._new_host(MOST_TENANTS)
-        self.asked = 0
-        self.is_new = True
+        self.asked, self.is_new = 0, True
         self.tenancies = [Tenancy() for _ in range(MOST_TENANTS)]
 
     def _new_host(self, tenants: int) -> Host | HostHere:

@@ -93,7 +93,7 @@ class Worker:
                 await self.serve(is_stopped)
             finally:
                 for redis in dict.fromkeys((self._redis, self._directory.redis)):
-                    await redis.nodes.close()
+                    redis.nodes.close()
 
         with asyncio.Runner(loop_factory=RoundsLoop) as runner:
             runner.run(run())

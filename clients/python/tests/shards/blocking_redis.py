@@ -2,6 +2,7 @@
 
 from __future__ import annotations
 
+import asyncio
 from typing import Any
 
 from bpfhost.shards import connection
@@ -24,7 +25,12 @@ class Redis(Blocking[connection.Redis]):
 
     def close(self) -> None:
         """Ends the connections."""
-        self.loop.run(self.aio.nodes.close())
+
+        async def end() -> None:
+            self.aio.nodes.close()
+            await asyncio.sleep(0)
+
+        self.loop.run(end())
 
     def until(self, deadline: float) -> Redis:
         """The same server, whose calls end at a time of the system's clock."""

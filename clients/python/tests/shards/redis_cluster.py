@@ -9,9 +9,9 @@ import subprocess
 import time
 from pathlib import Path
 
+from bpfhost.optional import optional_module
 from bpfhost.shards.connection import told_by
 from bpfhost.shards.errors import RedisError
-from bpfhost.shards.link import library
 from tests.shards.blocking_redis import Redis, connect
 from tests.shards.redis_server import SERVER
 
@@ -159,7 +159,7 @@ class RedisCluster:
 
     def master_of(self, key: str) -> Node:
         """The node that serves a key's slot."""
-        slot = library("redis.crc").key_slot(key.encode())
+        slot = optional_module("redis.crc").key_slot(key.encode())
         for node in self.nodes:
             with contextlib.suppress(RedisError):
                 for first, last, (_, port, *_), *_ in node.call("CLUSTER", "SLOTS"):  # type: ignore[attr-defined]

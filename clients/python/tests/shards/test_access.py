@@ -13,12 +13,13 @@ import unittest
 from pathlib import Path
 
 from bpfhost import Host
+from bpfhost.optional import optional_module
 from bpfhost.shards import Client, RedisError, Settings, ShardKeys, move, remove
 from bpfhost.shards.connection import as_in
 from bpfhost.shards.errors import Away, NotAllowed
 from bpfhost.shards.gateway.limits import GatewayLimits
 from bpfhost.shards.gateway.sharing import Sharing
-from bpfhost.shards.link import library, packed
+from bpfhost.shards.link import packed
 from tests.common import PROGRAM, HostTest
 from tests.shards.blocking_redis import Redis, connect, directory_of
 from tests.shards.certificates import OPENSSL, authority, signed
@@ -153,7 +154,7 @@ class Words(unittest.TestCase):
     @unittest.skipIf(_WHY is not None, _WHY or "")
     def test_commands(self) -> None:
         """A command's bytes are those that the library would send."""
-        connection = library("redis.asyncio").ConnectionPool.from_url("unix:///nothing").make_connection()
+        connection = optional_module("redis.asyncio").ConnectionPool.from_url("unix:///nothing").make_connection()
         cases: tuple[list[object], ...] = (
             ["GET", "a"],
             ["XREAD", "COUNT", 64, "STREAMS", "bpfhost:{0}:frames:0", b"1-0"],

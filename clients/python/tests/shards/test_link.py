@@ -25,7 +25,7 @@ def linked(url: str) -> RedisLink:
 class Commands(ShardTest, unittest.IsolatedAsyncioTestCase):
     async def asyncSetUp(self) -> None:
         self.redis = Redis(self.server.url)
-        self.addAsyncCleanup(self.redis.nodes.close)
+        self.addCleanup(self.redis.nodes.close)
 
     async def test_many_at_once(self) -> None:
         """Replies come in the order of the commands, also those that nobody waits for."""

@@ -61,7 +61,7 @@ class Tally:
     def cells(self) -> tuple[str, str, str, str]:
         """The compiler's cells of the table."""
         needed = ", ".join(step for step in STEPS if step in self.steps) or "nothing"
-        return f"{self.compiled} of {self.programs}", f"{self.lowered} of {self.programs}", needed, str(self.slots)
+        return f"{self.compiled}/{self.programs}", f"{self.lowered}/{self.programs}", needed, str(self.slots)
 
 
 @dataclass

@@ -89,7 +89,7 @@ def memory() -> list[Instruction]:
         found += [Instruction(Key(opcode, imm), f"{what}, {size}", group, False) for imm, what in FETCHING.items()]
     found += [Instruction(Key(0x18, src), text, "base") for src, text in WIDE.items()]
     found += [Instruction(Key(0x18, src), f"wide load: {text}", "base", False) for src, text in OTHER_WIDE.items()]
-    return found + [Instruction(Key(mode + size), f"legacy load of the packet, {name}", "packet", False)
+    return found + [Instruction(Key(mode + size), f"legacy packet load, {name}", "packet", False)
                     for mode, how in ((0x20, "by imm"), (0x40, "by register")) for size, name in ((0, f"u32 {how}"), (8, f"u16 {how}"), (16, f"u8 {how}"))]
 
 

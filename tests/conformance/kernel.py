@@ -239,8 +239,8 @@ def tables(tally: Tally) -> str:
     rows += [f"| {command} | {count} | {tally.same[command]} |" for command, count in sorted(tally.compared.items())]
     rows += ["", "| Rule | Differences | For instance, the case |", "|---|---|---|"]
     for rule, counts in sorted(tally.different.items(), key=lambda item: -item[1].total()):
-        told = ", ".join(f"{count} of {command}" for command, count in counts.most_common())
-        rows.append(f"| {rule} | {told} | {tally.examples[rule].strip()} |")
+        found = ", ".join(f"{command} {count}" for command, count in counts.most_common())
+        rows.append(f"| {rule} | {found} | {tally.examples[rule].strip()} |")
     return "\n".join(rows) + "\n"
 
 

@@ -17,10 +17,10 @@ NAMES = ("llvm-mc", *(f"llvm-mc-{version}" for version in range(24, 12, -1)))
 ENCODING = re.compile(r"# encoding: \[(.*)\]")
 # The rule by which LLVM may read or write a line in another way; the first that matches.
 RULES = [
-    ("a wide load of a map or of its value: LLVM has no words for it", re.compile(r"map_(fd|value)")),
-    ("an atomic operation on `u32` names its register `w`, where the host has `r`", re.compile(r"^lock ?\* ?\( ?u32")),
-    ("a load or a store of at most 32 bits names its register `w`, where the host has `r`", re.compile(r"\*\(u(8|16|32) \*\)")),
-    ("`ll` directly after a number is C's suffix there, not a word of the line", re.compile(r"\dx?[0-9a-f]*ll")),
+    ("a wide load of a map or its value: no words in LLVM", re.compile(r"map_(fd|value)")),
+    ("an atomic operation on `u32`: register `w`, here `r`", re.compile(r"^lock ?\* ?\( ?u32")),
+    ("a load or a store of at most 32 bits: register `w`, here `r`", re.compile(r"\*\(u(8|16|32) \*\)")),
+    ("`ll` directly after a number is C's suffix there", re.compile(r"\dx?[0-9a-f]*ll")),
     ("the least distance of `gotol`", re.compile(r"gotol -2147483648")),
     ("a wide constant is written with a sign", re.compile(r"^r\d+ = \d{19,} ll")),
     ("more blanks in an atomic operation than LLVM reads", re.compile(r"^lock  ")),
@@ -126,7 +126,7 @@ def compare_bytes(program: str, path: str) -> Compared:
         if ours == theirs:
             compared.same += 1
         else:
-            compared.add("LLVM does not read the line" if theirs is None else "LLVM has other bytes", line, line)
+            compared.add("not read" if theirs is None else "other bytes", line, line)
     return compared
 
 
@@ -138,7 +138,7 @@ def compare_texts(program: str, path: str) -> Compared:
         if ours == theirs:
             compared.same += 1
         else:
-            compared.add("LLVM knows no such bytes" if theirs is None else "LLVM has another text", ours, f"{ours}` and `{theirs}" if theirs else ours)
+            compared.add("unknown bytes" if theirs is None else "another text", ours, f"{ours}` and `{theirs}" if theirs else ours)
     return compared
 
 

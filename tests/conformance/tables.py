@@ -44,9 +44,14 @@ def refused() -> Counter[Key]:
 
 
 def left_out() -> str:
-    rows = ["| Opcode | Instruction | Group | Cases of the codec that refuse it |", "|---|---|---|---|"]
+    """A row for the instructions of one opcode with as many cases."""
     found = refused()
-    rows += [f"| {each.key} | {cell(each)} | {GROUPS[each.group]} | {found[each.key]} |" for each in INSTRUCTIONS if not each.is_here]
+    named = defaultdict[tuple[str, str, int], list[str]](list)
+    for each in INSTRUCTIONS:
+        if not each.is_here:
+            named[str(each.key), GROUPS[each.group], found[each.key]].append(cell(each))
+    rows = ["| Opcode | Instructions | Group | Cases of the codec that refuse each |", "|---|---|---|---|"]
+    rows += [f"| {opcode} | {'; '.join(texts)} | {group} | {count} |" for (opcode, group, count), texts in named.items()]
     return "\n".join(rows) + "\n"
 
 

@@ -18,8 +18,8 @@ from bpfhost.shards.link import Word
 from bpfhost.shards.names import START, before
 from bpfhost.shards.system import MACHINE, System, Work
 
-# A server that does not reply for so many seconds is taken to be away; it has the second time even if a call is to end earlier. A call
-# blocks for so many seconds at most.
+# A server that does not reply for so many seconds, or until the call is to end, is taken to be away, but not before the second time. A call
+# blocks for so many seconds at most, the third number.
 _SECONDS_TO_ANSWER, _LEAST_SECONDS, _SECONDS_TO_BLOCK = 30.0, 0.25, 1.0
 _PAUSE, _LONGEST_PAUSE = 0.01, 0.25
 # What the options of a URL begin with that are for only one process.

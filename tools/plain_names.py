@@ -17,7 +17,7 @@ WORDS = {
     "answer": ("answers?|answered|answering", "reply, result"),
 }
 WORD = re.compile("|".join(f"(?P<{word}>{forms})" for word, (forms, _) in WORDS.items()), re.I)
-# The words of a name, as in `OneAnswer`, `told_of` and `FRAMES_TOLD`.
+# The words of a name, as in `OneCommandResult`, `told_of` and `FRAMES_TOLD`.
 PART = re.compile(r"[A-Z]+(?![a-z])|[A-Z]?[a-z]+")
 NAME = re.compile(r"[A-Za-z_]\w*")
 STRING = re.compile(r'"(?:[^"\\\n]|\\.)*"')

@@ -15,7 +15,7 @@ FULL, KEY, VALUE, MAPS = 4096, 512, 8, 16
 # The packets of a bounded batch.
 PACKETS = 64
 # The most keys that a part of a save puts.
-KEYS_OF_PART = 1024
+KEYS_PER_SAVE_PART = 1024
 # Sizes of keys and values, and entries.
 SHAPES = ((KEY, VALUE, FULL), (KEY, 4096, 16), (64, 512, 128), (16, VALUE, FULL), (4, VALUE, FULL))
 # The pairs of a delete and an update that use up the table of a map of 4,096 keys if the keys of one group are deleted again and again.
@@ -129,8 +129,8 @@ def on_keys(kind: str, name: str) -> Iterator[Case]:
 
 def saves() -> Iterator[Case]:
     """The last part with keys of a full map: it passes all keys before its own."""
-    for key, value, entries in (*SHAPES, (KEY, 64, KEYS_OF_PART)):
-        yield Case("save part", "a full map", full_map(3, key, "counting", entries, value), ["save", 1 + -(-entries // KEYS_OF_PART)])
+    for key, value, entries in (*SHAPES, (KEY, 64, KEYS_PER_SAVE_PART)):
+        yield Case("save part", "a full map", full_map(3, key, "counting", entries, value), ["save", 1 + -(-entries // KEYS_PER_SAVE_PART)])
 
 
 def starts(kind: str) -> list[Case]:

@@ -6,7 +6,7 @@
 #define TENANTS 3
 #define FIRST 3
 #define MOST 64
-#define KEYS_OF_PART 1024
+#define KEYS_PER_SAVE_PART 1024
 #define LONGEST_KEY 12
 #define LONGEST_VALUE 16
 
@@ -324,7 +324,7 @@ static size_t frames_of_part(size_t part, uint32_t keys)
         return MOST;
     if (part == 1)
         return 2;
-    return keys == 0 ? MOST - 1 : keys < KEYS_OF_PART ? keys : KEYS_OF_PART;
+    return keys == 0 ? MOST - 1 : keys < KEYS_PER_SAVE_PART ? keys : KEYS_PER_SAVE_PART;
 }
 
 static void puts_keys(bpfhost *host, uint32_t keys)
@@ -371,8 +371,8 @@ int main(int argc, char **argv)
     checks_codes();
     checks_parts_of_keys(0, 3);
     checks_parts_of_keys(1, 4);
-    checks_parts_of_keys(KEYS_OF_PART, 4);
-    checks_parts_of_keys(KEYS_OF_PART + 1, 5);
+    checks_parts_of_keys(KEYS_PER_SAVE_PART, 4);
+    checks_parts_of_keys(KEYS_PER_SAVE_PART + 1, 5);
     checks_parts_of_keys(4096, 7);
     for (long i = 0; i < histories; i++) {
         bpfhost *first = NULL, *second = NULL;

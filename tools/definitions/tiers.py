@@ -32,7 +32,7 @@ OF_THE_VERDICT = frozenset({name(VERDICT, "IsAccepted"), name(VERDICT, "IsRefuse
 TO_AN_ANSWER = frozenset({
     name("host_core/src/server.rt", "serve"),
     name(SERVED, "ServesAlone"),
-    *(name(REPLIES, word) for word in ("RepliesUnder", "AnswersFrame")),
+    *(name(REPLIES, word) for word in ("RepliesUnder", "IsFrameResult")),
     name(MACHINE, "Answers"),
 })
 # The tiers: title, what the tier is about besides what those before it are about, and its stops.

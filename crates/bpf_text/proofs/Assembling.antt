@@ -28,13 +28,13 @@ use Rattle.text_line.specs.Line.{Line, blank, label, code, ReadAs}
 use Rattle.text_line.specs.Form.{form_slots, names_label}
 use Rattle.text_line.specs.Ranges.{form_fits, resolved}
 use Rattle.text_line.specs.Written.{written}
-use Rattle.bpf_text.specs.declared.assembler.Definition.{Definition}
+use Rattle.bpf_text.specs.declared.assembler.LineStart.{LineStart}
 use Rattle.bpf_text.specs.declared.fault.TextFault.{TextFault}
 use Rattle.bpf_text.specs.declared.fault.TextFaultKind.{TextFaultKind}
 use Rattle.bpf_text.specs.declared.fault.TextFaultKind.TheVariants.{Range, UnknownLabel, LabelTwice, TooLong, Memory}
 use Rattle.bpf_text.specs.Fault.{NoneBelow, IsFirstFaultyLine, memory_fault, empty_fault}
 use Rattle.bpf_text.specs.inside.Faults.{fault_on}
-use Rattle.bpf_text.specs.inside.Labels.{Labels, definition_of, definition_at, FindsLabels, kept_line, kept_slot}
+use Rattle.bpf_text.specs.inside.Labels.{Labels, definition_of, line_start, FindsLabels, kept_line, kept_slot}
 use Rattle.bpf_text.specs.inside.Labels.{kept_distance, code_fault, label_fault, kept_fault, kept_form, kept_forms, IsNoneOrWellFormed}
 use Rattle.bpf_text.specs.Assembly.{AreRead, line_slots, slots_on, label_line, label_slot, distance, passes, is_known}
 use Rattle.bpf_text.specs.Assembly.{is_twice, line_fault, line_fault_of, fault_at, forms_from, IsAssembled, IsOwnFault}
@@ -46,17 +46,17 @@ use Rattle.bpf_text.proofs.LabelLines.{slots_on-append}
 
 abbrev pub Finds : List (Option Line) → Labels → Type 0
 Finds lines labels =
-    (name : List ℕ) → definition_of labels name ≡ option_map (definition_at lines) (label_line name lines)
+    (name : List ℕ) → definition_of labels name ≡ option_map (line_start lines) (label_line name lines)
 
 -- if the labels of the first n lines are kept, and no line is after these, the labels of all lines are kept
 pub finds_all : (lines : List (Option Line)) (labels : Labels) (n : ℕ)
     → length lines ≤ n → FindsLabels lines labels n → Finds lines labels
 finds_all lines labels n past finds = λ name.
     finds name
-    ∙ ap (λ (ls : List (Option Line)). option_map (definition_at lines) (label_line name ls)) (take_all n lines past)
+    ∙ ap (λ (ls : List (Option Line)). option_map (line_start lines) (label_line name ls)) (take_all n lines past)
 
 kept_line_is : (lines : List (Option Line)) (o : Option ℕ) (i : ℕ)
-    → kept_line (option_map (definition_at lines) o) i ≡ unwrap_or o i
+    → kept_line (option_map (line_start lines) o) i ≡ unwrap_or o i
 kept_line_is lines None i = refl
 kept_line_is lines (Some k) i = refl
 
@@ -65,11 +65,11 @@ unfolding slots_on
 no_slots_on = refl
 
 kept_slot_is : (lines : List (Option Line)) (o : Option ℕ)
-    → kept_slot (option_map (definition_at lines) o) ≡ slots_on (take (unwrap_or o 0) lines)
+    → kept_slot (option_map (line_start lines) o) ≡ slots_on (take (unwrap_or o 0) lines)
 kept_slot_is lines None = sym no_slots_on
 kept_slot_is lines (Some k) = refl
 
-is_kept : (lines : List (Option Line)) (o : Option ℕ) → is_some (option_map (definition_at lines) o) ≡ is_some o
+is_kept : (lines : List (Option Line)) (o : Option ℕ) → is_some (option_map (line_start lines) o) ≡ is_some o
 is_kept lines None = refl
 is_kept lines (Some k) = refl
 
@@ -82,10 +82,10 @@ pub fault_is : (lines : List (Option Line)) (labels : Labels) (i before : ℕ) (
 fault_is lines labels i before None finds = refl
 fault_is lines labels i before (Some blank) finds = refl
 fault_is lines labels i before (Some (label name)) finds =
-    ap (λ (o : Option Definition). label_fault o i) (finds name)
+    ap (λ (o : Option LineStart). label_fault o i) (finds name)
     ∙ ap (λ (k : ℕ). cond (ltb k i) (Some LabelTwice) None) (kept_line_is lines (label_line name lines) i)
 fault_is lines labels i before (Some (code form name)) finds =
-    ap (λ (o : Option Definition). code_fault form o before) (finds name)
+    ap (λ (o : Option LineStart). code_fault form o before) (finds name)
     ∙ ap (λ (b : Bool).
     cond (form_fits form)
     (cond (not (names_label form) || b) (cond (passes before (form_slots form)) (Some TooLong) None) (Some UnknownLabel))
@@ -133,12 +133,12 @@ no_fault_past lines below i =
 
 -- the instruction of a line is its form with the labels that are kept
 pub form_kept : (labels : Labels) (slot : ℕ) (line : Option CodeLine) (form : Form)
-    (name : Bor (List ℕ)) (definition : Option Definition) (insn : Insn)
+    (name : Bor (List ℕ)) (definition : Option LineStart) (insn : Insn)
     → line ≡ Some (Code form name) → definition ≡ definition_of labels name.now
     → written insn ≡ resolved (kept_distance definition slot) form
     → written insn ∷ [] ≡ kept_form labels slot (seen_option line)
 form_kept labels slot line form name definition insn is found e =
-    ap (λ (f : Form). f ∷ []) (e ∙ ap (λ (o : Option Definition). resolved (kept_distance o slot) form) found)
+    ap (λ (f : Form). f ∷ []) (e ∙ ap (λ (o : Option LineStart). resolved (kept_distance o slot) form) found)
     ∙ sym (ap (λ (o : Option CodeLine). kept_form labels slot (seen_option o)) is)
 
 -- a text without lines has no written forms
@@ -274,7 +274,7 @@ code_room true true before slots h e = grind (arith, nat_tests)
 code_room true false before slots h e = absurd (let no : Some UnknownLabel ≡ None = e in cc no)
 code_room false known before slots h e = absurd (let no : Some Range ≡ None = e in cc no)
 
-line_room : (labels : Labels) (here : Definition) (line : Option Line)
+line_room : (labels : Labels) (here : LineStart) (line : Option Line)
     → here.slot ≤ MAX_SLOTS → kept_fault labels here line ≡ None
     → here.slot + line_slots line ≤ MAX_SLOTS
 line_room labels here (Some (code form name)) h e =
@@ -296,7 +296,7 @@ pub goes_on : (labels : Labels) (lines : List (Option Line)) (i slot more_slots 
 goes_on labels lines i slot more_slots line insns new one finds inside at more pushed found none so =
     let taken : take (i + 1) lines ≡ take i lines ++ line ∷ [] =
     take_more lines i line inside ∙ ap (λ (l : Option Line). take i lines ++ l ∷ []) (sym at) in
-    let definition : Definition = record { line = i; slot = slot } in
+    let start : LineStart = record { line = i; slot = slot } in
     record {
       below =
           below_more _ _ so.below
@@ -310,7 +310,7 @@ goes_on labels lines i slot more_slots line insns new one finds inside at more p
           ∙ ap (λ (n : ℕ). slots_on (take i lines) + n) more
           ∙ sym (slots_on-append (take i lines) line)
           ∙ ap slots_on (sym taken);
-      room = let fits = line_room labels definition line so.room none in omega arith;
+      room = let fits = line_room labels start line so.room none in omega arith;
       forms = ap (map written) pushed ∙ map-append written insns (option_to_list one)
           ∙ ap (λ (fs : List Form). fs ++ map written (option_to_list one)) so.forms
           ∙ ap (λ (fs : List Form). kept_forms labels 0 (take i lines) ++ fs)

@@ -5,13 +5,13 @@ use Rattle.std.specs.Prelude.{option_map, is_some}
 use Rattle.std.specs.Option.{option_copied}
 use Rattle.text_line.specs.declared.form.Line.{Line as CodeLine}
 use Rattle.text_line.specs.Shown.{seen_option, seen_lines}
-use Rattle.bpf_text.specs.inside.Labels.{or_else, Labels, definition_of, definition_at, FindsLabels, defined_label}
+use Rattle.bpf_text.specs.inside.Labels.{or_else, Labels, definition_of, line_start, FindsLabels, defined_label}
 use Rattle.text_line.specs.Line.{Line, blank, label, code, ReadAs}
 use Rattle.std.specs.Str.{bytes_eq}
 use Rattle.std.proofs.lemmas.Slice.Eq.{bytes_eq-Decides}
 use Rattle.std.proofs.lemmas.Bool.{false≢true}
 use Rattle.std.proofs.lemmas.List.{take_more, get_or-map, length-map, length-take, map-append}
-use Rattle.bpf_text.specs.declared.assembler.Definition.{Definition}
+use Rattle.bpf_text.specs.declared.assembler.LineStart.{LineStart}
 use Rattle.bpf_text.specs.Assembly.{AreRead, line_slots, slots_on, defines, label_line}
 
 label_line_step : (name : List ℕ) (l x : Option Line) (xs : List (Option Line)) (b : Bool)
@@ -53,10 +53,10 @@ bytes_eq-other : (a b : List ℕ) (t : Bool) → bytes_eq a b ≡ false → byte
 bytes_eq-other a b true h k = absurd (false≢true (sym h ∙ bytes_eq-sym b a k))
 bytes_eq-other a b false h k = refl
 
-abbrev some_definition : Definition → Option Definition
+abbrev some_definition : LineStart → Option LineStart
 some_definition p = Some p
 
-or_none : (o : Option Definition) → or_else o None ≡ o
+or_none : (o : Option LineStart) → or_else o None ≡ o
 or_none None = refl
 or_none (Some p) = refl
 
@@ -66,7 +66,7 @@ defines_is q name (Some blank) e = absurd (let no : Some name ≡ None = sym e i
 defines_is q name (Some (label n)) e = let same : n ≡ name = cc in ap (bytes_eq q) same
 defines_is q name (Some (code f n)) e = absurd (let no : Some name ≡ None = sym e in cc no)
 
-noted_step : (old new : Option Definition) (definition : Definition) (name q : List ℕ)
+noted_step : (old new : Option LineStart) (definition : LineStart) (name q : List ℕ)
     (x : Option Line) (b : Bool)
     → defined_label x ≡ Some name → bytes_eq name q ≡ b
     → (b ≡ true → old ≡ None)
@@ -76,13 +76,13 @@ noted_step old new definition name q x true is eq none e =
     let here : defines q x ≡ true = defines_is q name x is ∙ bytes_eq-sym name q eq in
     e
     ∙ sym (ap (λ (t : Bool). or_else old (cond t (some_definition definition) None)) here
-    ∙ ap (λ (o : Option Definition). or_else o (some_definition definition)) (none refl))
+    ∙ ap (λ (o : Option LineStart). or_else o (some_definition definition)) (none refl))
 noted_step old new definition name q x false is eq none e =
     let there : defines q x ≡ false = defines_is q name x is ∙ bytes_eq-other name q (bytes_eq q name) eq refl in
     e ∙ sym (ap (λ (t : Bool). or_else old (cond t (some_definition definition) None)) there ∙ or_none old)
 
 -- the definition of a name that had none is kept now
-pub noted : (old new : Labels) (definition : Definition) (name : List ℕ) (x : Option Line)
+pub noted : (old new : Labels) (definition : LineStart) (name : List ℕ) (x : Option Line)
     → defined_label x ≡ Some name → definition_of old name ≡ None
     → ((q : List ℕ) → definition_of new q ≡ cond (bytes_eq name q) (some_definition definition) (definition_of old q))
     → (q : List ℕ)
@@ -94,34 +94,34 @@ noted old new definition name x is none change q =
     (change q)
 
 pushed_definition : (lines : List (Option Line)) (o : Option ℕ) (b : Bool) (i : ℕ)
-    → or_else (option_map (definition_at lines) o) (cond b (some_definition (definition_at lines i)) None)
-    ≡ option_map (definition_at lines) (or_else o (cond b (Some i) None))
+    → or_else (option_map (line_start lines) o) (cond b (some_definition (line_start lines i)) None)
+    ≡ option_map (line_start lines) (or_else o (cond b (Some i) None))
 pushed_definition lines (Some k) b i = refl
 pushed_definition lines None true i = refl
 pushed_definition lines None false i = refl
 
 -- if the labels of the first lines are kept, and the next line's is noted, the labels of all of these are kept
 pub finds_more : (lines : List (Option Line)) (i : ℕ) (x : Option Line) (old new : Labels)
-    (definition : Definition)
+    (definition : LineStart)
     → take (i + 1) lines ≡ take i lines ++ x ∷ []
     → length (take i lines) ≡ i → FindsLabels lines old i
-    → definition ≡ definition_at lines i
+    → definition ≡ line_start lines i
     → ((q : List ℕ)
     → definition_of new q ≡ or_else (definition_of old q) (cond (defines q x) (some_definition definition) None))
     → FindsLabels lines new (i + 1)
 finds_more lines i x old new definition more len finds is change = λ q.
     change q
-    ∙ ap (λ (o : Option Definition). or_else o (cond (defines q x) (some_definition definition) None)) (finds q)
-    ∙ ap (λ (p : Definition).
-    or_else (option_map (definition_at lines) (label_line q (take i lines)))
+    ∙ ap (λ (o : Option LineStart). or_else o (cond (defines q x) (some_definition definition) None)) (finds q)
+    ∙ ap (λ (p : LineStart).
+    or_else (option_map (line_start lines) (label_line q (take i lines)))
     (cond (defines q x) (some_definition p) None))
     is
     ∙ pushed_definition lines (label_line q (take i lines)) (defines q x) i
     ∙ ap (λ (n : ℕ).
-    option_map (definition_at lines) (or_else (label_line q (take i lines)) (cond (defines q x) (Some n) None)))
+    option_map (line_start lines) (or_else (label_line q (take i lines)) (cond (defines q x) (Some n) None)))
     (sym len)
-    ∙ ap (option_map (definition_at lines)) (sym (label_line-append q (take i lines) x))
-    ∙ ap (λ (xs : List (Option Line)). option_map (definition_at lines) (label_line q xs)) (sym more)
+    ∙ ap (option_map (line_start lines)) (sym (label_line-append q (take i lines) x))
+    ∙ ap (λ (xs : List (Option Line)). option_map (line_start lines) (label_line q xs)) (sym more)
 
 -- the slots of the first lines, and those of the next line, are as many as the slots of the lines up to it
 pub slots_more : (lines : List (Option Line)) (i : ℕ) (x : Option Line) (slot : ℕ)
@@ -132,7 +132,7 @@ slots_more lines i x slot more is =
     ap (λ (n : ℕ). n + line_slots x) is ∙ sym (slots_on-append (take i lines) x) ∙ ap slots_on (sym more)
 
 -- without lines no label has a definition
-pub none_found : (lines : List (Option Line)) (q : List ℕ) → None ≡ option_map (definition_at lines) (label_line q [])
+pub none_found : (lines : List (Option Line)) (q : List ℕ) → None ≡ option_map (line_start lines) (label_line q [])
 unfolding label_line
 none_found lines q = refl
 
@@ -142,7 +142,7 @@ unfolding slots_on
 no_slots = refl
 
 -- if an option has no value, its copy has none
-pub none_copied : (o : Option (Bor Definition)) → is_some o ≡ false → option_copied o ≡ None
+pub none_copied : (o : Option (Bor LineStart)) → is_some o ≡ false → option_copied o ≡ None
 none_copied None h = refl
 none_copied (Some p) h = absurd (false≢true (sym h))
 

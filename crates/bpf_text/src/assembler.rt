@@ -42,7 +42,7 @@ fn read_lines<'a>(alloc: Global, text: &'a [&'a str]) -> Result<Vec<Option<Line<
 
 /// A line by its index, from 0, and the number of slots before it: the line that defines a label, or the one that is assembled.
 #[derive(Clone, Copy, Debug)]
-struct Definition {
+struct LineStart {
     line: usize,
     slot: usize,
 }
@@ -72,9 +72,9 @@ fn defined<'a>(line: &Option<Line<'a>>) -> Option<&'a str>
 /// Enters the label that a line defines into `labels`, with `definition`, the line's index and the slots before it. Nothing is entered if
 /// the line defines no label, or one that an earlier line defines: the first definition counts. Fails only if memory is refused.
 fn note<'a>(
-    labels: &mut HashMap<&'a str, Definition>,
+    labels: &mut HashMap<&'a str, LineStart>,
     line: &Option<Line<'a>>,
-    definition: Definition,
+    definition: LineStart,
 ) -> Result<(), AllocError>
     ensures { OnOk result ((q : List ℕ) → definition_of labels.new q
         ≡ or_else (definition_of labels.old q)
@@ -93,13 +93,13 @@ fn note<'a>(
 fn labels<'a>(
     alloc: Global,
     lines: &[Option<Line<'a>>],
-) -> Result<HashMap<&'a str, Definition>, AllocError>
+) -> Result<HashMap<&'a str, LineStart>, AllocError>
     ensures { IfOk result (λ labels. FindsLabels (seen_lines lines.now) labels (length lines.now)) }
 {
     let mut labels = HashMap::new(alloc);
     let mut slot = 0;
     for (index, line) in lines.iter().enumerate() {
-        note(&mut labels, line, Definition { line: index, slot })?;
+        note(&mut labels, line, LineStart { line: index, slot })?;
         slot += line_slots(line);
     }
     Ok(labels)
@@ -107,7 +107,7 @@ fn labels<'a>(
 
 /// Finds the label `name` in `labels`: the index of the first line that defines it, and the number of slots before this line. `None` if no
 /// line defines the label.
-fn definition_of_label(labels: &HashMap<&str, Definition>, name: &str) -> Option<Definition>
+fn definition_of_label(labels: &HashMap<&str, LineStart>, name: &str) -> Option<LineStart>
     ensures { result ≡ definition_of labels.now name.now }
 {
     labels.get(name).copied()
@@ -116,7 +116,7 @@ fn definition_of_label(labels: &HashMap<&str, Definition>, name: &str) -> Option
 /// The distance in slots to a label from slot `slot + 1`, the next after a jump at `slot`. A label past slot `MAX_SLOTS` counts as one at
 /// slot `MAX_SLOTS`, so that the distance fits 16 bits: the text then has a `TooLong` line. `None` counts as a label at slot 0: either no
 /// line defines the label, which is a fault, or the form names no label, and the distance is not used.
-fn distance(label: Option<Definition>, slot: usize) -> i16
+fn distance(label: Option<LineStart>, slot: usize) -> i16
     requires { slot ≤ MAX_SLOTS }
     ensures { result ≡ kept_distance label slot }
 {
@@ -131,7 +131,7 @@ fn distance(label: Option<Definition>, slot: usize) -> i16
 /// that of a line, `Form::insn` is `None` only if a number is out of range. `label` is the definition of the label that the form names;
 /// `None` if the form names none, or no line defines it. `slot` is the number of slots before the form: at most `MAX_SLOTS`, as no earlier
 /// line is `TooLong`.
-fn resolve(form: &Form, label: Option<Definition>, slot: usize) -> Result<Insn, TextFaultKind>
+fn resolve(form: &Form, label: Option<LineStart>, slot: usize) -> Result<Insn, TextFaultKind>
     requires form { IsForm form.now }
     requires room { slot ≤ MAX_SLOTS }
     ensures found { IfOk result (λ insn. written insn
@@ -156,9 +156,9 @@ fn resolve(form: &Form, label: Option<Definition>, slot: usize) -> Result<Insn, 
 /// has the first definition of each label. `here` is the line's index and the number of slots before it, at most `MAX_SLOTS`, since no
 /// earlier line is `TooLong`.
 fn instruction(
-    labels: &HashMap<&str, Definition>,
+    labels: &HashMap<&str, LineStart>,
     line: &Option<Line<'_>>,
-    here: Definition,
+    here: LineStart,
 ) -> Result<Option<Insn>, TextFaultKind>
     requires form { IsNoneOrWellFormed (seen_option line.now) }
     requires room { here.slot ≤ MAX_SLOTS }
@@ -190,7 +190,7 @@ fn instruction(
 fn instructions(
     alloc: Global,
     lines: &[Option<Line<'_>>],
-    labels: &HashMap<&str, Definition>,
+    labels: &HashMap<&str, LineStart>,
 ) -> Result<Vec<Insn>, TextFault>
     requires formed { AllByRecursion IsNoneOrWellFormed (seen_lines lines.now) }
     requires labels { FindsLabels (seen_lines lines.now) labels.now (length lines.now) }
@@ -206,8 +206,8 @@ fn instructions(
     let mut insns = Vec::new(alloc);
     let mut slot = 0;
     for (index, line) in lines.iter().enumerate() {
-        // Also for a line that defines no label, a `Definition` is the line's index and the number of slots before the line.
-        let insn = match instruction(labels, line, Definition { line: index, slot }) {
+        // Also for a line that defines no label, a `LineStart` is the line's index and the number of slots before the line.
+        let insn = match instruction(labels, line, LineStart { line: index, slot }) {
             Ok(insn) => insn,
             Err(kind) => return Err(TextFault::at(index, kind)),
         };

@@ -12,7 +12,7 @@ use Rattle.tenant.specs.Errno.{status_of}
 use Rattle.tenant.specs.Machine.{asked_shape, cause_errno, kind_of}
 use Rattle.verifier.specs.declared.refusal.Refusal.{Refusal}
 use Rattle.verifier.specs.Judgement.{Judges, cause_number}
-use Rattle.verifier.specs.Maps.{maps_of, entries_of}
+use Rattle.verifier.specs.Maps.{maps_of, objects_at}
 use Rattle.verifier.specs.Verified.{Accepted}
 use Rattle.host_core.specs.Installs.{Installs, FitsTenant}
 use Rattle.host_core.specs.State.{TenantState}
@@ -61,7 +61,7 @@ prepare_code before ds =
 -- to the frame that loads the slots
 abbrev pub Prepares : List Named → List ℕ → Option Accepted → PreparedRefusal → Type 0
 Prepares named slots (Some a) r =
-    Judges named slots (Ok a.code) × (a.entries ≡ entries_of (maps_of a.code) named)
+    Judges named slots (Ok a.code) × (a.objects ≡ objects_at (maps_of a.code) named)
     × (r.status ≡ pos 0) × (r.slot ≡ 0) × (r.reason ≡ 0)
 Prepares named slots None r =
     (refusal : Refusal) × Judges named slots (Err refusal)

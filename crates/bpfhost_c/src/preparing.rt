@@ -5,7 +5,7 @@ ghost use Rattle.host_core.specs.Saving.{Call};
 ghost use Rattle.tenant.specs.Errno.{status_of};
 ghost use Rattle.tenant.specs.Machine.{cause_errno};
 ghost use Rattle.verifier.specs.Judgement.{Judges, cause_number};
-ghost use Rattle.verifier.specs.Maps.{maps_of, entries_of};
+ghost use Rattle.verifier.specs.Maps.{maps_of, objects_at};
 ghost use Rattle.bpfhost_c.specs.Calls.{states, host_of};
 ghost use Rattle.bpfhost_c.specs.Prepares.{object_of, are_objects, named_by, prepare_code};
 ghost use Rattle.bpfhost_c.specs.Prepares.{Prepares, install_code, FitsPrepared, InstallsPrepared};
@@ -95,7 +95,7 @@ fn named_by(alloc: Global, descriptors: &[Descriptor]) -> Result<Vec<Named>, All
 }
 
 /// Verifies slots. Each of the descriptors names the object that its fields describe (`object_of`). The inner result is the program
-/// that the slots spell, or why they are refused. The program's `entries` are the descriptors of its maps, each with its object. The
+/// that the slots spell, or why they are refused. The program's `objects` are the descriptors of its maps, each with its object. The
 /// working memory is freed afterwards. `AllocError`: out of memory.
 fn verified(
     alloc: Global,
@@ -104,8 +104,8 @@ fn verified(
 ) -> Result<Result<Box<Verified>, Refusal>, AllocError>
     ensures accepted { IfOk result (λ verdict. IfOk verdict (λ program.
         Judges (named_by descriptors.now) slots.now (Ok program.value.code))) }
-    ensures entries { IfOk result (λ verdict. IfOk verdict (λ program. program.value.entries
-        ≡ entries_of (maps_of program.value.code) (named_by descriptors.now))) }
+    ensures objects { IfOk result (λ verdict. IfOk verdict (λ program. program.value.objects
+        ≡ objects_at (maps_of program.value.code) (named_by descriptors.now))) }
     ensures refused { IfOk result (λ verdict. IfErr verdict (λ refusal.
         Judges (named_by descriptors.now) slots.now (Err refusal))) }
 {

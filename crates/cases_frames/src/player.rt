@@ -76,7 +76,7 @@ fn numbers(alloc: Global, words: &str) -> Result<Vec<u8>, CaseError> {
 
 /// The bytes of `front`, and after them those of the hex digits `digits`. The errors are those of `bytes_of`, which reads the digits, or
 /// out of memory.
-fn before(alloc: Global, front: &[u8], digits: &str) -> Result<Vec<u8>, CaseError> {
+fn prefixed_bytes(alloc: Global, front: &[u8], digits: &str) -> Result<Vec<u8>, CaseError> {
     let rest = bytes_of(alloc, digits)?;
     let mut bytes = Vec::new(alloc);
     bytes.extend_from_slice(front)?;
@@ -158,13 +158,13 @@ impl HostPlayer {
     }
 
     /// The reply to an update, for the words of a line: a tenant, a descriptor, the flags, and the bytes of the key and the value. `Number`
-    /// if the flags are no number; other errors are those of `before` and `command`.
+    /// if the flags are no number; other errors are those of `prefixed_bytes` and `command`.
     fn update(&mut self, rest: &str) -> Result<String, CaseError> {
         let (tenant, rest) = first_word(rest);
         let (descriptor, rest) = first_word(rest);
         let (flags, digits) = first_word(rest);
         let flags: u64 = flags.parse()?;
-        let bytes = before(self.alloc, &flags.to_le_bytes(), digits)?;
+        let bytes = prefixed_bytes(self.alloc, &flags.to_le_bytes(), digits)?;
         self.command(tenant, MAP_UPDATE_ELEM, descriptor, &bytes)
     }
 
@@ -194,11 +194,11 @@ impl HostPlayer {
     }
 
     /// The reply to a test run, for the words of a line: a tenant, a descriptor, and the hex digits of a packet. The context words are
-    /// those of the last line `words`, or zeros if there was none. It fails like `command`, and on the digits like `before`.
+    /// those of the last line `words`, or zeros if there was none. It fails like `command`, and on the digits like `prefixed_bytes`.
     fn run(&mut self, rest: &str) -> Result<String, CaseError> {
         let (tenant, rest) = first_word(rest);
         let (descriptor, packet) = first_word(rest);
-        let input = before(self.alloc, &self.words, packet)?;
+        let input = prefixed_bytes(self.alloc, &self.words, packet)?;
         self.command(tenant, PROG_TEST_RUN, descriptor, &input)
     }
 

@@ -6,7 +6,7 @@ use Rattle.tagged_model.specs.declared.shape.Named.{Named}
 use Rattle.tagged_model.specs.declared.shape.Target.TheVariants as target
 use Rattle.tagged_model.specs.Named.{target_of, shape_in, shapes_named}
 use Rattle.verifier.specs.Laws.{LoadedMapsHaveShapes}
-use Rattle.verifier.specs.Maps.{maps_of, is_among, entries_of}
+use Rattle.verifier.specs.Maps.{maps_of, is_among, objects_at}
 use Rattle.verifier.specs.Verified.{Accepted, IsAcceptedAs, shapes_in}
 
 module _ (fd : ℕ) (shape : MapShape) where
@@ -27,8 +27,8 @@ module _ (fd : ℕ) (shape : MapShape) where
   kept other false some = absurd (true≢false (sym some))
 
   only_shape : (fds : List ℕ) (other : ℕ)
-      → IsSome (shapes_named (entries_of fds (entry ∷ [])) other)
-      → shapes_named (entries_of fds (entry ∷ [])) other ≡ Some shape
+      → IsSome (shapes_named (objects_at fds (entry ∷ [])) other)
+      → shapes_named (objects_at fds (entry ∷ [])) other ≡ Some shape
   only_shape fds other some = kept other (is_among fds fd) some
 
   -- a program that is accepted with one entry, a map, loads only maps of this map's shape
@@ -40,7 +40,7 @@ module _ (fd : ℕ) (shape : MapShape) where
       let fds = maps_of program.code in
       let same : maps_of a.code ≡ fds = ap maps_of is.0 in
       let here : i < length fds = subst (λ (xs : List ℕ). i < length xs) same within in
-      let there : shapes_named a.entries (slice_index fds i) ≡ Some shape =
+      let there : shapes_named a.objects (slice_index fds i) ≡ Some shape =
       subst (λ (es : List Named). shapes_named es (slice_index fds i) ≡ Some shape) (sym is.1)
       (only_shape fds (slice_index fds i) (have.kept program.code (entry ∷ []) is.2 i 0 here)) in
-      subst (λ (xs : List ℕ). shapes_named a.entries (slice_index xs i) ≡ Some shape) (sym same) there
+      subst (λ (xs : List ℕ). shapes_named a.objects (slice_index xs i) ≡ Some shape) (sym same) there

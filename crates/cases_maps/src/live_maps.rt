@@ -20,7 +20,7 @@ pub struct LiveMapsPlayer {
     maps: Maps,
     arena: Arena,
     // The handles that maps have had so far, each once. A map's number in the lines is the index of its handle here.
-    keys: Vec<MapKey>,
+    handles: Vec<MapKey>,
 }
 
 impl Model for LiveMapsPlayer {
@@ -60,7 +60,7 @@ impl LiveMapsPlayer {
             alloc,
             maps: Maps::new(alloc, HashSeed::new(1, 2))?,
             arena: Arena::new(alloc, 1, PART)?,
-            keys: Vec::new(alloc),
+            handles: Vec::new(alloc),
         })
     }
 
@@ -70,28 +70,28 @@ impl LiveMapsPlayer {
         Ok(nothing(self.alloc))
     }
 
-    /// The handle of the live map whose number in the lines is `number`, in decimal digits: its index in `keys`. `NoMap` if `keys` has no
-    /// such index, or the map is not live; `Number` if the text is no number.
+    /// The handle of the live map whose number in the lines is `number`, in decimal digits: its index in `handles`. `NoMap` if `handles`
+    /// has no such index, or the map is not live; `Number` if the text is no number.
     fn live_map(&self, number: &str) -> Result<MapKey, CaseError>
         ensures { IfOk result (λ map. IsSome (live_at self.now map)) }
     {
         let number: usize = number.parse()?;
-        match self.keys.get(number) {
+        match self.handles.get(number) {
             Some(map) if self.maps.is_live(*map) => Ok(*map),
             _ => Err(CaseError::NoMap),
         }
     }
 
-    /// The number by which lines of cases name a map: the index of its handle in `keys`. If `keys` does not have the handle, this function
-    /// appends it. The live maps, which are all that contracts see, are unchanged.
+    /// The number by which lines of cases name a map: the index of its handle in `handles`. If `handles` does not have the handle, this
+    /// function appends it. The live maps, which are all that contracts see, are unchanged.
     fn number_of(&mut self, map: MapKey) -> Result<usize, AllocError>
         ensures { self.new ≡ self.old }
     {
-        if let Some(number) = self.keys.iter().position(|key| *key == map) {
+        if let Some(number) = self.handles.iter().position(|handle| *handle == map) {
             return Ok(number);
         }
-        self.keys.push(map)?;
-        Ok(self.keys.len() - 1)
+        self.handles.push(map)?;
+        Ok(self.handles.len() - 1)
     }
 
     /// Makes a new map, for the words of a line: its shape, and the number of references that are added to its first one. Returns the map's

@@ -7,7 +7,7 @@ use Rattle.byteorder.specs.Endian.{little_bytes}
 use Rattle.command_frames.specs.declared.command.BadFrame.{BadFrame}
 use Rattle.command_frames.specs.Command.{Command}
 use Rattle.command_frames.specs.Frame.{owner, reply_to}
-use Rattle.tenant.specs.Alone.{AnswersFrame, MayReply, IsFault}
+use Rattle.tenant.specs.Alone.{IsFrameResult, MayReply, IsFault}
 use Rattle.tenant.specs.Batch.{RunsInOrder}
 use Rattle.tenant.specs.Machine.{gives}
 use Rattle.tenant.specs.State.{TenantState}
@@ -98,7 +98,7 @@ batch_is_its_calls t fd (frame ∷ frames) (input ∷ inputs) (result ∷ result
     owned tests found runs left changes =
     let (between, seen, rest) = runs in
     let answer = gives (little_bytes 4 result) between in
-    let answers = subst (λ (r : Result Command BadFrame). AnswersFrame false s r answer) (sym tests.0) seen in
+    let answers = subst (λ (r : Result Command BadFrame). IsFrameResult false s r answer) (sym tests.0) seen in
     let states = set before t between in
     let reply = reply_to frame (pos 0) (little_bytes 4 result) in
     let turn : Turn = record { frame = frame; reply = reply; states = states } in

@@ -12,7 +12,7 @@ use Rattle.command_frames.specs.Laws.{IsStream, FramesInFront}
 use Rattle.host_core.specs.declared.server.ServeFaultKind.{ServeFaultKind}
 use Rattle.host_core.specs.declared.server.ServeFaultKind.TheVariants.{Read, Write, Truncated, TooManyFrames, Memory}
 use Rattle.host_core.specs.Handled.{Turn, frames_in}
-use Rattle.host_core.specs.Served.{StreamState, NoCallFailed, AnswersFrames, ServesToEnd, StopsWithFault}
+use Rattle.host_core.specs.Served.{StreamState, NoCallFailed, RepliesToFrames, ServesToEnd, StopsWithFault}
 use Rattle.host_core.specs.Laws.{stream_result, NoContentEndsAStream}
 
 is_equal : (a b : ℕ) → a ≡ b → (a == b) ≡ true
@@ -88,7 +88,7 @@ none_left new left known end = subst IsAtEnd known end
 follows : FramesInFront
     → (old new : StreamState) (count : ℕ) (bytes after rest : List ℕ) (frames : List (List ℕ))
     → old.input ≡ Some bytes → IsStream bytes frames rest
-    → AnswersFrames old new count after
+    → RepliesToFrames old new count after
     → (left : List ℕ)
     × (more : List (List ℕ))
     × (new.input ≡ Some left)

@@ -11,7 +11,7 @@ use Rattle.byteorder.specs.Endian.{little_bytes}
 use Rattle.command_frames.specs.declared.command.BadFrame.{BadFrame}
 use Rattle.command_frames.specs.Command.{Command, parsed, prog_test_run}
 use Rattle.command_frames.specs.Frame.{framed, owner}
-use Rattle.tenant.specs.Alone.{AnswersFrame, MayReply}
+use Rattle.tenant.specs.Alone.{IsFrameResult, MayReply}
 use Rattle.tenant.specs.Batch.{BatchInput, RunsInOrder}
 use Rattle.tenant.specs.Machine.{Answer, Answers, gives}
 use Rattle.tenant.specs.State.{TenantState, new_tenant}
@@ -64,7 +64,7 @@ by_frame : (frame reply : List ℕ) (s t : TenantState) (births later : List Bir
 by_frame frame reply s t births later reached seen = by (parsed frame) seen.answers seen.recorded
   where
     by : (p : Result Command BadFrame)
-        → AnswersFrame seen.refused s p seen.answer
+        → IsFrameResult seen.refused s p seen.answer
         → later ≡ births_after_frame p seen.answer births
         → IsReached t later
     by (Err fault) answers recorded =

@@ -17,7 +17,7 @@ use Rattle.host_core.specs.declared.server.ServeFault.{ServeFault}
 use Rattle.host_core.specs.declared.server.ServeFaultKind.{ServeFaultKind}
 use Rattle.host_core.specs.declared.server.ServeFaultKind.TheVariants.{Read, Write, Truncated, TooManyFrames, Memory}
 use Rattle.host_core.specs.Laws.{EachIsServedByItsMachine, UnrefusedAreServedAlone, CallsAreServedAlone}
-use Rattle.host_core.specs.Served.{NoneFaults, StreamState, NoCallFailed, Serves, ServesAlone, AnswersFrames, CutsLastReply}
+use Rattle.host_core.specs.Served.{NoneFaults, StreamState, NoCallFailed, Serves, ServesAlone, RepliesToFrames, CutsLastReply}
 use Rattle.host_core.specs.Served.{joined_replies, ServesToEnd, StopsWithFault, StopsAlone, IsFlushedAgain, ServesStream}
 use Rattle.host_core.specs.Handled.{Handles, Turn, frames_in, replies_in, HandlesInOrder}
 use Rattle.host_core.specs.inside.Frame.{ServesOneFrame, ReadsOnly, ServesFrameOrEnds, StopsInFrame}
@@ -150,7 +150,7 @@ serves_more old mid new turns frame reply out s h =
     }
 
 -- at first no frame has a reply, and nothing was read or written
-pub answered_none : (m : StreamState) → AnswersFrames m m 0 []
+pub answered_none : (m : StreamState) → RepliesToFrames m m 0 []
 answered_none m = (
   [],
   refl,
@@ -159,8 +159,8 @@ answered_none m = (
 
 -- if count frames have whole replies, and one more is served, count + 1 frames have whole replies
 pub answered_more : (old mid new : StreamState) (count : ℕ) (frame reply : List ℕ)
-    → AnswersFrames old mid count [] → ServesOneFrame mid new frame reply reply
-    → AnswersFrames old new (count + 1) []
+    → RepliesToFrames old mid count [] → ServesOneFrame mid new frame reply reply
+    → RepliesToFrames old new (count + 1) []
 answered_more old mid new count frame reply (turns, len, s) h =
     let turn = turn_of frame reply new.states in (
       turns ++ turn ∷ [],
@@ -171,7 +171,7 @@ answered_more old mid new count frame reply (turns, len, s) h =
 
 -- if n bytes of the reply to one more frame are written, the last reply is cut after count whole ones
 pub cut_off : (old mid new : StreamState) (count n : ℕ) (frame reply : List ℕ)
-    → AnswersFrames old mid count []
+    → RepliesToFrames old mid count []
     → ServesOneFrame mid new frame reply (take n reply)
     → CutsLastReply old new count
 cut_off old mid new count n frame reply (turns, len, s) h = (
@@ -184,8 +184,8 @@ cut_off old mid new count n frame reply (turns, len, s) h = (
 
 -- if count frames have whole replies, and then only bytes are read, these are the rest after the frames
 pub answered_rest : (old mid new : StreamState) (count : ℕ) (rest : List ℕ)
-    → AnswersFrames old mid count [] → ReadsOnly mid new rest
-    → AnswersFrames old new count rest
+    → RepliesToFrames old mid count [] → ReadsOnly mid new rest
+    → RepliesToFrames old new count rest
 answered_rest old mid new count rest (turns, len, s) h = (
   turns,
   len,
@@ -231,7 +231,7 @@ sound_both old mid new h k = (k.0 ∙ h.0, k.1 ∙ h.1)
 
 -- the call stops in a frame
 pub frame_stops : (old mid new : StreamState) (kind : ServeFaultKind) (count : ℕ)
-    → AnswersFrames old mid count [] → NoCallFailed old mid
+    → RepliesToFrames old mid count [] → NoCallFailed old mid
     → StopsInFrame mid new kind
     → StopsWithFault old new kind count
 frame_stops old mid new Read count answered sound ((rest, partial, waits), failed) =
@@ -271,7 +271,7 @@ frame_is_no_limit old new kind stopped same = absurd (subst (StopsInFrame old ne
 
 -- the input ends
 pub frame_done : (old mid new : StreamState) (count : ℕ)
-    → AnswersFrames old mid count [] → NoCallFailed old mid
+    → RepliesToFrames old mid count [] → NoCallFailed old mid
     → ServesFrameOrEnds mid new false
     → ServesToEnd old new count
 frame_done old mid new count answered sound (waits, end, more) = (
@@ -282,7 +282,7 @@ frame_done old mid new count answered sound (waits, end, more) = (
 
 -- the limit of frames is reached, and the input ends
 pub end_done : (old mid new : StreamState) (count limit : ℕ)
-    → count ≡ limit → AnswersFrames old mid count []
+    → count ≡ limit → RepliesToFrames old mid count []
     → NoCallFailed old mid → Consumes mid.input new.input []
     → new.output ≡ mid.output → new.flushed ≡ mid.flushed
     → new.states ≡ mid.states → IsAtEnd new.input
@@ -292,12 +292,12 @@ end_done old mid new count limit same answered sound read written flushed states
     let rest =
     answered_rest old mid new count [] answered
     (record { read = read; written = written; flushed = flushed; states = states }) in
-    (subst (λ (n : ℕ). AnswersFrames old new n []) same rest, end, sound_both old mid new sound more)
+    (subst (λ (n : ℕ). RepliesToFrames old new n []) same rest, end, sound_both old mid new sound more)
 
 -- the replies to each tenant are those of its machine
 answered_alone : CallsAreServedAlone
     → (old new : StreamState) (count : ℕ) (rest : List ℕ) → IsPartial rest
-    → AnswersFrames old new count rest
+    → RepliesToFrames old new count rest
     → ServesAlone old new count rest
 answered_alone law old new count rest partial (turns, many, s) =
     let (seen, alone, no_fault) = law old.states new.states turns s.handled in
@@ -359,9 +359,9 @@ stops_alone law old new Memory count (none, same) whole = (
 
 -- if one more frame is served and flushed, count + 1 frames have whole replies, no call failed, and all is flushed
 pub frame_more : (old mid new : StreamState) (count : ℕ)
-    → AnswersFrames old mid count [] → NoCallFailed old mid
+    → RepliesToFrames old mid count [] → NoCallFailed old mid
     → ServesFrameOrEnds mid new true
-    → AnswersFrames old new (count + 1) [] × NoCallFailed old new × IsFlushedAgain old new
+    → RepliesToFrames old new (count + 1) [] × NoCallFailed old new × IsFlushedAgain old new
 frame_more old mid new count answered sound ((frame, reply, turn), flushed, more) = (
   answered_more old
       mid new count frame reply answered turn,
@@ -371,7 +371,7 @@ frame_more old mid new count answered sound ((frame, reply, turn), flushed, more
 
 -- the limit of frames is reached, and another byte follows
 pub end_more : (old mid new : StreamState) (count limit byte : ℕ)
-    → count ≡ limit → AnswersFrames old mid count []
+    → count ≡ limit → RepliesToFrames old mid count []
     → NoCallFailed old mid → Consumes mid.input new.input (byte ∷ [])
     → new.output ≡ mid.output → new.flushed ≡ mid.flushed
     → new.states ≡ mid.states → NoCallFailed mid new
@@ -380,12 +380,12 @@ end_more old mid new count limit byte same answered sound read written flushed s
     let rest =
     answered_rest old mid new count (byte ∷ []) answered
     (record { read = read; written = written; flushed = flushed; states = states }) in
-    (byte, subst (λ (n : ℕ). AnswersFrames old new n (byte ∷ [])) same rest, sound_both old mid new sound more)
+    (byte, subst (λ (n : ℕ). RepliesToFrames old new n (byte ∷ [])) same rest, sound_both old mid new sound more)
 
 -- the limit of frames is reached, and the read that looks for another byte fails
 pub end_fails : (old mid new : StreamState) (count limit : ℕ) (kind : ServeFaultKind)
     → kind ≡ Read → count ≡ limit
-    → AnswersFrames old mid count [] → NoCallFailed old mid
+    → RepliesToFrames old mid count [] → NoCallFailed old mid
     → Consumes mid.input new.input [] → new.output ≡ mid.output
     → new.flushed ≡ mid.flushed → new.states ≡ mid.states
     → mid.read_failures < new.read_failures
@@ -395,7 +395,7 @@ end_fails old mid new count limit kind is same answered sound read written flush
     answered_rest old mid new count [] answered
     (record { read = read; written = written; flushed = flushed; states = states }) in
     subst (λ (k : ServeFaultKind). StopsWithFault old new k limit) (sym is)
-    ([], inl (lit≤ tt), subst (λ (n : ℕ). AnswersFrames old new n []) same rest, omega (arith, sound.0, failed))
+    ([], inl (lit≤ tt), subst (λ (n : ℕ). RepliesToFrames old new n []) same rest, omega (arith, sound.0, failed))
 
 -- ---- the contract of `serve`
 

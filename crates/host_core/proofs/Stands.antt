@@ -13,7 +13,7 @@ use Rattle.tenant.specs.declared.errno.Errno.{Errno}
 use Rattle.tenant.specs.declared.errno.Errno.TheVariants.{NotPermitted, Invalid}
 use Rattle.tenant.specs.Errno.{status_of}
 use Rattle.tenant.specs.State.{TenantState}
-use Rattle.tenant.specs.Alone.{AnswersFrame, MayReply}
+use Rattle.tenant.specs.Alone.{IsFrameResult, MayReply}
 
 same_byte : (xs ys : List ℕ) (k : ℕ) → k < 4 → take 4 xs ≡ take 4 ys → get_or xs k 0 ≡ get_or ys k 0
 same_byte xs ys k lt e = sym (get_or-take 4 xs k 0 lt) ∙ ap (λ (l : List ℕ). get_or l k 0) e ∙ get_or-take 4 ys k 0 lt
@@ -101,7 +101,7 @@ stands_tells front frame reply (Some s) after (inr (long_front, long_frame, e)) 
       refused,
       (
         a,
-        subst (λ (r : Result Command BadFrame). AnswersFrame refused s r a) same answers,
+        subst (λ (r : Result Command BadFrame). IsFrameResult refused s r a) same answers,
         seen ∙ same_head front frame a.status a.payload o c,
         goes,
       ),

@@ -82,8 +82,8 @@ abbrev pub joined_replies : List (List ℕ) → List ℕ
 joined_replies replies = flat_map (λ reply. reply) replies
 
 -- `count` frames got replies, each was written whole, and then the bytes `rest` were read
-abbrev pub AnswersFrames : StreamState → StreamState → ℕ → List ℕ → Type 0
-AnswersFrames old new count rest =
+abbrev pub RepliesToFrames : StreamState → StreamState → ℕ → List ℕ → Type 0
+RepliesToFrames old new count rest =
     (turns : List Turn)
     × (length turns ≡ count)
     × Serves old new turns rest (joined_replies (replies_in turns))
@@ -113,7 +113,7 @@ CutsLastReply old new count =
 -- the end of a call that replies to `count` frames: the input is at its end
 abbrev pub ServesToEnd : StreamState → StreamState → ℕ → Type 0
 ServesToEnd old new count =
-    AnswersFrames old new count [] × IsAtEnd new.input × NoCallFailed old new
+    RepliesToFrames old new count [] × IsAtEnd new.input × NoCallFailed old new
 
 -- `old` and `new` are before and after a call that ends with this fault, after `count` replies were
 -- written whole; at TooManyFrames one more byte was read, and at Memory nothing was done
@@ -121,7 +121,7 @@ abbrev pub StopsWithFault : StreamState → StreamState → ServeFaultKind → �
 StopsWithFault old new Read count =
     (rest : List ℕ)
     × IsPartial rest
-    × AnswersFrames old new count rest
+    × RepliesToFrames old new count rest
     × (old.read_failures < new.read_failures)
 StopsWithFault old new Write count =
     CutsLastReply old new count × (old.write_failures < new.write_failures)
@@ -129,11 +129,11 @@ StopsWithFault old new Truncated count =
     (rest : List ℕ)
     × IsPartial rest
     × (0 < length rest)
-    × AnswersFrames old new count rest
+    × RepliesToFrames old new count rest
     × IsAtEnd new.input
     × NoCallFailed old new
 StopsWithFault old new TooManyFrames count =
-    (byte : ℕ) × AnswersFrames old new count (byte ∷ []) × NoCallFailed old new
+    (byte : ℕ) × RepliesToFrames old new count (byte ∷ []) × NoCallFailed old new
 StopsWithFault old new Memory count = (count ≡ 0) × (new ≡ old)
 
 -- at a fault other than Write, `ServesAlone` holds of the `count` frames before it and some

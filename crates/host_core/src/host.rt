@@ -146,8 +146,8 @@ impl Host {
     ///
     /// A new tenant of this number, on any host, that is given the frames of all parts in their order then replies as the saved tenant
     /// does, unless it is refused memory. Between two parts `tenant` must not change; others may be served. A part creates one map or
-    /// program, puts at most `KEYS_OF_PART` keys (`saving`) into a map, or opens or closes descriptors. So a save of any size takes the
-    /// memory of one part at a time.
+    /// program, puts at most `KEYS_PER_SAVE_PART` keys (`saving`) into a map, or opens or closes descriptors. So a save of any size takes
+    /// the memory of one part at a time.
     ///
     /// # Errors
     ///

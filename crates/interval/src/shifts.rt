@@ -9,23 +9,23 @@ use crate::range::{Range, greatest};
 use words::ExtendedBits;
 
 /// `by` modulo 64 (`wide`) or 32: the number of bits by which a shift by `by` shifts (RFC 9669, section 4.1).
-fn places(wide: bool, by: u64) -> u64
+fn bits_shifted(wide: bool, by: u64) -> u64
     ensures value { result ≡ by % width wide }
     ensures bound { result < 64 }
 {
     if wide { by % 64 } else { by % 32 }
 }
 
-/// The range of the members of `a`, numbers of 64 bits (`wide`) or 32, shifted left by `places` bits; all numbers of that width if the
-/// shifted greatest member does not fit that width. `shift_left` gives `places` below the width, by the function of that name; the contract
-/// only requires it below 64, the bound of a Rust shift of 64 bits.
-fn scaled(wide: bool, a: Range, places: u64) -> Range
+/// The range of the members of `a`, numbers of 64 bits (`wide`) or 32, shifted left by `bits` bits; all numbers of that width if the
+/// shifted greatest member does not fit that width. `shift_left` gives `bits` below the width, by `bits_shifted`; the contract only
+/// requires it below 64, the bound of a Rust shift of 64 bits.
+fn scaled(wide: bool, a: Range, bits: u64) -> Range
     requires first { a.hi < 2 ^ width wide }
-    requires bound { places < 64 }
-    ensures { result ≡ scaled_range (width wide) a places }
+    requires bound { bits < 64 }
+    ensures { result ≡ scaled_range (width wide) a bits }
 {
-    if a.hi <= greatest(wide) >> places {
-        Range::new(a.lo << places, a.hi << places)
+    if a.hi <= greatest(wide) >> bits {
+        Range::new(a.lo << bits, a.hi << bits)
     } else {
         Range::full(wide)
     }
@@ -38,7 +38,7 @@ pub(crate) fn shift_left(wide: bool, a: Range, b: Range) -> Range
     ensures { result ≡ shift_left_range (width wide) a b }
 {
     if b.is_constant() {
-        scaled(wide, a, places(wide, b.lo))
+        scaled(wide, a, bits_shifted(wide, b.lo))
     } else {
         Range::full(wide)
     }
@@ -50,8 +50,8 @@ pub(crate) fn shift_right(wide: bool, a: Range, b: Range) -> Range
     ensures { result ≡ shift_right_range (width wide) a b }
 {
     if b.is_constant() {
-        let places = places(wide, b.lo);
-        Range::new(a.lo >> places, a.hi >> places)
+        let bits = bits_shifted(wide, b.lo);
+        Range::new(a.lo >> bits, a.hi >> bits)
     } else {
         Range::new(0, a.hi)
     }

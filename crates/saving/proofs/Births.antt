@@ -28,8 +28,8 @@ use Rattle.insn_set.specs.declared.insn.Insn.{Insn}
 use Rattle.verifier.specs.declared.refusal.Refusal.{Refusal}
 use Rattle.tenant.specs.Machine.{Answer, cause_errno, Answers, refuses, refuses_for_memory, kind_of, asked_shape, new_map}
 use Rattle.tenant.specs.Machine.{room_for, created_at, created_as, created_under, created, handles_from, named_handle}
-use Rattle.tenant.specs.Machine.{loaded_program, answer_of_judgement, LoadsAs, LoadsUnder, Loads, closed, on_map, of_object}
-use Rattle.tenant.specs.Machine.{of_handle, gives_or_no_entry, element_put, element_taken_out, outcome_answer, run_of, longest_packet, maps_given}
+use Rattle.tenant.specs.Machine.{loaded_program, result_of_judgement, LoadsAs, LoadsUnder, Loads, closed, on_map, of_object}
+use Rattle.tenant.specs.Machine.{of_handle, gives_or_no_entry, element_put, element_taken_out, outcome_result, run_of, longest_packet, maps_given}
 use Rattle.saving.specs.Alike.{HoldsItsMaps}
 use Rattle.saving.specs.Births.{Birth, OfMap, OfProgram, number, birth_of, latest_at, is_of_map, is_of_program, IsBorn}
 use Rattle.saving.specs.Births.{AreInOrder, AreBirths, is_open_program, lives, with_birth, with_opened, births_after}
@@ -371,7 +371,7 @@ module _ {s : TenantState} (h : HoldsItsMaps s) (bs : List Birth) (are : AreBirt
       )
 
   judged_births : (fd : ℕ) (j : Result (List Insn) Refusal)
-      → table.lowest s.objects ≡ Some fd → Born (answer_of_judgement s fd j)
+      → table.lowest s.objects ≡ Some fd → Born (result_of_judgement s fd j)
   judged_births fd (Err refusal) low = refused_births (cause_errno refusal.cause) s are
   judged_births fd (Ok insns) low =
       let l = loaded_program s insns in
@@ -389,7 +389,7 @@ module _ {s : TenantState} (h : HoldsItsMaps s) (bs : List Birth) (are : AreBirt
 
       as_seen : (refused : Bool) (fd : ℕ) → table.lowest s.objects ≡ Some fd → LoadsAs refused s fd slots a → Born a
       as_seen true fd low e = as_born (refuses_for_memory s) e (flagged true)
-      as_seen false fd low (j, judges, e) = as_born (answer_of_judgement s fd j) e (judged_births fd j low)
+      as_seen false fd low (j, judges, e) = as_born (result_of_judgement s fd j) e (judged_births fd j low)
 
       under : (o : Option ℕ) → table.lowest s.objects ≡ o → LoadsUnder refused s o slots a → Born a
       under None low e = as_born (refuses TooManyOpen s) e are
@@ -626,7 +626,7 @@ module _ (s : TenantState) where
   taken_same handle m key (Ok value) = refl
 
   outcome_same : (o : Outcome) (t : TenantState)
-      → t.objects ≡ s.objects → (outcome_answer o t).after.objects ≡ s.objects
+      → t.objects ≡ s.objects → (outcome_result o t).after.objects ≡ s.objects
   outcome_same (Value n) t e = e
   outcome_same Fault t e = e
 

@@ -15,7 +15,7 @@ use Rattle.tagged_model.specs.declared.shape.MapKind.TheVariants.{Hash, Array}
 use Rattle.tagged_model.specs.declared.shape.MapShape.{MapShape}
 use Rattle.tenant.specs.declared.object.OpenObject.{OpenObject}
 use Rattle.tenant.specs.State.{Map, TenantState, new_tenant, live}
-use Rattle.tenant.specs.Alone.{AnswersFrame, IsServedAlone}
+use Rattle.tenant.specs.Alone.{IsFrameResult, IsServedAlone}
 use Rattle.saving.specs.Births.{Birth, OfMap, OfProgram, number, AreInOrder, IsBorn}
 use Rattle.saving.specs.Filler.{filler}
 use Rattle.tenant.specs.Described.{type_number}
@@ -149,7 +149,7 @@ module _ (law : EncodingInvertsParsing) (tenant : ℕ) where
         replies = reply_to frame a.status a.payload ∷ later.replies;
         seen = (
           Some a.after,
-          (a, subst (λ (p : Result Command BadFrame). AnswersFrame false s p a) (sym carried.0) answers, refl, refl),
+          (a, subst (λ (p : Result Command BadFrame). IsFrameResult false s p a) (sym carried.0) answers, refl, refl),
           later.seen,
         );
         good = ((well.0, a.payload, ap (λ (status : ℤ). reply_to frame status a.payload) well.1), later.good);

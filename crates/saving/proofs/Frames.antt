@@ -6,7 +6,7 @@ use Rattle.command_frames.specs.Command.{Command, parsed}
 use Rattle.command_frames.specs.Frame.{reply_to}
 use Rattle.tenant.specs.State.{TenantState}
 use Rattle.tenant.specs.Machine.{Answer, refuses}
-use Rattle.tenant.specs.Alone.{frame_errno, AnswersFrame, RepliesUnder, MayReply, RepliesInOrder, IsServedAlone}
+use Rattle.tenant.specs.Alone.{frame_errno, IsFrameResult, RepliesUnder, MayReply, RepliesInOrder, IsServedAlone}
 use Rattle.tenant.specs.Laws.{OneAlone}
 use Rattle.saving.specs.Alike.{IsAlike, HoldsItsMaps}
 use Rattle.saving.specs.Laws.{MapsAreHeld, AlikeIsBisimulation, AlikeStatesReplyAlike}
@@ -21,13 +21,13 @@ module _ (one_alone : OneAlone) (held : MapsAreHeld) (bisimulation : AlikeIsBisi
   -- the reply to a frame in the other state, and the state after it
   record FrameToo (refused : Bool) (t : TenantState) (p : Result Command BadFrame) (a : Answer) : Type 0 where
     b : Answer
-    answers : AnswersFrame refused t p b
+    answers : IsFrameResult refused t p b
     status : b.status ≡ a.status
     payload : b.payload ≡ a.payload
     after : AreAlike a.after b.after
 
   frame_too : (refused : Bool) (s t : TenantState) (p : Result Command BadFrame) (a : Answer)
-      → AreAlike s t → AnswersFrame refused s p a → FrameToo refused t p a
+      → AreAlike s t → IsFrameResult refused s p a → FrameToo refused t p a
   frame_too refused s t (Err fault) a h is =
       subst (λ (x : Answer). FrameToo refused t (Err fault) x) (sym is)
       (record { b = refuses (frame_errno fault) t; answers = refl; status = refl; payload = refl; after = h })

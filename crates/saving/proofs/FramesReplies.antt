@@ -8,14 +8,14 @@ use Rattle.command_frames.specs.Command.{Command, parsed}
 use Rattle.command_frames.specs.Frame.{head_of, owner, reply_bytes, reply_to}
 use Rattle.tenant.specs.declared.errno.Errno.{Errno}
 use Rattle.tenant.specs.declared.errno.Errno.TheVariants.{BadAddress}
-use Rattle.tenant.specs.Alone.{AnswersFrame, MayReply, frame_errno}
+use Rattle.tenant.specs.Alone.{IsFrameResult, MayReply, frame_errno}
 use Rattle.tenant.specs.Errno.{status_of}
 use Rattle.tenant.specs.Machine.{refuses}
 use Rattle.tenant.specs.Replies.{Writes}
 use Rattle.tenant.specs.State.{TenantState}
 use Rattle.saving.specs.Births.{Birth}
 use Rattle.saving.specs.Recorded.{RecordsFrame, births_after_frame}
-use Rattle.saving.specs.inside.Frames.{AnswersCommand}
+use Rattle.saving.specs.inside.Frames.{RepliesToCommand}
 use Rattle.saving.proofs.FramesHeads.{heads}
 use Rattle.saving.proofs.FramesStatuses.{no_fault_written}
 
@@ -32,13 +32,13 @@ by_head frame h headed status payload =
 pub may_tell : {births later : List Birth} (frame : List ℕ) (command : Command) (h : Head)
     (reply : List ℕ) (before after : TenantState)
     → head_of frame ≡ Some h → parsed frame ≡ Ok command
-    → AnswersCommand command h reply before after births later
+    → RepliesToCommand command h reply before after births later
     → MayReply frame reply (Some before) (Some after)
 may_tell frame command h reply before after headed is t = (
   t.refused,
   (
     t.answer,
-    subst (λ (r : Result Command BadFrame). AnswersFrame t.refused before r t.answer) (sym is) t.answers,
+    subst (λ (r : Result Command BadFrame). IsFrameResult t.refused before r t.answer) (sym is) t.answers,
     t.written ∙ by_head frame h headed t.answer.status t.answer.payload,
     ap Some t.left,
   ),
@@ -48,12 +48,12 @@ may_tell frame command h reply before after headed is t = (
 pub may_record : (frame : List ℕ) (command : Command) (h : Head) (reply : List ℕ)
     (before after : TenantState) (births later : List Birth)
     → head_of frame ≡ Some h → parsed frame ≡ Ok command
-    → AnswersCommand command h reply before after births later
+    → RepliesToCommand command h reply before after births later
     → RecordsFrame frame reply before after births later
 may_record frame command h reply before after births later headed is t = record {
   refused = t.refused;
   answer = t.answer;
-  answers = subst (λ (r : Result Command BadFrame). AnswersFrame t.refused before r t.answer) (sym is) t.answers;
+  answers = subst (λ (r : Result Command BadFrame). IsFrameResult t.refused before r t.answer) (sym is) t.answers;
   reply_is = t.written ∙ by_head frame h headed t.answer.status t.answer.payload;
   left = t.left;
   recorded = subst (λ (r : Result Command BadFrame). later ≡ births_after_frame r t.answer births) (sym is) t.recorded;
@@ -78,7 +78,7 @@ refused_frame frame reply s fault errno h headed is same written = (
   false,
   (
     refuses errno s,
-    subst (λ (r : Result Command BadFrame). AnswersFrame false s r (refuses errno s)) (sym is)
+    subst (λ (r : Result Command BadFrame). IsFrameResult false s r (refuses errno s)) (sym is)
         (ap (λ (x : Errno). refuses x s) same),
     written ∙ by_head frame h headed (status_of errno) [],
     refl,
@@ -96,7 +96,7 @@ refused_record frame reply s births fault errno h headed is same written = recor
   refused = false;
   answer = refuses errno s;
   answers =
-      subst (λ (r : Result Command BadFrame). AnswersFrame false s r (refuses errno s)) (sym is)
+      subst (λ (r : Result Command BadFrame). IsFrameResult false s r (refuses errno s)) (sym is)
       (ap (λ (x : Errno). refuses x s) same);
   reply_is = written ∙ by_head frame h headed (status_of errno) [];
   left = refl;

@@ -12,7 +12,7 @@ use Rattle.tenant.specs.declared.reply.Reply.{Reply}
 use Rattle.tenant.specs.declared.reply.Reply.TheVariants as reply
 use Rattle.tenant.specs.Errno.{status_of}
 use Rattle.tenant.specs.Machine.{Answer}
-use Rattle.tenant.specs.Replies.{shown_answer, IsWritable, Writes}
+use Rattle.tenant.specs.Replies.{shown_reply, IsWritable, Writes}
 use Rattle.tenant.specs.State.{TenantState}
 
 -- the lowest byte of a status
@@ -49,20 +49,20 @@ apart h reply a written other e = other (ap (λ (b : List ℕ). get_or b 8 0) (s
 
 -- the reply that is written of a writable result is not that of a fault
 pub no_fault_written : (h : Head) (bytes : List ℕ) (r : Result Reply Errno) (s : TenantState)
-    → IsWritable r → Writes h bytes (shown_answer r s)
+    → IsWritable r → Writes h bytes (shown_reply r s)
     → bytes ≢ reply_bytes h.tenant h.command (status_of BadAddress) []
 no_fault_written h bytes (Ok reply.Done) s writable written =
-    apart h bytes (shown_answer (Ok reply.Done) s) written no_zero
+    apart h bytes (shown_reply (Ok reply.Done) s) written no_zero
 no_fault_written h bytes (Ok (reply.Opened fd)) s writable written =
-    apart h bytes (shown_answer (Ok (reply.Opened fd)) s) written (no_small_fault fd writable)
+    apart h bytes (shown_reply (Ok (reply.Opened fd)) s) written (no_small_fault fd writable)
 no_fault_written h bytes (Ok (reply.Value value)) s writable written =
-    apart h bytes (shown_answer (Ok (reply.Value value)) s) written no_zero
+    apart h bytes (shown_reply (Ok (reply.Value value)) s) written no_zero
 no_fault_written h bytes (Ok (reply.Key key)) s writable written =
-    apart h bytes (shown_answer (Ok (reply.Key key)) s) written no_zero
+    apart h bytes (shown_reply (Ok (reply.Key key)) s) written no_zero
 no_fault_written h bytes (Ok (reply.Number number)) s writable written =
-    apart h bytes (shown_answer (Ok (reply.Number number)) s) written no_zero
+    apart h bytes (shown_reply (Ok (reply.Number number)) s) written no_zero
 no_fault_written h bytes (Ok (reply.Refused refusal)) s writable written =
     -- a reply with a payload is longer
     λ e. let wrong : 14 ≡ 8 = ap (λ (b : List ℕ). get_or b 0 0) (sym written ∙ e) in absurd (omega (arith, wrong))
 no_fault_written h bytes (Err errno) s writable written =
-    apart h bytes (shown_answer (Err errno) s) written (other_errno errno writable)
+    apart h bytes (shown_reply (Err errno) s) written (other_errno errno writable)

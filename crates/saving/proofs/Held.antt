@@ -27,7 +27,7 @@ use Rattle.insn_set.specs.declared.insn.Insn.{Insn}
 use Rattle.verifier.specs.declared.refusal.Refusal.{Refusal}
 use Rattle.tenant.specs.Machine.{Answer, refuses, kind_of, asked_shape, new_map, room_for, created_at, created_as, created_under, created}
 use Rattle.tenant.specs.Machine.{of_handle, of_object, on_map, gives_or_no_entry, element_put, element_taken_out, loaded_program}
-use Rattle.tenant.specs.Machine.{answer_of_judgement, LoadsAs, LoadsUnder, Loads, longest_packet, maps_given, maps_left, outcome_answer, run_of, closed}
+use Rattle.tenant.specs.Machine.{result_of_judgement, LoadsAs, LoadsUnder, Loads, longest_packet, maps_given, maps_left, outcome_result, run_of, closed}
 use Rattle.tenant.specs.Machine.{Answers}
 use Rattle.saving.specs.Alike.{HoldsItsMaps}
 use Rattle.saving.specs.Laws.{MapsAreHeld}
@@ -251,7 +251,7 @@ module _ {s : TenantState} (h : HoldsItsMaps s) where
       was p (inr e) = e
 
   judged_held : (fd : ℕ) (j : Result (List Insn) Refusal)
-      → table.lowest s.objects ≡ Some fd → HoldsItsMaps (answer_of_judgement s fd j).after
+      → table.lowest s.objects ≡ Some fd → HoldsItsMaps (result_of_judgement s fd j).after
   judged_held fd (Err refusal) low = h
   judged_held fd (Ok insns) low =
       opened_held fd (loaded_program s insns) low (λ p e. handles_named s.objects (maps_of insns) p e)
@@ -285,7 +285,7 @@ module _ {s : TenantState} (h : HoldsItsMaps s) where
       → ((handle : ℕ) → list_any (λ m. m.1 == handle) l.maps ≡ true → is_named s.objects handle ≡ true)
       → ((fd : ℕ) → is_some (left fd) ≡ is_some (maps_given s l fd))
       → (o : Outcome)
-      → HoldsItsMaps (outcome_answer o (record s { maps = maps_left left l.maps s.maps })).after
+      → HoldsItsMaps (outcome_result o (record s { maps = maps_left left l.maps s.maps })).after
   left_held l left named same (Value n) =
       changed_held (maps_left left l.maps s.maps) s.refused (length_left left l.maps s.maps)
       (left_handles left l.maps s.maps (program_left l h named left same))

@@ -10,16 +10,16 @@ use Rattle.insn_set.specs.Program.{IsProgram, program_bytes}
 use Rattle.tenant.specs.declared.errno.Errno.{Errno}
 use Rattle.tenant.specs.declared.errno.Errno.TheVariants.{BadAddress}
 use Rattle.tenant.specs.declared.reply.Reply.{Reply}
-use Rattle.tenant.specs.Alone.{AnswersFrame, MayReply}
+use Rattle.tenant.specs.Alone.{IsFrameResult, MayReply}
 use Rattle.tenant.specs.Errno.{status_of}
 use Rattle.tenant.specs.Machine.{Answer, Loads}
-use Rattle.tenant.specs.Replies.{shown_answer, IsWritable}
+use Rattle.tenant.specs.Replies.{shown_reply, IsWritable}
 use Rattle.tenant.specs.State.{TenantState}
 use Rattle.saving.specs.Births.{Birth, with_opened}
 use Rattle.saving.specs.Installs.{load_frame, load_reply}
 use Rattle.saving.specs.Recorded.{RecordsFrame, births_after_frame}
 use Rattle.saving.specs.Restored.{load_of}
-use Rattle.saving.specs.inside.Frames.{AnswersCommand}
+use Rattle.saving.specs.inside.Frames.{RepliesToCommand}
 use Rattle.command_frames.specs.Laws.{EncodingInvertsParsing}
 use Rattle.saving.proofs.ByFrames.{program_carried}
 use Rattle.saving.proofs.FramesStatuses.{no_fault_written}
@@ -29,9 +29,9 @@ module _ (insns : List Insn) (refused : Bool) (a : Answer) (before after : Tenan
     (left : after ≡ a.after) where
   -- the command that loads the program gets this result, and then the births are those after the load
   pub command_loaded : (births later : List Birth) (r : Result Reply Errno)
-      → a ≡ shown_answer r after → IsWritable r
+      → a ≡ shown_reply r after → IsWritable r
       → later ≡ with_opened a.status a.after births
-      → AnswersCommand (load_of insns) (record { tenant = 0; command = 0 })
+      → RepliesToCommand (load_of insns) (record { tenant = 0; command = 0 })
       (reply_bytes 0 0 a.status a.payload) before after births
       later
   command_loaded births later r shown writable is =
@@ -50,9 +50,9 @@ module _ (insns : List Insn) (refused : Bool) (a : Answer) (before after : Tenan
 
   module _ (law : EncodingInvertsParsing) (number : ℕ) (is : IsProgram insns) (status : ℤ) (status_is : status ≡ a.status)
       (none : a.payload ≡ []) where
-    carried : AnswersFrame refused before (parsed (load_frame number insns)) a
+    carried : IsFrameResult refused before (parsed (load_frame number insns)) a
     carried =
-        subst (λ (c : Result Command BadFrame). AnswersFrame refused before c a)
+        subst (λ (c : Result Command BadFrame). IsFrameResult refused before c a)
         (sym (program_carried law number insns is)) loads
 
     -- the reply to the load with this status has the status and the payload of the machine's result
@@ -81,7 +81,7 @@ module _ (insns : List Insn) (refused : Bool) (a : Answer) (before after : Tenan
 
     -- the reply to the frame that loads the program is not that of a fault
     pub frame_no_fault : (r : Result Reply Errno)
-        → a ≡ shown_answer r after → IsWritable r
+        → a ≡ shown_reply r after → IsWritable r
         → load_reply number insns status ≢ reply_to (load_frame number insns) (status_of BadAddress) []
     frame_no_fault r shown writable =
         let frame = load_frame number insns in

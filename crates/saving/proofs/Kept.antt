@@ -20,7 +20,7 @@ use Rattle.tagged_model.specs.declared.shape.Target.{Target}
 use Rattle.tagged_model.specs.Named.{target_of, shape_in, shapes_named}
 use Rattle.verifier.specs.Laws.{LoadedMapsHaveShapes}
 use Rattle.verifier.specs.Verdict.{IsAccepted}
-use Rattle.verifier.specs.Maps.{without, distinct, is_among, maps_of, entries_of}
+use Rattle.verifier.specs.Maps.{without, distinct, is_among, maps_of, objects_at}
 use Rattle.tenant.specs.declared.object.OpenObject.{OpenObject}
 use Rattle.tenant.specs.declared.object.OpenObject.TheVariants as object
 use Rattle.tenant.specs.Loaded.{LoadedProgram}
@@ -410,9 +410,9 @@ loaded_whole law s long insns program accepted =
       named = targets s;
       accepted = accepted;
       picked = refl;
-      shaped = ap (λ (fds : List ℕ). entries_of fds (targets s)) (sym is.keys)
+      shaped = ap (λ (fds : List ℕ). objects_at fds (targets s)) (sym is.keys)
           ∙ ap (λ (os : List (Option OpenObject)).
-          entries_of (keys_of (handles_from s.objects (maps_of insns))) (targets_from s table.first_descriptor os))
+          objects_at (keys_of (handles_from s.objects (maps_of insns))) (targets_from s table.first_descriptor os))
           (sym (table_of s.objects long))
           ∙ seen s s (table.named s.objects) (handles_from s.objects (maps_of insns)) is.opened (λ handle e. refl);
       bound = is.keys;

@@ -33,7 +33,7 @@ use Rattle.verifier.specs.declared.refusal.Refusal.{Refusal}
 use Rattle.verifier.specs.Judgement.{Judges}
 use Rattle.tenant.specs.Machine.{Answer, Answers, refuses, refuses_for_memory, kind_of, asked_shape, new_map, room_for, created_at, created_as}
 use Rattle.tenant.specs.Machine.{created_under, created, of_handle, of_object, on_map, gives_or_no_entry, element_put, element_taken_out, targets}
-use Rattle.tenant.specs.Machine.{loaded_program, answer_of_judgement, LoadsAs, LoadsUnder, Loads, longest_packet, maps_given, maps_left, outcome_answer, run_of}
+use Rattle.tenant.specs.Machine.{loaded_program, result_of_judgement, LoadsAs, LoadsUnder, Loads, longest_packet, maps_given, maps_left, outcome_result, run_of}
 use Rattle.tenant.specs.Machine.{closed}
 use Rattle.saving.specs.Alike.{HoldsItsMaps}
 use Rattle.saving.specs.Restorable.{AreDistinct, IsWholeTable, IsWholeMap, IsWholeProgram, IsRestorable}
@@ -251,7 +251,7 @@ module _ {s : TenantState} (can : IsRestorable s) where
   ran_kept : (l : LoadedProgram) (fd : ℕ)
       → table.named s.objects fd ≡ Some (object.Program l)
       → (left : MapsByDescriptor) → ((m : ℕ) → LeavesMap (maps_given s l m) (left m))
-      → (o : Outcome) → Keeps (outcome_answer o (record s { maps = maps_left left l.maps s.maps }))
+      → (o : Outcome) → Keeps (outcome_result o (record s { maps = maps_left left l.maps s.maps }))
   ran_kept l fd there left each o = by o
     where
       whole : IsWholeProgram s l
@@ -263,7 +263,7 @@ module _ {s : TenantState} (can : IsRestorable s) where
           (found_all left s l.maps l.maps each (λ d e. refl) (subst AreOnce (sym whole.bound) (distinct_once _)))
           refl (λ p. leaves_self (live s p))
 
-      by : (o : Outcome) → Keeps (outcome_answer o (record s { maps = maps_left left l.maps s.maps }))
+      by : (o : Outcome) → Keeps (outcome_result o (record s { maps = maps_left left l.maps s.maps }))
       by (Value n) holds = contents_kept can (maps_left left l.maps s.maps) s.refused holds pointwise
       by Fault holds = contents_kept can (maps_left left l.maps s.maps) s.refused holds pointwise
 
@@ -388,7 +388,7 @@ module _ {s : TenantState} (can : IsRestorable s) where
   judged_kept : LoadedMapsHaveShapes
       → (fd : ℕ) (slots : List ℕ) (j : Result (List Insn) Refusal)
       → table.lowest s.objects ≡ Some fd → Judges (targets s) slots j
-      → Keeps (answer_of_judgement s fd j)
+      → Keeps (result_of_judgement s fd j)
   judged_kept law fd slots (Err refusal) low judges = λ holds. can
   judged_kept law fd slots (Ok insns) low (program, spelled, fine) = λ holds.
       opened_kept fd (loaded_program s insns) low (loaded_whole law s can.held.descriptors insns program fine) holds
@@ -404,7 +404,7 @@ module _ {s : TenantState} (can : IsRestorable s) where
       as_seen : (refused : Bool) (fd : ℕ) → table.lowest s.objects ≡ Some fd → LoadsAs refused s fd slots a → Keeps a
       as_seen true fd low e = as_kept (refuses_for_memory s) e (flag_kept true)
       as_seen false fd low (j, judges, e) =
-          as_kept (answer_of_judgement s fd j) e (judged_kept law fd slots j low judges)
+          as_kept (result_of_judgement s fd j) e (judged_kept law fd slots j low judges)
 
       under : (o : Option ℕ) → table.lowest s.objects ≡ o → LoadsUnder refused s o slots a → Keeps a
       under None low e = as_kept (refuses TooManyOpen s) e (λ holds. can)

@@ -15,7 +15,7 @@ use Rattle.tagged_model.specs.declared.shape.Named.{Named}
 use Rattle.tagged_model.specs.declared.shape.Target.{Target}
 use Rattle.tagged_model.specs.declared.shape.Target.TheVariants as target
 use Rattle.tagged_model.specs.State.{set_at}
-use Rattle.verifier.specs.Maps.{maps_of, is_among, entries_of}
+use Rattle.verifier.specs.Maps.{maps_of, is_among, objects_at}
 use Rattle.verifier.specs.Verdict.{IsAccepted}
 use Rattle.tenant.specs.declared.object.OpenObject.{OpenObject}
 use Rattle.tenant.specs.declared.object.OpenObject.TheVariants as object
@@ -30,10 +30,10 @@ use Rattle.saving.proofs.Tables.{Opened, table, tabled, IsDescriptor, IsOnlyFree
 use Rattle.saving.proofs.States.{state_of, same_state, opened_names}
 
 -- a verdict depends on no other descriptors than those of the maps that the program loads
-abbrev pub SameEntriesSameVerdict : Type 0
-SameEntriesSameVerdict =
+abbrev pub SameObjectsSameVerdict : Type 0
+SameObjectsSameVerdict =
     (code : List Insn) (a b : List Named)
-    → entries_of (maps_of code) a ≡ entries_of (maps_of code) b
+    → objects_at (maps_of code) a ≡ objects_at (maps_of code) b
     → IsAccepted code a
     → IsAccepted code b
 
@@ -138,7 +138,7 @@ module _ (x s : TenantState) (f : Opened) (ms : List (ℕ × ℕ)) (are_open : A
 
   -- the targets that the verifier reads at the program's descriptors are the shapes of its maps
   pub seen :
-      entries_of (keys_of ms) (targets_from x first_descriptor (table f)) ≡ shapes_from s ms first_descriptor most
+      objects_at (keys_of ms) (targets_from x first_descriptor (table f)) ≡ shapes_from s ms first_descriptor most
   seen = seen_from first_descriptor most (omega arith) (omega arith)
 
 -- ---- the load
@@ -160,27 +160,27 @@ open_named f (m ∷ ms) handle h e =
 
 module _ (s : TenantState) (f : Opened) (l : LoadedProgram) (whole : IsWholeProgram s l)
     (are_open : AreOpen f l.maps) where
-  entries : entries_of (maps_of l.insns) (targets (state_of s f)) ≡ l.named
-  entries =
-      ap (λ (fds : List ℕ). entries_of fds (targets (state_of s f))) (sym whole.bound)
+  named_again : objects_at (maps_of l.insns) (targets (state_of s f)) ≡ l.named
+  named_again =
+      ap (λ (fds : List ℕ). objects_at fds (targets (state_of s f))) (sym whole.bound)
       ∙ seen (state_of s f) s f l.maps are_open (λ handle e. live_if s (table f) handle e)
       ∙ sym whole.shaped
 
   loaded : loaded_program (state_of s f) l.insns ≡ l
   loaded =
-      ap₂ (λ (ns : List Named) (ms : List (ℕ × ℕ)). record { insns = l.insns; named = ns; maps = ms }) entries
+      ap₂ (λ (ns : List Named) (ms : List (ℕ × ℕ)). record { insns = l.insns; named = ns; maps = ms }) named_again
       (ap (handles_from (table f)) (sym whole.bound) ∙ same_handles f l.maps are_open)
 
-  accepted_again : SameEntriesSameVerdict → IsAccepted l.insns (targets (state_of s f))
+  accepted_again : SameObjectsSameVerdict → IsAccepted l.insns (targets (state_of s f))
   accepted_again same =
-      same l.insns whole.named (targets (state_of s f)) (sym whole.picked ∙ sym entries) whole.accepted
+      same l.insns whole.named (targets (state_of s f)) (sym whole.picked ∙ sym named_again) whole.accepted
 
   -- the handles that the program names were named before
   names_old : (handle : ℕ) → names handle (object.Program l) ≡ true → is_named (table f) handle ≡ true
   names_old handle e = open_named f l.maps handle are_open e
 
   -- the load of the program succeeds, and opens it at the only free descriptor
-  pub load_answer : SameEntriesSameVerdict
+  pub load_answer : SameObjectsSameVerdict
       → (fd : ℕ) → IsOnlyFree f fd
       → Answers false (state_of s f) (load_of l.insns) (opens fd (state_of s (set_at f fd (Some (object.Program l)))))
   load_answer same fd free =

@@ -11,7 +11,7 @@ use Rattle.tenant.specs.declared.object.OpenObject.TheVariants as object
 use Rattle.bpf_maps.specs.Limits.{most_bytes}
 use Rattle.tenant.specs.State.{Map, TenantState, live, map_area, maps_area, free_handle, is_named, with_map_at}
 use Rattle.tenant.specs.Machine.{room_for}
-use Rattle.saving.specs.Alike.{moved_objects, IsMovedBy, IsAlikeAnswer, HoldsItsMaps}
+use Rattle.saving.specs.Alike.{moved_objects, IsMovedBy, IsAlikeResult, HoldsItsMaps}
 use Rattle.saving.proofs.Lists.{there_is, not_none, set_by_index, there_within, total_shuffled, IsShuffled, same_room}
 use Rattle.saving.proofs.Moved.{open_moved, same_objects}
 
@@ -35,7 +35,7 @@ same_named h handle e = h.by.same handle (h.one.live_if_named handle e)
 -- replies with one status and one payload that change no state are alike
 pub unchanged : {move : ℕ → ℕ} {s t : TenantState}
     → ArePair move s t → (status : ℤ) (payload : List ℕ)
-    → IsAlikeAnswer (record { status = status; payload = payload; after = s })
+    → IsAlikeResult (record { status = status; payload = payload; after = s })
     (record { status = status; payload = payload; after = t })
 unchanged {move} h status payload = record { status = refl; payload = refl; after = (move, h.by) }
 

@@ -8,7 +8,7 @@ use Rattle.std.proofs.lemmas.Option.{slice_get_within}
 use Rattle.command_frames.specs.Command.{Command}
 use Rattle.fd_table.specs.Table.{first_descriptor, most}
 use Rattle.tenant.specs.State.{TenantState}
-use Rattle.saving.specs.declared.save_parts.TheConstants.{KEYS_OF_PART}
+use Rattle.saving.specs.declared.save_parts.TheConstants.{KEYS_PER_SAVE_PART}
 use Rattle.saving.specs.Births.{Birth, OfProgram}
 use Rattle.saving.specs.Pieces.{first_pieces, pieces}
 use Rattle.saving.specs.Restored.{closings}
@@ -31,41 +31,41 @@ first_left births i b within is =
 module _ (s : TenantState) where
   -- ---- the parts of one birth
 
-  -- the number of a birth's parts is one more than that of its keys divided by KEYS_OF_PART, rounded up
+  -- the number of a birth's parts is one more than that of its keys divided by KEYS_PER_SAVE_PART, rounded up
   pub part_count : (b : Birth) (keys : ℕ)
       → keys ≡ length (key_commands s b)
-      → 1 + (keys / KEYS_OF_PART + min 1 (keys % KEYS_OF_PART)) ≡ length (birth_parts s b)
+      → 1 + (keys / KEYS_PER_SAVE_PART + min 1 (keys % KEYS_PER_SAVE_PART)) ≡ length (birth_parts s b)
   part_count b keys is =
-      let same : keys / KEYS_OF_PART + min 1 (keys % KEYS_OF_PART) ≡ length (pieces KEYS_OF_PART (key_commands s b)) =
-      ap (λ (n : ℕ). n / KEYS_OF_PART + min 1 (n % KEYS_OF_PART)) is
-      ∙ sym (piece_count KEYS_OF_PART (omega arith) (key_commands s b)) in
+      let same : keys / KEYS_PER_SAVE_PART + min 1 (keys % KEYS_PER_SAVE_PART) ≡ length (pieces KEYS_PER_SAVE_PART (key_commands s b)) =
+      ap (λ (n : ℕ). n / KEYS_PER_SAVE_PART + min 1 (n % KEYS_PER_SAVE_PART)) is
+      ∙ sym (piece_count KEYS_PER_SAVE_PART (omega arith) (key_commands s b)) in
       omega (arith, same)
 
-  -- a part after a birth's first one puts the next KEYS_OF_PART keys, or as many as are left, if some are
+  -- a part after a birth's first one puts the next KEYS_PER_SAVE_PART keys, or as many as are left, if some are
   pub key_part : (b : Birth) (index piece first keys : ℕ)
       → index ≡ suc piece
-      → first ≡ min (piece * KEYS_OF_PART) (2 ^ 64 - 1)
+      → first ≡ min (piece * KEYS_PER_SAVE_PART) (2 ^ 64 - 1)
       → keys ≡ length (key_commands s b)
       → keys < 2 ^ 32
       → first < keys
-      → slice_get (birth_parts s b) index ≡ Some (take KEYS_OF_PART (drop first (key_commands s b)))
+      → slice_get (birth_parts s b) index ≡ Some (take KEYS_PER_SAVE_PART (drop first (key_commands s b)))
   key_part b index piece first keys next is count small within =
-      let same : piece * KEYS_OF_PART ≡ first = omega (arith, is, small, within) in
+      let same : piece * KEYS_PER_SAVE_PART ≡ first = omega (arith, is, small, within) in
       ap (slice_get (birth_parts s b)) next
-      ∙ piece_there KEYS_OF_PART (omega arith) (key_commands s b) piece (omega (arith, same, count, within))
-      ∙ ap (λ (n : ℕ). Some (take KEYS_OF_PART (drop n (key_commands s b)))) same
+      ∙ piece_there KEYS_PER_SAVE_PART (omega arith) (key_commands s b) piece (omega (arith, same, count, within))
+      ∙ ap (λ (n : ℕ). Some (take KEYS_PER_SAVE_PART (drop n (key_commands s b)))) same
 
   -- a birth has no part at an index at which no key is left to put
   pub no_key_part : (b : Birth) (index piece first keys : ℕ)
       → index ≡ suc piece
-      → first ≡ min (piece * KEYS_OF_PART) (2 ^ 64 - 1)
+      → first ≡ min (piece * KEYS_PER_SAVE_PART) (2 ^ 64 - 1)
       → keys ≡ length (key_commands s b)
       → keys < 2 ^ 32
       → keys ≤ first
       → slice_get (birth_parts s b) index ≡ None
   no_key_part b index piece first keys next is count small past =
       ap (slice_get (birth_parts s b)) next
-      ∙ no_piece KEYS_OF_PART (omega arith) (key_commands s b) piece (omega (arith, is, count, small, past))
+      ∙ no_piece KEYS_PER_SAVE_PART (omega arith) (key_commands s b) piece (omega (arith, is, count, small, past))
 
   -- the birth of a program has no part after its first one
   pub no_program_part : (b : Birth) (index piece fd : ℕ)

@@ -17,7 +17,7 @@ use Rattle.tenant.specs.Errno.{status_of}
 use Rattle.tenant.specs.Kept.{KeptTenant, state_in, map_at}
 use Rattle.tenant.specs.Batch.{BatchInput, RunsInOrder, RunsBatch}
 use Rattle.tenant.specs.Machine.{Answer, Answers, cause_errno, gives}
-use Rattle.tenant.specs.Replies.{shown_answer}
+use Rattle.tenant.specs.Replies.{shown_reply}
 use Rattle.bpf_maps.specs.Limits.{most_maps}
 use Rattle.tenant.specs.State.{TenantState, new_tenant, live}
 use Rattle.tenant.specs.KeptLaws.{length-at, some_at_each}
@@ -25,7 +25,7 @@ use Rattle.saving.specs.Alike.{HoldsItsMaps}
 use Rattle.saving.specs.Births.{Birth, AreBirths, with_opened, births_after}
 use Rattle.saving.specs.Laws.{MapsAreHeld, BirthsAreKept}
 use Rattle.saving.specs.Recorded.{IsRecorded}
-use Rattle.saving.specs.inside.Frames.{AnswersCommand}
+use Rattle.saving.specs.inside.Frames.{RepliesToCommand}
 use Rattle.saving.specs.inside.Opened.{births_after_reply}
 use Rattle.saving.proofs.Births.{same_births}
 
@@ -82,7 +82,7 @@ module _ (maps : MapsAreHeld) (law : BirthsAreKept) where
     -- if the invariant holds before a command, it holds after it, with the births after it
     pub recorded_after : {command : Command} {h : Head} {reply : List ℕ} (l : KeptTenant)
         (later : List Birth) (q : List ℕ)
-        → AnswersCommand command h reply (state_in p k) (state_in q l) births later
+        → RepliesToCommand command h reply (state_in p k) (state_in q l) births later
         → IsRecorded (record { kept = l; births = later })
     recorded_after {command} l later q t =
         let (held, are) = is p in
@@ -149,7 +149,7 @@ no_birth NoSpace s births = refl
 
 -- the births that the code records by a reply are those by the status that it represents
 pub births_opened : (r : Result Reply Errno) (s : TenantState) (births : List Birth)
-    → births_after_reply r s.objects births ≡ with_opened (shown_answer r s).status (shown_answer r s).after births
+    → births_after_reply r s.objects births ≡ with_opened (shown_reply r s).status (shown_reply r s).after births
 births_opened (Ok reply.Done) s births = refl
 births_opened (Ok (reply.Opened fd)) s births = refl
 births_opened (Ok (reply.Value value)) s births = refl

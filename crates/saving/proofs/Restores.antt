@@ -10,7 +10,7 @@ use Rattle.fd_table.specs.Table.{first_descriptor, most, named, with_open}
 use Rattle.insn_set.specs.Program.{IsProgram, program_bytes}
 use Rattle.tagged_model.specs.State.{set_at}
 use Rattle.tagged_model.specs.declared.shape.Named.{Named}
-use Rattle.verifier.specs.Maps.{maps_of, entries_of, distinct}
+use Rattle.verifier.specs.Maps.{maps_of, objects_at, distinct}
 use Rattle.verifier.specs.Verdict.{IsAccepted}
 use Rattle.tenant.specs.declared.object.OpenObject.{OpenObject}
 use Rattle.tenant.specs.declared.object.OpenObject.TheVariants as object
@@ -28,7 +28,7 @@ use Rattle.saving.proofs.Closes.{live_with}
 use Rattle.saving.proofs.Tables.{Opened, table, tabled, IsDescriptor, IsLowestFree, lowest-is, NamesAt}
 use Rattle.saving.proofs.Tables.{names_at, set_same, set_other, table-same, table-open, table_of, table-moved}
 use Rattle.saving.proofs.States.{leads_then, Follows, follows, state_of, same_state, held_of, close_answer}
-use Rattle.saving.proofs.Loads.{SameEntriesSameVerdict}
+use Rattle.saving.proofs.Loads.{SameObjectsSameVerdict}
 use Rattle.saving.proofs.Makes.{LeadsTo}
 use Rattle.saving.proofs.Walks.{filler_program, program_or, object_of, at_births, walk}
 
@@ -48,9 +48,9 @@ no_maps = new_tenant.maps
 abbrev filling : ℕ → TenantState
 filling k = record { objects = table (filled_to k); maps = no_maps; refused = false }
 
-no_entries : (named : List Named) → entries_of [] named ≡ []
-no_entries [] = refl
-no_entries (n ∷ ns) = no_entries ns
+no_objects : (named : List Named) → objects_at [] named ≡ []
+no_objects [] = refl
+no_objects (n ∷ ns) = no_objects ns
 
 -- the filler loads no map
 no_handles : (objects : List (Option OpenObject)) → handles_from objects (maps_of filler) ≡ []
@@ -64,7 +64,7 @@ no_loads = refl
 filler_again : (k : ℕ) → loaded_program (filling k) filler ≡ filler_program
 filler_again k =
     ap₂ (λ (ns : List Named) (ms : List (ℕ × ℕ)). record { insns = filler; named = ns; maps = ms })
-    (ap (λ (fds : List ℕ). entries_of fds (targets (filling k))) no_loads ∙ no_entries (targets (filling k)))
+    (ap (λ (fds : List ℕ). objects_at fds (targets (filling k))) no_loads ∙ no_objects (targets (filling k)))
     (no_handles (table (filled_to k)))
 
 next_filled : (k fd : ℕ) → set_at (filled_to k) k (Some (object.Program filler_program)) fd ≡ filled_to (k + 1) fd
@@ -332,7 +332,7 @@ first_closed s births =
     sym (ap (λ (b : Bool). if b then named s.objects fd else at_births s births fd)
     (le-ltb fd first_descriptor is.low))))
 
-pub restored_is_alike : MapsAreHeld → AlikeIsBisimulation → SameEntriesSameVerdict → FillerIsAccepted → RestoredIsAlike
+pub restored_is_alike : MapsAreHeld → AlikeIsBisimulation → SameObjectsSameVerdict → FillerIsAccepted → RestoredIsAlike
 restored_is_alike held bisimulation same_verdict fine s births whole are =
     let fills =
     subst (λ (x : TenantState). Leads x (filled most) (filling (first_descriptor + most))) empty_is

@@ -13,7 +13,7 @@ use Rattle.insn_set.specs.Spelling.{spelling}
 use Rattle.ordered_keys.specs.Orders.{occurrences, first_entry, entry_after_element, next_entry}
 use Rattle.tenant.specs.declared.object.OpenObject.{OpenObject}
 use Rattle.tenant.specs.State.{Map, TenantState, live}
-use Rattle.saving.specs.declared.save_parts.TheConstants.{KEYS_OF_PART}
+use Rattle.saving.specs.declared.save_parts.TheConstants.{KEYS_PER_SAVE_PART}
 use Rattle.saving.specs.Births.{Birth, OfMap, OfProgram, number}
 use Rattle.saving.specs.Filler.{filler}
 use Rattle.saving.specs.Restored.{load_of, made_map, made_program, made, filled, born, closings}
@@ -47,7 +47,7 @@ with_keys s (OfProgram fd) = append-nil (close fd ∷ made_program (named s.obje
 joined_birth : (s : TenantState) (b : Birth)
     → flat_map (λ (part : List Command). part) (birth_parts s b) ≡ birth_commands s b
 joined_birth s b =
-    ap (λ (cs : List Command). creation s b ++ cs) (joined KEYS_OF_PART (omega arith) (key_commands s b))
+    ap (λ (cs : List Command). creation s b ++ cs) (joined KEYS_PER_SAVE_PART (omega arith) (key_commands s b))
     ∙ with_keys s b
 
 collected : {A B : Type 0} (f : A → List (List B)) (g : A → List B)

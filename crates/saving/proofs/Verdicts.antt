@@ -27,7 +27,7 @@ use Rattle.reg_kinds.specs.declared.facts.Facts.{Facts}
 use Rattle.transfer.specs.Effects.{effect}
 use Rattle.verifier.specs.Before.{facts_before, facts_from_below}
 use Rattle.verifier.specs.Laws.{MapsAreListed}
-use Rattle.verifier.specs.Maps.{maps_of, is_among, entries_of, shapes_of}
+use Rattle.verifier.specs.Maps.{maps_of, is_among, objects_at, shapes_of}
 use Rattle.verifier.specs.Shape.{is_map, is_not_open, is_not_map, is_no_value, calls_unknown, is_number, leads_outside}
 use Rattle.verifier.specs.Shape.{leads_backward, is_reachable, reached_from, first_reason, shape_reason, shape_reason_at, structure_fault}
 use Rattle.verifier.specs.Verdict.{HasNoFault, IsAccepted, reason_of, safety_fault}
@@ -106,7 +106,7 @@ module _ (a b : List Named) where
           ∷ [])
 
   same_structure : MapsAreListed
-      → (code : List Insn) → entries_of (maps_of code) a ≡ entries_of (maps_of code) b
+      → (code : List Insn) → objects_at (maps_of code) a ≡ objects_at (maps_of code) b
       → (at : ℕ) → structure_fault code a at ≡ structure_fault code b at
   unfolding structure_fault
   same_structure listed code same at = by (begins_at code at) refl
@@ -128,7 +128,7 @@ module _ (a b : List Named) where
 -- a program that is accepted is accepted with all targets that are the same at the descriptors that it loads
 pub same_verdict : MapsAreListed
     → (code : List Insn) (a b : List Named)
-    → entries_of (maps_of code) a ≡ entries_of (maps_of code) b
+    → objects_at (maps_of code) a ≡ objects_at (maps_of code) b
     → IsAccepted code a
     → IsAccepted code b
 same_verdict listed code a b same accepted = (

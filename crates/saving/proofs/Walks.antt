@@ -23,7 +23,7 @@ use Rattle.saving.proofs.Lists.{is_there}
 use Rattle.saving.proofs.Moved.{or_parts, or_left, or_right}
 use Rattle.saving.proofs.Tables.{Opened, table, IsDescriptor, IsOnlyFree, NamesAt, names_at, set_same, set_other}
 use Rattle.saving.proofs.States.{leads_then, Follows, follows, state_of, close_answer}
-use Rattle.saving.proofs.Loads.{SameEntriesSameVerdict, AreOpen, load_answer}
+use Rattle.saving.proofs.Loads.{SameObjectsSameVerdict, AreOpen, load_answer}
 use Rattle.saving.proofs.Makes.{LeadsTo, map_leads}
 
 -- ---- the open objects after some births
@@ -156,7 +156,7 @@ named_born s bs handle order h =
 -- ---- the walk
 
 module _ (held : MapsAreHeld) (bisimulation : AlikeIsBisimulation)
-    (same_verdict : SameEntriesSameVerdict) (s : TenantState) (whole : IsRestorable s) where
+    (same_verdict : SameObjectsSameVerdict) (s : TenantState) (whole : IsRestorable s) where
   without : Birth → List Birth → Opened
   without b older = set_at (at_births s older) (number b) None
 

@@ -44,7 +44,7 @@ abbrev pub IsAlike : TenantState → TenantState → Type 0
 IsAlike s t = (move : ℕ → ℕ) × IsMovedBy move s t
 
 -- two results with equal status and payload, and with states after them that are alike
-pub record IsAlikeAnswer (a b : Answer) : Type 0 where
+pub record IsAlikeResult (a b : Answer) : Type 0 where
   pub status : b.status ≡ a.status
   pub payload : b.payload ≡ a.payload
   pub after : IsAlike a.after b.after

@@ -10,7 +10,7 @@ use Rattle.tenant.specs.State.{TenantState, new_tenant}
 use Rattle.tenant.specs.Batch.{BatchInput, AreTestRuns}
 use Rattle.tenant.specs.Machine.{Answer, Answers, longest_packet}
 use Rattle.tenant.specs.Alone.{IsServedAlone, AloneWithRefusals}
-use Rattle.saving.specs.Alike.{IsAlike, IsAlikeAnswer, HoldsItsMaps}
+use Rattle.saving.specs.Alike.{IsAlike, IsAlikeResult, HoldsItsMaps}
 use Rattle.saving.specs.Births.{Birth, AreBirths, births_after}
 use Rattle.saving.specs.Restored.{restored, Leads}
 use Rattle.command_frames.specs.Encoded.{frame_of}
@@ -31,7 +31,7 @@ abbrev pub AlikeIsBisimulation : Type 0
 AlikeIsBisimulation =
     (refused : Bool) (s t : TenantState) (command : Command) (a : Answer)
     → HoldsItsMaps s → HoldsItsMaps t → IsAlike s t → Answers refused s command a
-    → (b : Answer) × Answers refused t command b × IsAlikeAnswer a b
+    → (b : Answer) × Answers refused t command b × IsAlikeResult a b
 
 -- if s and t are alike, t can give a list of frames each list of replies that s can give: if no
 -- memory is refused (`alone`), and if it may be (`refused`). If none is refused, t can give no

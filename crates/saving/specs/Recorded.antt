@@ -6,7 +6,7 @@ use Rattle.command_frames.specs.Frame.{reply_to}
 use Rattle.tenant.specs.Kept.{KeptTenant, state_in}
 use Rattle.tenant.specs.State.{TenantState}
 use Rattle.tenant.specs.Machine.{Answer}
-use Rattle.tenant.specs.Alone.{AnswersFrame}
+use Rattle.tenant.specs.Alone.{IsFrameResult}
 use Rattle.saving.specs.Alike.{HoldsItsMaps}
 use Rattle.saving.specs.Births.{Birth, AreBirths, births_after}
 
@@ -37,7 +37,7 @@ pub record RecordsFrame (frame reply : List ℕ) (before after : TenantState)
     (births later : List Birth) : Type 0 where
   pub refused : Bool
   pub answer : Answer
-  pub answers : AnswersFrame refused before (parsed frame) answer
+  pub answers : IsFrameResult refused before (parsed frame) answer
   pub reply_is : reply ≡ reply_to frame answer.status answer.payload
   pub left : after ≡ answer.after
   pub recorded : later ≡ births_after_frame (parsed frame) answer births

@@ -11,7 +11,7 @@ use Rattle.tagged_model.specs.declared.shape.Target.TheVariants as target
 use Rattle.tagged_model.specs.Cells.{and_then}
 use Rattle.tagged_model.specs.Table.{Table, is_key, indexed}
 use Rattle.verifier.specs.Verdict.{IsAccepted}
-use Rattle.verifier.specs.Maps.{maps_of, entries_of}
+use Rattle.verifier.specs.Maps.{maps_of, objects_at}
 use Rattle.tenant.specs.declared.object.OpenObject.TheVariants as object
 use Rattle.tenant.specs.Loaded.{LoadedProgram}
 use Rattle.bpf_maps.specs.Limits.{most_bytes}
@@ -58,7 +58,7 @@ pub record IsWholeProgram (s : TenantState) (l : LoadedProgram) : Type 0 where
   pub program : IsProgram l.insns
   pub named : List Named
   pub accepted : IsAccepted l.insns named
-  pub picked : l.named ≡ entries_of (maps_of l.insns) named
+  pub picked : l.named ≡ objects_at (maps_of l.insns) named
   pub shaped : l.named ≡ shapes_from s l.maps first_descriptor most
   pub bound : keys_of l.maps ≡ maps_of l.insns
 

@@ -7,7 +7,7 @@ use Rattle.command_frames.specs.Command.{Command, close}
 use Rattle.command_frames.specs.Frame.{framed}
 use Rattle.fd_table.specs.Table.{first_descriptor, most, named}
 use Rattle.tenant.specs.State.{Map, TenantState, live}
-use Rattle.saving.specs.declared.save_parts.TheConstants.{KEYS_OF_PART}
+use Rattle.saving.specs.declared.save_parts.TheConstants.{KEYS_PER_SAVE_PART}
 use Rattle.saving.specs.Births.{Birth, OfMap, OfProgram}
 use Rattle.saving.specs.Restored.{create_of, put_of, made_program, filled, closings, restored}
 use Rattle.command_frames.specs.Encoded.{frame_of}
@@ -36,9 +36,9 @@ key_commands s (OfMap handle fd) = puts_of fd (live s handle)
 key_commands s (OfProgram fd) = []
 
 -- the parts of a save for one birth, as commands: one creates its object, each other one puts at
--- most `KEYS_OF_PART` keys
+-- most `KEYS_PER_SAVE_PART` keys
 abbrev pub birth_parts : TenantState → Birth → List (List Command)
-birth_parts s b = creation s b ∷ pieces KEYS_OF_PART (key_commands s b)
+birth_parts s b = creation s b ∷ pieces KEYS_PER_SAVE_PART (key_commands s b)
 
 -- all parts of a save: the loads that open all descriptors, the parts of each birth, the oldest
 -- first, and the closes of the descriptors that are not open in s; `births` has the latest first

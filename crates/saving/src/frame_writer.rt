@@ -11,12 +11,12 @@ ghost use Rattle.tenant.specs.State.{live};
 ghost use Rattle.command_frames.specs.Encoded.{frame_of};
 ghost use Rattle.saving.specs.Restored.{create_of, put_of, filled, closings, made_program};
 ghost use Rattle.saving.specs.SaveParts.{made_empty, puts_of, creation, frames_of};
-ghost use Rattle.saving.specs.declared.save_parts.TheConstants.{KEYS_OF_PART};
+ghost use Rattle.saving.specs.declared.save_parts.TheConstants.{KEYS_PER_SAVE_PART};
 ghost use Rattle.saving.specs.inside.PartCommands.{part_commands};
 ghost use Rattle.saving.specs.inside.Puts.{closing, puts, rest_after};
 
 use crate::birth::Birth;
-use crate::save_parts::{KEYS_OF_PART, SavePart};
+use crate::save_parts::{KEYS_PER_SAVE_PART, SavePart};
 use bpf_maps::MapKey;
 use command_frames::{Command, write_command};
 use fd_table::{FIRST, MOST};
@@ -199,9 +199,9 @@ impl FrameWriter {
         Ok(())
     }
 
-    /// Appends the frames that put keys of `map`, with their values, into the map at descriptor `fd`: at most `KEYS_OF_PART` keys, in the
-    /// order of `map`, from the one after the key of element `before` on, or from the first one on if `before` is `None`. `part` has the
-    /// tenant's `PART` bytes of the arena. `AllocError`: out of memory.
+    /// Appends the frames that put keys of `map`, with their values, into the map at descriptor `fd`: at most `KEYS_PER_SAVE_PART` keys, in
+    /// the order of `map`, from the one after the key of element `before` on, or from the first one on if `before` is `None`. `part` has
+    /// the tenant's `PART` bytes of the arena. `AllocError`: out of memory.
     fn append_updates_after(
         &mut self,
         tenant: &Tenant,
@@ -213,11 +213,11 @@ impl FrameWriter {
         requires whole { length part.now ≡ PART }
         ensures written { OnOk result (self.new.frames.items
             ≡ self.old.frames.items ++ frames_of self.old.number
-            (puts fd (take KEYS_OF_PART
+            (puts fd (take KEYS_PER_SAVE_PART
             (rest_after before (numbered_entries part.now tenant.now.live map))))) }
     {
         let mut after = before;
-        for _ in 0..KEYS_OF_PART {
+        for _ in 0..KEYS_PER_SAVE_PART {
             let Some(entry) = tenant.map_entry(map, after, part) else {
                 return Ok(());
             };
@@ -228,8 +228,8 @@ impl FrameWriter {
     }
 
     /// Appends the frames of one part of a save that put keys of `map`, with their values, into the map at descriptor `fd`: the keys from
-    /// index `first` on in the order of `map`, at most `KEYS_OF_PART`. Appends no frame if `map` is not live, which does not happen for the
-    /// map of a birth. `part` is no part of a save: it has the tenant's `PART` bytes of the arena. `AllocError`: out of memory.
+    /// index `first` on in the order of `map`, at most `KEYS_PER_SAVE_PART`. Appends no frame if `map` is not live, which does not happen
+    /// for the map of a birth. `part` is no part of a save: it has the tenant's `PART` bytes of the arena. `AllocError`: out of memory.
     fn append_keys(
         &mut self,
         tenant: &Tenant,
@@ -241,7 +241,7 @@ impl FrameWriter {
         requires whole { length part.now ≡ PART }
         ensures written { OnOk result (self.new.frames.items
             ≡ self.old.frames.items ++ frames_of self.old.number
-            (take KEYS_OF_PART (drop first
+            (take KEYS_PER_SAVE_PART (drop first
             (puts_of fd (live (state_in part.now tenant.now) map))))) }
     {
         let Some(shape) = tenant.map_shape(map) else {
@@ -250,7 +250,7 @@ impl FrameWriter {
         let left = (tenant.key_count(map) as usize).saturating_sub(first);
         // Room for all at once, so that the frames are not moved while they grow.
         self.frames
-            .reserve(bytes_of_puts(shape, left.min(KEYS_OF_PART)))?;
+            .reserve(bytes_of_puts(shape, left.min(KEYS_PER_SAVE_PART)))?;
         let before = element_before(tenant, map, first, part);
         self.append_updates_after(tenant, map, fd, before, part)
     }

@@ -11,7 +11,7 @@ ghost use Rattle.tenant.specs.Errno.{status_of};
 ghost use Rattle.tenant.specs.Kept.{state_in};
 ghost use Rattle.saving.specs.Recorded.{IsRecorded, RecordsFrame, tenant_state};
 ghost use Rattle.tenant.specs.declared.errno.Errno.TheVariants.{BadAddress};
-ghost use Rattle.saving.specs.inside.Frames.{AnswersCommand, ChangesPart};
+ghost use Rattle.saving.specs.inside.Frames.{RepliesToCommand, ChangesPart};
 
 use crate::birth::Births;
 use crate::laws::{births_are_kept, maps_are_held};
@@ -54,7 +54,7 @@ fn reply_to_command(
     requires short { tail_length (shown_command headed.command) ≤ longest_frame }
     requires part { IsPartOf number arena.old }
     requires recorded { IsRecorded (record { kept = tenant.old; births = births.old }) }
-    ensures replied { AnswersCommand (shown_command headed.entry.command) headed.entry.head
+    ensures replied { RepliesToCommand (shown_command headed.entry.command) headed.entry.head
         reply.new
         (state_in (part_bytes arena.old number) tenant.old)
         (state_in (part_bytes arena.new number) tenant.new) births.old births.new }

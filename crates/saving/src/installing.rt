@@ -5,7 +5,7 @@ ghost use Rattle.command_frames.specs.Frame.{reply_to};
 ghost use Rattle.tenant.specs.Alone.{MayReply};
 ghost use Rattle.tenant.specs.Errno.{status_of};
 ghost use Rattle.tenant.specs.Machine.{targets};
-ghost use Rattle.tenant.specs.Replies.{IsWritable, shown_answer};
+ghost use Rattle.tenant.specs.Replies.{IsWritable, shown_reply};
 ghost use Rattle.tenant.specs.State.{TenantState};
 ghost use Rattle.tenant.specs.declared.errno.Errno.TheVariants.{BadAddress};
 ghost use Rattle.verifier.specs.Fits.{Fits};
@@ -21,7 +21,7 @@ use tenant::{Errno, Reply, Verified};
 /// precondition, so the cast keeps it. The status does not depend on the state `s` of the contract.
 fn status_of(reply: &Result<Reply<'_>, Errno>) -> i32
     requires { IsWritable reply.now }
-    ensures { (s : TenantState) → result ≡ (shown_answer reply.now s).status }
+    ensures { (s : TenantState) → result ≡ (shown_reply reply.now s).status }
 {
     match reply {
         Ok(Reply::Done) | Ok(Reply::Value(_)) | Ok(Reply::Key(_)) | Ok(Reply::Number(_)) => 0,

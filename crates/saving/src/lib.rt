@@ -27,7 +27,7 @@
 //! Saves:
 //!
 //! - A save has parts: the frames that fill all descriptors; for each birth, the oldest first, those that create the map or load the
-//!   program, and then those that put the keys of the map, at most 1,024 in each part (`KEYS_OF_PART`); and those that close the
+//!   program, and then those that put the keys of the map, at most 1,024 in each part (`KEYS_PER_SAVE_PART`); and those that close the
 //!   descriptors that are not open. The bytes of a part are exactly the frames of its commands, each with its length before it; there is
 //!   none after the last part. Nothing changes: `SavableTenant::save_part`.
 //! - The parts together are the commands that restore the state: `parts_are_whole`.

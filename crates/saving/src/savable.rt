@@ -70,8 +70,8 @@ impl SavableTenant {
     /// A new tenant that is given the frames of all parts of the save in their order, and to which no memory is refused, then replies as
     /// this one does. Between two parts nothing may change in this tenant, but other tenants may be served. Part 0 opens a program at each
     /// descriptor. For each birth, the oldest first, one part closes the descriptor of the birth, so that it is the only free one, and
-    /// creates the map or loads the program, which gets it. The parts after it put the keys of the map, at most `KEYS_OF_PART` each. The
-    /// last part closes the descriptors that are not open in this tenant.
+    /// creates the map or loads the program, which gets it. The parts after it put the keys of the map, at most `KEYS_PER_SAVE_PART` each.
+    /// The last part closes the descriptors that are not open in this tenant.
     ///
     /// # Errors
     ///

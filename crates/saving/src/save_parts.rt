@@ -11,7 +11,7 @@ use tenant::Tenant;
 
 /// The most keys that one part of a save puts into a map, so that a part takes less time than the slowest frame: with 4,096 keys of 512
 /// bytes it took more than a millisecond.
-pub(crate) const KEYS_OF_PART: usize = 1_024;
+pub(crate) const KEYS_PER_SAVE_PART: usize = 1_024;
 
 /// What the frames of a part of a save do.
 #[derive(Clone, Copy)]
@@ -20,8 +20,8 @@ pub(crate) enum SavePart {
     Filling,
     /// Closes the descriptor of a birth and creates its object there: a program, or a map without keys, which other parts put.
     Creation(Birth),
-    /// Puts keys of this map of the saved tenant into the map at this descriptor of the new one: at most `KEYS_OF_PART`, from the key with
-    /// this index on.
+    /// Puts keys of this map of the saved tenant into the map at this descriptor of the new one: at most `KEYS_PER_SAVE_PART`, from the key
+    /// with this index on.
     Keys(MapKey, u32, usize),
     /// Closes the descriptors that are not open in the saved tenant.
     Closing,
@@ -42,11 +42,11 @@ fn key_count(tenant: &Tenant, birth: Birth) -> usize
     }
 }
 
-/// The number of parts of a save for one birth: one creates its object, each other one puts at most `KEYS_OF_PART` of its keys.
+/// The number of parts of a save for one birth: one creates its object, each other one puts at most `KEYS_PER_SAVE_PART` of its keys.
 fn count_of_parts(tenant: &Tenant, birth: Birth) -> usize
     ensures { (part : List ℕ) → result ≡ length (birth_parts (state_in part tenant.now) birth) }
 {
-    1 + key_count(tenant, birth).div_ceil(KEYS_OF_PART)
+    1 + key_count(tenant, birth).div_ceil(KEYS_PER_SAVE_PART)
 }
 
 /// The part of a save at an index among the parts for one birth: part 0 creates its object, the others put keys. `None` after the last; for
@@ -62,7 +62,7 @@ fn part_of_birth(tenant: &Tenant, birth: Birth, index: usize) -> Option<SavePart
         return None;
     };
     // If this saturates, no map has so many keys, and there is no such part.
-    let first = piece.saturating_mul(KEYS_OF_PART);
+    let first = piece.saturating_mul(KEYS_PER_SAVE_PART);
     if first < key_count(tenant, birth) {
         Some(SavePart::Keys(map, fd, first))
     } else {

@@ -4,7 +4,7 @@ use Rattle.std.specs.Prelude.{nat_lt, if◌then◌else◌, Result}
 use Rattle.byteorder.specs.Endian.{little_bytes}
 use Rattle.command_frames.specs.declared.command.BadFrame.{BadFrame}
 use Rattle.command_frames.specs.Command.{Command}
-use Rattle.tenant.specs.Alone.{AnswersFrame}
+use Rattle.tenant.specs.Alone.{IsFrameResult}
 use Rattle.tenant.specs.Batch.{RunsInOrder, BatchIsItsFrames, RefusedAsItsFrame, OneResultEach, run_refusal}
 use Rattle.tenant.specs.declared.errno.Errno.{Errno}
 use Rattle.tenant.specs.declared.errno.Errno.TheVariants.{TooBig, BadDescriptor, Invalid}
@@ -25,7 +25,7 @@ batch_is_its_frames fd (frame ∷ frames) (input ∷ inputs) [] before after tes
 batch_is_its_frames fd (frame ∷ frames) (input ∷ inputs) (result ∷ results) before after tests runs =
     let (between, seen, rest) = runs in
     let answer = gives (little_bytes 4 result) between in
-    let answers = subst (λ (r : Result Command BadFrame). AnswersFrame false before r answer) (sym tests.0) seen in (
+    let answers = subst (λ (r : Result Command BadFrame). IsFrameResult false before r answer) (sym tests.0) seen in (
       Some between,
       (false, (answer, answers, refl, refl)),
       batch_is_its_frames fd frames inputs results between after tests.1 rest,

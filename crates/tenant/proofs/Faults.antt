@@ -27,11 +27,11 @@ use Rattle.tenant.specs.declared.errno.Errno.TheVariants.{NotPermitted, TooBig, 
 use Rattle.tenant.specs.declared.object.OpenObject.{OpenObject}
 use Rattle.tenant.specs.declared.object.OpenObject.TheVariants as object
 use Rattle.command_frames.specs.Frame.{owner, command_number, reply_to}
-use Rattle.tenant.specs.Alone.{AnswersFrame, IsFault}
+use Rattle.tenant.specs.Alone.{IsFrameResult, IsFault}
 use Rattle.tenant.specs.Errno.{status_of}
 use Rattle.tenant.specs.Machine.{Answer, ran, refuses, cause_errno, codec_errno, verdict_errno, created_as, created_under, created}
 use Rattle.tenant.specs.Machine.{room_for, kind_of, asked_shape, of_object, of_handle, on_map, gives_or_no_entry, element_put}
-use Rattle.tenant.specs.Machine.{element_taken_out, answer_of_judgement, LoadsUnder, outcome_answer, run_of, longest_packet, closed, Answers}
+use Rattle.tenant.specs.Machine.{element_taken_out, result_of_judgement, LoadsUnder, outcome_result, run_of, longest_packet, closed, Answers}
 use Rattle.tenant.specs.State.{Map, TenantState, live}
 use Rattle.tenant.proofs.LookUps.{has_size}
 use Rattle.tenant.proofs.NextKeys.{is_empty_or_fits}
@@ -143,7 +143,7 @@ bare_taken : (s : TenantState) (handle : ℕ) (t : Map) (key : List ℕ) (r : Re
 bare_taken s handle t key (Err fault) e = refl
 bare_taken s handle t key (Ok value) e = refl
 
-bare_judged : (s : TenantState) (fd : ℕ) (j : Result (List Insn) Refusal) → IsBare (answer_of_judgement s fd j)
+bare_judged : (s : TenantState) (fd : ℕ) (j : Result (List Insn) Refusal) → IsBare (result_of_judgement s fd j)
 bare_judged s fd (Ok insns) e = refl
 bare_judged s fd (Err refusal) e = absurd (cause_other refusal.cause e)
 
@@ -163,7 +163,7 @@ bare_loads : (right b : Bool) (s : TenantState) (slots : List ℕ) (a x : Answer
 bare_loads true b s slots a x plain h = bare_load b s (table.lowest s.objects) slots a h
 bare_loads false b s slots a x plain h = λ e. ap (λ (y : Answer). y.payload) h ∙ plain
 
-bare_ended : (o : Outcome) (s : TenantState) → IsBare (outcome_answer o s)
+bare_ended : (o : Outcome) (s : TenantState) → IsBare (outcome_result o s)
 bare_ended (Value n) s e = no_zero (little_bytes 4 n) e
 bare_ended Fault s e = refl
 
@@ -200,7 +200,7 @@ bare_answer refused s (prog_test_run fd words packet) a h =
 bare_answer refused s (close fd) a h = bare_seen a _ h (bare_closed s fd (table.named s.objects fd))
 
 bare_frame : (refused : Bool) (s : TenantState) (r : Result Command BadFrame) (a : Answer)
-    → AnswersFrame refused s r a → IsBare a
+    → IsFrameResult refused s r a → IsBare a
 bare_frame refused s (Err fault) a h = bare_seen a _ h (λ e. refl)
 bare_frame refused s (Ok command) a h = bare_answer refused s command a h
 

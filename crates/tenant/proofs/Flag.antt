@@ -7,7 +7,7 @@ use Rattle.command_frames.specs.declared.command.BadFrame.TheVariants as bad
 use Rattle.command_frames.specs.Command.{Command, parsed}
 use Rattle.command_frames.specs.Frame.{reply_to}
 use Rattle.tenant.specs.declared.errno.Errno.TheVariants.{NotPermitted, NoMemory, Invalid}
-use Rattle.tenant.specs.Alone.{AnswersFrame, RepliesUnder, MayReply, IsRefusedMemory, IsServedAlone, AloneWithRefusals, frame_errno}
+use Rattle.tenant.specs.Alone.{IsFrameResult, RepliesUnder, MayReply, IsRefusedMemory, IsServedAlone, AloneWithRefusals, frame_errno}
 use Rattle.tenant.specs.Errno.{status_of}
 use Rattle.tenant.specs.Laws.{takes_memory, ClearFlagMeansNoRefusal, ClearFlagMeansAlone, OnlyCreationsAndLoadsAreRefused, UnrefusedRepliesMeanAlone}
 use Rattle.tenant.specs.Machine.{Answer, Answers, refuses_for_memory}
@@ -32,8 +32,8 @@ pub clear_flag_means_no_refusal : ClearFlagMeansNoRefusal
 clear_flag_means_no_refusal r s command a is clear = (clear_answer r s command a is clear).0
 
 clear_frame : (r : Bool) (s : TenantState) (p : Result Command BadFrame) (a : Answer)
-    → AnswersFrame r s p a → a.after.refused ≡ false
-    → AnswersFrame false s p a × (s.refused ≡ false)
+    → IsFrameResult r s p a → a.after.refused ≡ false
+    → IsFrameResult false s p a × (s.refused ≡ false)
 clear_frame r s (Err fault) a is e = (is, sym (ap (λ (x : Answer). x.after.refused) is) ∙ e)
 clear_frame r s (Ok command) a is e = clear_answer r s command a is e
 
@@ -71,7 +71,7 @@ clear_flag_means_alone before after frames replies h e = (clear_both before (Som
 
 -- the result without refusals, or that memory was refused
 frame_seen : (r : Bool) (s : TenantState) (p : Result Command BadFrame) (a : Answer)
-    → AnswersFrame r s p a → AnswersFrame false s p a ⊎ (a ≡ refuses_for_memory s)
+    → IsFrameResult r s p a → IsFrameResult false s p a ⊎ (a ≡ refuses_for_memory s)
 frame_seen r s (Err fault) a is = inl is
 frame_seen r s (Ok command) a is = by (seen_or_refused r s command a is)
   where
@@ -87,7 +87,7 @@ unrefused_seen frame reply None after (r, seen) differs = seen
 unrefused_seen frame reply (Some s) after (r, (a, answers, seen, goes)) differs =
     by (frame_seen r s (parsed frame) a answers)
   where
-    by : AnswersFrame false s (parsed frame) a ⊎ (a ≡ refuses_for_memory s)
+    by : IsFrameResult false s (parsed frame) a ⊎ (a ≡ refuses_for_memory s)
         → RepliesUnder false frame reply (Some s) after
     by (inl alone) = (a, alone, seen, goes)
     by (inr same) =
@@ -134,7 +134,7 @@ only_creations_and_loads_are_refused frame reply (Some s) after (r, (a, answers,
     by (parsed frame) refl answers
   where
     by : (p : Result Command BadFrame)
-        → parsed frame ≡ p → AnswersFrame r s p a
+        → parsed frame ≡ p → IsFrameResult r s p a
         → (command : Command) × (parsed frame ≡ Ok command) × (takes_memory command ≡ true)
     by (Err fault) same is =
         absurd (no_command fault s frame

@@ -1,5 +1,5 @@
 mod Sums
-mod OneAnswer
+mod OneCommandResult
 mod Named
 mod AtHandles
 mod New

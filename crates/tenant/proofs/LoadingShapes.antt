@@ -15,7 +15,7 @@ use Rattle.tagged_model.specs.declared.shape.MapShape.{MapShape}
 use Rattle.tagged_model.specs.declared.shape.Named.{Named}
 use Rattle.tagged_model.specs.declared.shape.Target.{Target}
 use Rattle.tagged_model.specs.declared.shape.Target.TheVariants as target
-use Rattle.verifier.specs.Maps.{is_among, entries_of}
+use Rattle.verifier.specs.Maps.{is_among, objects_at}
 use Rattle.tenant.specs.declared.object.OpenObject.{OpenObject}
 use Rattle.tenant.specs.declared.object.OpenObject.TheVariants as object
 use Rattle.tenant.specs.Machine.{object_target, entry_of, targets_from, targets}
@@ -52,7 +52,7 @@ among (x ∷ fds) (suc i) fd there = ap (λ (b : Bool). (x == fd) || b) (among f
 
 -- a descriptor of the list has the same shape among the selected entries as among all
 pub shapes_picked : (fds : List ℕ) (ns : List Named) (i fd : ℕ)
-    → slice_get fds i ≡ Some fd → shapes_named (entries_of fds ns) fd ≡ shapes_named ns fd
+    → slice_get fds i ≡ Some fd → shapes_named (objects_at fds ns) fd ≡ shapes_named ns fd
 shapes_picked fds ns i fd there = ap shape_in (picked (is_among fds) ns fd (among fds i fd there))
 
 -- ---- the targets of the open descriptors

@@ -37,7 +37,7 @@ use Rattle.tenant.specs.Errno.{status_of}
 use Rattle.tenant.specs.Laws.{takes_memory, IsNoRefusal, RefusalsAreReported}
 use Rattle.tenant.specs.Machine.{Answer, refuses, refuses_for_memory, codec_errno, verdict_errno, cause_errno, created_as, created_under, created, room_for}
 use Rattle.tenant.specs.Machine.{shape_where, kind_of, asked_shape, of_object, of_handle, on_map, gives_or_no_entry, element_put, element_taken_out, targets}
-use Rattle.tenant.specs.Machine.{answer_of_judgement, LoadsUnder, outcome_answer, maps_given, maps_left, ran, run_of, longest_packet, closed, Answers}
+use Rattle.tenant.specs.Machine.{result_of_judgement, LoadsUnder, outcome_result, maps_given, maps_left, ran, run_of, longest_packet, closed, Answers}
 use Rattle.tenant.specs.State.{Map, TenantState, live, shape_area}
 use Rattle.tenant.proofs.LookUps.{has_size}
 use Rattle.tenant.proofs.NextKeys.{is_empty_or_fits}
@@ -196,7 +196,7 @@ module _ (s : TenantState) where
   run_other words packet (Some (object.Map handle)) = invalid
   run_other words packet (Some (object.Program l)) = by_length (nat_lt longest_packet (length packet))
     where
-      ended : (o : Outcome) (maps : List (Option Map)) → IsOther s (outcome_answer o (record s { maps = maps }))
+      ended : (o : Outcome) (maps : List (Option Map)) → IsOther s (outcome_result o (record s { maps = maps }))
       ended (Value n) maps = (unlike 0 refl, refl)
       ended Fault maps = (unlike 242 refl, refl)
 
@@ -273,7 +273,7 @@ create_spared s (Some k) key value max flags =
 -- ---- a load
 
 judged_flag : (s : TenantState) (fd : ℕ) (j : Result (List Insn) Refusal)
-    → (answer_of_judgement s fd j).after.refused ≡ s.refused
+    → (result_of_judgement s fd j).after.refused ≡ s.refused
 judged_flag s fd (Ok insns) = refl
 judged_flag s fd (Err refusal) = refl
 
@@ -331,7 +331,7 @@ module _ (law : NoVerdictIsMemory) (s : TenantState) where
       verdict_unlike why (law.rules insns named slot why is)
 
   judged_spared : (fd : ℕ) (slots : List ℕ) (j : Result (List Insn) Refusal)
-      → Judges (targets s) slots j → IsNoRefusal s (answer_of_judgement s fd j)
+      → Judges (targets s) slots j → IsNoRefusal s (result_of_judgement s fd j)
   judged_spared fd slots (Ok insns) is = (not_refused fd, refl)
   judged_spared fd slots (Err refusal) is = (
     λ e.

@@ -13,7 +13,7 @@ use Rattle.tenant.specs.declared.errno.Errno.TheVariants.{TooBig}
 use Rattle.tenant.specs.declared.object.OpenObject.TheVariants as object
 use Rattle.tenant.specs.Kept.{KeptTenant, IsWellFormedTenant, IsBound, state_in}
 use Rattle.tenant.specs.Loaded.{LoadedProgram, map_handles}
-use Rattle.tenant.specs.Machine.{outcome_answer, ran, run_of, refuses, maps_given, longest_packet}
+use Rattle.tenant.specs.Machine.{outcome_result, ran, run_of, refuses, maps_given, longest_packet}
 use Rattle.tenant.specs.State.{Map, TenantState}
 use Rattle.tenant.proofs.StillKept.{with_live}
 use Rattle.tenant.proofs.TestRunKeys.{bound_of}
@@ -46,7 +46,7 @@ ran_as : MapsAreListed
     → {k : KeptTenant} {l : LoadedProgram} {words packet part : List ℕ} {first : ℕ}
     {outcome : Outcome} {after : Standing}
     → HasRun k l words packet part first outcome after
-    → outcome_answer outcome (state_in after.part (with_live k after.maps)) ≡ ran (state_in part k) l words packet
+    → outcome_result outcome (state_in after.part (with_live k after.maps)) ≡ ran (state_in part k) l words packet
 ran_as listed {k} {l} {words} {packet} {part} {first} {outcome} {after} h =
     let s = state_in part k in
     let bind = map_handles l in
@@ -63,14 +63,14 @@ ran_as listed {k} {l} {words} {packet} {part} {first} {outcome} {after} h =
     let state : state_in after.part (with_live k after.maps) ≡ _ =
     ap₂ (λ (ms : List (Option Map)) (b : Bool). record { objects = k.objects; maps = ms; refused = b })
     (sym maps) flag in
-    ap₂ outcome_answer r.value state
+    ap₂ outcome_result r.value state
 
 -- the reply to a test run of an open program, and the state after it
 abbrev pub IsTold : (before : KeptTenant) (part : List ℕ) (fd : ℕ) (words packet : List ℕ)
     (outcome : Outcome) (later : List ℕ) (after : KeptTenant)
     → Type 0
 IsTold before part fd words packet outcome later after =
-    outcome_answer outcome (state_in later after) ≡ run_of (state_in part before) words packet (named before.objects fd)
+    outcome_result outcome (state_in later after) ≡ run_of (state_in part before) words packet (named before.objects fd)
 
 -- the outcome of the code's run of an open program is that of the machine, and so is the state after it
 pub seen_of : MapsAreListed

@@ -76,14 +76,14 @@ module _ {k : KeptTenant} {l : LoadedProgram} (is : IsWellFormedTenant k) (bound
       subst (λ (n : ℕ). IsSome (live_at k.live n)) (sym (handle_at l.maps i)) (entry i (omega arith)).0
 
   -- the maps under these handles are bound to the program
-  pub are_bound : (a : Accepted) → a.code ≡ l.insns → a.entries ≡ l.named → AreBound a (map_handles l) k.live
-  are_bound a code entries = record {
+  pub are_bound : (a : Accepted) → a.code ≡ l.insns → a.objects ≡ l.named → AreBound a (map_handles l) k.live
+  are_bound a code objects = record {
     count = as_many ∙ ap (λ insns. length (maps_of insns)) (sym code);
     live = live_there;
     shapes = λ i lt.
         let all = length-seconds l.maps in
-        ap (λ insns. shapes_named a.entries (slice_index (maps_of insns) i)) code
-        ∙ ap (λ named. shapes_named named (slice_index (maps_of l.insns) i)) entries
+        ap (λ insns. shapes_named a.objects (slice_index (maps_of insns) i)) code
+        ∙ ap (λ named. shapes_named named (slice_index (maps_of l.insns) i)) objects
         ∙ ap (λ (fds : List ℕ). shapes_named l.named (slice_index fds i)) (sym bound.each)
         ∙ (entry i (omega arith)).1 ∙ ap (λ (n : ℕ). Some (shape_at k.live n)) (sym (handle_at l.maps i));
     once = λ i j i_lt j_lt same. same_entry (map_handles l) bound.once i j i_lt j_lt same;

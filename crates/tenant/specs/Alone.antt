@@ -22,9 +22,9 @@ frame_errno bad.Body = Invalid
 -- `a` is the result of a frame in the state s: if the frame carries a command, the result of this
 -- command (`refused`: memory is refused to it); if it carries none, the error for its fault, and
 -- nothing changes
-abbrev pub AnswersFrame : Bool → TenantState → Result Command BadFrame → Answer → Type 0
-AnswersFrame refused s (Err fault) a = a ≡ refuses (frame_errno fault) s
-AnswersFrame refused s (Ok command) a = Answers refused s command a
+abbrev pub IsFrameResult : Bool → TenantState → Result Command BadFrame → Answer → Type 0
+IsFrameResult refused s (Err fault) a = a ≡ refuses (frame_errno fault) s
+IsFrameResult refused s (Ok command) a = Answers refused s command a
 
 -- the error for a frame of a tenant that is not served, or for one that has no head
 abbrev pub unserved_errno : List ℕ → Errno
@@ -37,7 +37,7 @@ abbrev pub RepliesUnder : Bool → List ℕ → List ℕ → Option TenantState 
 RepliesUnder refused frame reply None after =
     (after ≡ None) × (reply ≡ reply_to frame (status_of (unserved_errno frame)) [])
 RepliesUnder refused frame reply (Some s) after =
-    (a : Answer) × AnswersFrame refused s (parsed frame) a
+    (a : Answer) × IsFrameResult refused s (parsed frame) a
     × (reply ≡ reply_to frame a.status a.payload) × (after ≡ Some a.after)
 
 -- `reply` is a possible reply to this frame, with these states of its tenant before and after it:

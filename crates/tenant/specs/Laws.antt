@@ -10,8 +10,8 @@ use Rattle.tenant.specs.Errno.{status_of}
 use Rattle.tenant.specs.Alone.{RepliesUnder, MayReply, IsFault, IsRefusedMemory, NoneIsRefusedMemory, IsServedAlone, AloneWithRefusals}
 
 -- in a state, a command has one result if memory is refused to it, and one if it is not
-abbrev pub OneAnswer : Type 0
-OneAnswer =
+abbrev pub OneCommandResult : Type 0
+OneCommandResult =
     (refused : Bool) (s : TenantState) (command : Command) (a b : Answer)
     → Answers refused s command a → Answers refused s command b → a ≡ b
 

@@ -31,7 +31,7 @@ use Rattle.verifier.specs.declared.refusal.Cause.{Cause}
 use Rattle.verifier.specs.declared.refusal.Cause.TheVariants as cause
 use Rattle.verifier.specs.declared.refusal.Refusal.{Refusal}
 use Rattle.verifier.specs.Judgement.{cause_number, Judges}
-use Rattle.verifier.specs.Maps.{maps_of, entries_of}
+use Rattle.verifier.specs.Maps.{maps_of, objects_at}
 use Rattle.tenant.specs.declared.errno.Errno.{Errno}
 use Rattle.tenant.specs.declared.errno.Errno.TheVariants.{NoEntry, TooBig, BadDescriptor, NoMemory, AccessDenied, BadAddress, Invalid, TooManyOpen, NoSpace}
 use Rattle.tenant.specs.declared.object.OpenObject.{OpenObject}
@@ -320,14 +320,14 @@ handles_from objects (fd ∷ fds) =
 abbrev pub loaded_program : TenantState → List Insn → LoadedProgram
 loaded_program s insns = record {
   insns = insns;
-  named = entries_of (maps_of insns) (targets s);
+  named = objects_at (maps_of insns) (targets s);
   maps = handles_from s.objects (maps_of insns);
 }
 
 -- the result of a load, by the verifier's judgement: a rejection, or the program opened at fd
-abbrev pub answer_of_judgement : TenantState → ℕ → Result (List Insn) Refusal → Answer
-answer_of_judgement s fd (Err refusal) = refuses_load refusal s
-answer_of_judgement s fd (Ok insns) =
+abbrev pub result_of_judgement : TenantState → ℕ → Result (List Insn) Refusal → Answer
+result_of_judgement s fd (Err refusal) = refuses_load refusal s
+result_of_judgement s fd (Ok insns) =
     opens fd
     (record s { objects = table.with_open s.objects fd (object.Program (loaded_program s insns)) })
 
@@ -338,7 +338,7 @@ LoadsAs true s fd slots answer = answer ≡ refuses_for_memory s
 LoadsAs false s fd slots answer =
     (j : Result (List Insn) Refusal)
     × Judges (targets s) slots j
-    × (answer ≡ answer_of_judgement s fd j)
+    × (answer ≡ result_of_judgement s fd j)
 
 -- the result of a load at this free descriptor (`LoadsAs`); TooManyOpen if none is free (None)
 abbrev pub LoadsUnder : Bool → TenantState → Option ℕ → List ℕ → Answer → Type 0
@@ -367,9 +367,9 @@ maps_left left (m ∷ ms) maps = maps_left left ms (slice_set maps m.1 (left m.0
 
 -- the result of a test run with this outcome, and with the state s after it: a number in four
 -- bytes, or the error of a fault, which no run of an accepted program has
-abbrev pub outcome_answer : Outcome → TenantState → Answer
-outcome_answer (Value n) s = gives (little_bytes 4 n) s
-outcome_answer Fault s = refuses BadAddress s
+abbrev pub outcome_result : Outcome → TenantState → Answer
+outcome_result (Value n) s = gives (little_bytes 4 n) s
+outcome_result Fault s = refuses BadAddress s
 
 -- the test run of a loaded program on ten words of context and a packet: word 0 of the context is
 -- the packet's length, before these
@@ -377,7 +377,7 @@ abbrev pub ran : TenantState → LoadedProgram → List ℕ → List ℕ → Ans
 ran s l words packet =
     let given = maps_given s l in
     let context = length packet ∷ words in
-    outcome_answer (result_of l.insns given context packet) (record s {
+    outcome_result (result_of l.insns given context packet) (record s {
       maps = maps_left (left_of l.insns given context packet) l.maps s.maps;
     })
 

@@ -13,14 +13,14 @@ use Rattle.tenant.specs.State.{TenantState}
 use Rattle.tenant.specs.Machine.{Answer, gives, opens, refuses, refuses_load}
 
 -- the answer that a reply or an error represents, with the state after the command
-abbrev pub shown_answer : Result Reply Errno → TenantState → Answer
-shown_answer (Ok reply.Done) s = gives [] s
-shown_answer (Ok (reply.Opened fd)) s = opens fd s
-shown_answer (Ok (reply.Value value)) s = gives value.now s
-shown_answer (Ok (reply.Key key)) s = gives (key_bytes key) s
-shown_answer (Ok (reply.Number number)) s = gives (little_bytes 4 number) s
-shown_answer (Ok (reply.Refused refusal)) s = refuses_load refusal s
-shown_answer (Err errno) s = refuses errno s
+abbrev pub shown_reply : Result Reply Errno → TenantState → Answer
+shown_reply (Ok reply.Done) s = gives [] s
+shown_reply (Ok (reply.Opened fd)) s = opens fd s
+shown_reply (Ok (reply.Value value)) s = gives value.now s
+shown_reply (Ok (reply.Key key)) s = gives (key_bytes key) s
+shown_reply (Ok (reply.Number number)) s = gives (little_bytes 4 number) s
+shown_reply (Ok (reply.Refused refusal)) s = refuses_load refusal s
+shown_reply (Err errno) s = refuses errno s
 
 -- what a command may return, so that its reply can be written: a descriptor is below the end of the
 -- table, a payload is no longer than the longest, and a slot fits in four bytes. Its error is not

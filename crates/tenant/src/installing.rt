@@ -9,7 +9,7 @@ ghost use Rattle.tenant.specs.Kept.{IsBound, state_in};
 ghost use Rattle.tenant.specs.Loaded.{map_handles};
 ghost use Rattle.tenant.specs.inside.Loading.{AreLive};
 ghost use Rattle.tenant.specs.Machine.{loaded_program, targets, Loads};
-ghost use Rattle.tenant.specs.Replies.{shown_answer, IsWritable};
+ghost use Rattle.tenant.specs.Replies.{shown_reply, IsWritable};
 ghost use Rattle.tenant.specs.State.{TenantState};
 
 use crate::errno::Errno;
@@ -90,14 +90,14 @@ impl Tenant {
     ) -> Result<Result<Reply<'static>, Errno>, Box<Verified>>
         ensures loaded { IfOk result (λ reply. (part : List ℕ) → (refused : Bool)
             × Loads refused (state_in part self.old) 1 (program_bytes program.value.code)
-            (shown_answer reply (state_in part self.new))) }
+            (shown_reply reply (state_in part self.new))) }
         ensures fits { OnOk result ((part : List ℕ) →
             Fits program.value (targets (state_in part self.old))) }
         ensures stale { IfErr result (λ kept. (kept.value ≡ program.value) × (self.new ≡ self.old)
             × ((part : List ℕ) → ¬ Fits program.value (targets (state_in part self.old)))) }
         ensures writable { IfOk result IsWritable }
         ensures no_payload { IfOk result (λ reply. (s : TenantState) →
-            (shown_answer reply s).payload ≡ []) }
+            (shown_reply reply s).payload ≡ []) }
     {
         if !self.fits(&program) {
             return Err(program);

@@ -1,13 +1,13 @@
 //! Laws of the machine. Each law is the contract of a function that does nothing.
 
 ghost use Rattle.tenant.specs.Batch.{BatchIsItsFrames, RefusedAsItsFrame, OneResultEach};
-ghost use Rattle.tenant.specs.Laws.{OneAnswer, OneReply, OneAlone, ClearFlagMeansNoRefusal, ClearFlagMeansAlone};
+ghost use Rattle.tenant.specs.Laws.{OneCommandResult, OneReply, OneAlone, ClearFlagMeansNoRefusal, ClearFlagMeansAlone};
 ghost use Rattle.tenant.specs.Laws.{RefusalsAreReported, OnlyCreationsAndLoadsAreRefused, UnrefusedRepliesMeanAlone, FaultsHaveNoPayload};
 
 /// A law: in a state, a command has at most one result (status, payload and next state) if memory is refused to it, and at most one if it
 /// is not.
-pub fn one_answer()
-    ensures { OneAnswer }
+pub fn one_command_result()
+    ensures { OneCommandResult }
 {
     verifier::laws::one_judgement();
 }
@@ -17,7 +17,7 @@ pub fn one_answer()
 pub fn one_reply()
     ensures { OneReply }
 {
-    one_answer();
+    one_command_result();
 }
 
 /// A law: if no memory is refused, a tenant's state and its frames determine its replies and the state after them.

@@ -4,13 +4,13 @@ ghost use Rattle.std.specs.Prelude.{◌≡◌, ◌≤◌, ◌+◌, ◌*◌, ◌<
 ghost use Rattle.bpf_maps.specs.Live.{holds_at};
 ghost use Rattle.fd_table.specs.Table.{first_descriptor, most, named, lowest};
 ghost use Rattle.verifier.specs.Judgement.{Judges};
-ghost use Rattle.verifier.specs.Maps.{maps_of, entries_of};
+ghost use Rattle.verifier.specs.Maps.{maps_of, objects_at};
 ghost use Rattle.verifier.specs.Verdict.{IsAccepted};
 ghost use Rattle.tenant.specs.Kept.{times_listed, AreHeld, IsBound, state_in};
 ghost use Rattle.tenant.specs.Loaded.{map_handles};
 ghost use Rattle.tenant.specs.inside.Loading.{with_program, AreLive, IsHeldMore};
 ghost use Rattle.tenant.specs.Machine.{loaded_program, named_handle, handles_from, targets, Loads};
-ghost use Rattle.tenant.specs.Replies.{shown_answer, IsWritable};
+ghost use Rattle.tenant.specs.Replies.{shown_reply, IsWritable};
 
 use crate::errno::Errno;
 use crate::object::{LoadedProgram, OpenObject};
@@ -70,7 +70,7 @@ fn maps_named(
 
 impl Tenant {
     /// The loaded program that `program` becomes, with the handles of its maps. It was accepted with the objects that are open now
-    /// (`accepted`, `entries`), so each descriptor of its maps names a live map. `AllocError`: out of memory.
+    /// (`accepted`, `objects`), so each descriptor of its maps names a live map. `AllocError`: out of memory.
     pub(crate) fn with_maps(
         &self,
         alloc: Global,
@@ -78,8 +78,8 @@ impl Tenant {
     ) -> Result<LoadedProgram, AllocError>
         requires accepted { (part : List ℕ)
             → IsAccepted program.code (targets (state_in part self.now)) }
-        requires entries { (part : List ℕ) → program.entries
-            ≡ entries_of (maps_of program.code) (targets (state_in part self.now)) }
+        requires objects { (part : List ℕ) → program.objects
+            ≡ objects_at (maps_of program.code) (targets (state_in part self.now)) }
         ensures insns { IfOk result (λ l. l.insns ≡ program.code) }
         ensures found { IfOk result (λ l. (part : List ℕ) →
             l ≡ loaded_program (state_in part self.now) l.insns) }
@@ -153,7 +153,7 @@ impl Tenant {
     ) -> Result<Reply<'static>, Errno>
         ensures answer { (part : List ℕ) → (refused : Bool)
             × Loads refused (state_in part self.old) kind slots.now
-            (shown_answer result (state_in part self.new)) }
+            (shown_reply result (state_in part self.new)) }
         ensures writable { length slots.now < 2 ^ 32 → IsWritable result }
     {
         if kind != SOCKET_FILTER {

@@ -34,7 +34,7 @@ impl Model for LoadedProgram {
 
     ghost view = { λ l. record {
       insns = l.program.code;
-      named = l.program.entries;
+      named = l.program.objects;
       maps = zip (maps_of l.program.code) l.maps.items;
     } };
 
@@ -48,7 +48,7 @@ impl LoadedProgram {
     pub(crate) fn new(program: Verified, maps: Vec<MapKey>) -> LoadedProgram
         requires { length maps.items ≡ length (maps_of program.code) }
         ensures insns { result.insns ≡ program.code }
-        ensures named { result.named ≡ program.entries }
+        ensures named { result.named ≡ program.objects }
         ensures maps { result.maps ≡ zip (maps_of program.code) maps.items }
     {
         LoadedProgram { program, maps }
@@ -61,11 +61,11 @@ impl LoadedProgram {
         &self.maps
     }
 
-    /// The accepted program, without the handles of its maps. In the contract, `entries` and `named` are the descriptors in the program
+    /// The accepted program, without the handles of its maps. In the contract, `objects` and `named` are the descriptors in the program
     /// that were open at the load, with the objects that they named.
     pub fn program(&self) -> &Verified
         ensures code { result.now.code ≡ self.now.insns }
-        ensures entries { result.now.entries ≡ self.now.named }
+        ensures objects { result.now.objects ≡ self.now.named }
     {
         &self.program
     }

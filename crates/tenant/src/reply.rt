@@ -1,6 +1,6 @@
 //! The replies to commands.
 
-ghost use Rattle.tenant.specs.Replies.{IsWritable, Writes, shown_answer};
+ghost use Rattle.tenant.specs.Replies.{IsWritable, Writes, shown_reply};
 ghost use Rattle.tenant.specs.State.{TenantState};
 
 use crate::errno::Errno;
@@ -32,7 +32,7 @@ pub enum Reply<'a> {
 #[inline(always)]
 pub fn write_command_reply(head: Head, answer: Result<Reply<'_>, Errno>, reply: &mut ReplyBuf)
     requires { IsWritable answer }
-    ensures { (s : TenantState) → Writes head reply.new (shown_answer answer.entry s) }
+    ensures { (s : TenantState) → Writes head reply.new (shown_reply answer.entry s) }
 {
     match answer {
         Ok(Reply::Done) => write_reply(head, 0, &[], reply),

@@ -12,7 +12,7 @@ ghost use Rattle.tenant.specs.Machine.{kind_of, asked_shape, created, element_lo
 ghost use Rattle.tenant.specs.Machine.{element_updated, element_deleted, given_next, closed, object_target, targets};
 ghost use Rattle.tenant.specs.Kept.{times_listed, AreHeld, state_in};
 ghost use Rattle.tenant.specs.inside.Leaves.{LeavesHeldMaps};
-ghost use Rattle.tenant.specs.Replies.{shown_answer, IsWritable};
+ghost use Rattle.tenant.specs.Replies.{shown_reply, IsWritable};
 ghost use Rattle.tenant.specs.inside.Named.{IsMapOf, map_fault};
 
 use crate::errno::Errno;
@@ -157,7 +157,7 @@ impl Tenant {
     /// `NoEntry` if the key is absent.
     pub fn look_up<'a>(&self, fd: u32, key: &[u8], part: &'a [u8]) -> Result<Reply<'a>, Errno>
         requires { length part.now ≡ PART }
-        ensures answer { shown_answer result (state_in part.now self.now)
+        ensures answer { shown_reply result (state_in part.now self.now)
             ≡ element_looked_up (state_in part.now self.now) fd key.now }
         ensures writable { IsWritable result }
     {
@@ -194,7 +194,7 @@ impl Tenant {
     ) -> Result<Reply<'static>, Errno>
         requires { length part.old ≡ PART }
         ensures answer { (refused : Bool)
-            × (shown_answer result (state_in part.new self.new)
+            × (shown_reply result (state_in part.new self.new)
             ≡ created refused (state_in part.old self.old)
             (asked_shape (kind_of kind) key_size value_size max_entries flags)) }
         ensures writable { IsWritable result }
@@ -229,7 +229,7 @@ impl Tenant {
         part: &mut [u8],
     ) -> Result<Reply<'static>, Errno>
         requires { length part.old ≡ PART }
-        ensures answer { shown_answer result (state_in part.new self.new)
+        ensures answer { shown_reply result (state_in part.new self.new)
             ≡ element_updated (state_in part.old self.old) fd flags key_and_value.now }
         ensures writable { IsWritable result }
         ensures length { length part.new ≡ PART }
@@ -265,7 +265,7 @@ impl Tenant {
     /// `BadDescriptor` if the descriptor is not open; `Invalid` if it names no map, if the key has the wrong size, or if the map is an
     /// array; `NoEntry` if the key is absent. Then nothing has changed.
     pub fn delete(&mut self, fd: u32, key: &[u8]) -> Result<Reply<'static>, Errno>
-        ensures answer { (part : List ℕ) → shown_answer result (state_in part self.new)
+        ensures answer { (part : List ℕ) → shown_reply result (state_in part self.new)
             ≡ element_deleted (state_in part self.old) fd key.now }
         ensures writable { IsWritable result }
     {
@@ -289,7 +289,7 @@ impl Tenant {
     /// `BadDescriptor` if the descriptor is not open, `Invalid` if it names no map or the key is not empty and has the wrong size,
     /// `NoEntry` if there is no next key.
     pub fn next_key(&self, fd: u32, key: &[u8]) -> Result<Reply<'_>, Errno>
-        ensures answer { (part : List ℕ) → shown_answer result (state_in part self.now)
+        ensures answer { (part : List ℕ) → shown_reply result (state_in part self.now)
             ≡ given_next (state_in part self.now) fd key.now }
         ensures writable { IsWritable result }
     {
@@ -314,7 +314,7 @@ impl Tenant {
     /// `BadDescriptor` if the descriptor is not open. Then nothing has changed.
     pub fn close(&mut self, fd: u32, part: &mut [u8]) -> Result<Reply<'static>, Errno>
         requires { length part.old ≡ PART }
-        ensures answer { shown_answer result (state_in part.new self.new)
+        ensures answer { shown_reply result (state_in part.new self.new)
             ≡ closed (state_in part.old self.old) fd (named self.old.objects fd) }
         ensures writable { IsWritable result }
         ensures length { length part.new ≡ PART }

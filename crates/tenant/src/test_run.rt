@@ -6,7 +6,7 @@ ghost use Rattle.bpf_helpers.specs.Parts.{IsPartOf};
 ghost use Rattle.fd_table.specs.Table.{named};
 ghost use Rattle.tenant.specs.Kept.{state_in};
 ghost use Rattle.tenant.specs.Machine.{run_of};
-ghost use Rattle.tenant.specs.Replies.{shown_answer, IsWritable};
+ghost use Rattle.tenant.specs.Replies.{shown_reply, IsWritable};
 
 use crate::errno::Errno;
 use crate::object::program_at;
@@ -36,7 +36,7 @@ impl Tenant {
         arena: &mut Arena,
     ) -> Result<Reply<'static>, Errno>
         requires part { IsPartOf tenant arena.old }
-        ensures answer { shown_answer result (state_in (part_bytes arena.new tenant) self.new)
+        ensures answer { shown_reply result (state_in (part_bytes arena.new tenant) self.new)
             ≡ run_of (state_in (part_bytes arena.old tenant) self.old)
             words.now packet.now (named self.old.objects fd) }
         ensures writable { IsWritable result }

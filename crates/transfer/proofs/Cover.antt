@@ -10,7 +10,7 @@ use Rattle.words.specs.declared.operator.Condition.{Condition}
 use Rattle.insn_set.specs.declared.insn.Operand.{Operand}
 use Rattle.insn_set.specs.declared.insn.Insn.{Insn}
 use Rattle.insn_set.specs.View.{View, Access, WideValue, binary, unary, jump, branch, access, wide_load, call}
-use Rattle.insn_set.specs.View.{exit, loads, stores, changes, immediate, map_ref, value_ref, view, IsView}
+use Rattle.insn_set.specs.View.{exit, loads, stores, changes, immediate, map_ref, value_ref, view, WideLoadFitsWord}
 use Rattle.insn_set.specs.ViewLaws.{profile_slots, view_is}
 use Rattle.insn_set.specs.Profile.{profile_of}
 use Rattle.insn_set.specs.Spelling.{slots, IsInsn}
@@ -276,12 +276,12 @@ module _ (laws : Laws) (here : Here) (f : Facts) (s : RunState) (is_known : IsKn
 
   -- ---- all instructions
 
-  wide_covered : (dst : ℕ) (value : WideValue) → IsView (wide_load dst value) → Covered (wide_load dst value)
+  wide_covered : (dst : ℕ) (value : WideValue) → WideLoadFitsWord (wide_load dst value) → Covered (wide_load dst value)
   wide_covered dst (immediate n) is = assigned_covered here 2 dst is_known (constant_of here n is)
   wide_covered dst (map_ref m) is = map_covered dst m (here.shapes m) refl
   wide_covered dst (value_ref m off) is = value_covered dst m off (here.shapes m) refl
 
-  view_covered : (v : View) → IsView v → IsSome (target_of v) → Covered v
+  view_covered : (v : View) → WideLoadFitsWord v → IsSome (target_of v) → Covered v
   view_covered (binary wide op dst src) is there = binary_covered wide op dst src
   view_covered (unary wide op dst src) is there = unary_covered wide op dst src
   view_covered (jump off) is there =

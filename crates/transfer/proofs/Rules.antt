@@ -36,7 +36,7 @@ use Rattle.transfer.specs.declared.arithmetic.Direction.TheVariants.{Forwards, B
 use Rattle.transfer.specs.Arithmetic.{check_readable, near, stack_moved, value_by, distance, moved_offset, pointer_moved}
 use Rattle.transfer.specs.Arithmetic.{is_maybe_value, of_scalars, of_scalar, sum_kind, difference_kind, unless_maybe, arithmetic_kind}
 use Rattle.transfer.specs.Branches.{Edges, falls, pointer_edges, branch_edges}
-use Rattle.transfer.specs.Effects.{source_kind, first_kind, assigns, is_word, context_read, load_kind, store_facts, number_or}
+use Rattle.transfer.specs.Effects.{source_kind, first_operand_kind, assigns, is_word, context_read, load_kind, store_facts, number_or}
 use Rattle.transfer.specs.Effects.{is_known_multiple, atomic_facts, map_of, value_of, known, exits_with, access_edges, wide_kind, effect_of, effect}
 use Rattle.transfer.specs.Reasons.{IsSafetyReason, IsReasonFor, IsReasonOf, TransferReasons}
 use Rattle.transfer.specs.Calls.{shaped, map_kind, check_room, input_kind, output_facts, number_range, lengths_end}
@@ -72,7 +72,7 @@ register_rule : {A : Type 0} (f : Facts) (r : ℕ) (go : Kind → Result A Reaso
     → ((k : Kind) → ByRule (go k)) → ByRule (and_then_ok (check_readable (kind_at f r)) go)
 register_rule f r go next = then_rule _ _ (readable_rule (kind_at f r)) next
 
-first_rule : (op : AluOp) (k : Kind) → ByRule (first_kind op k)
+first_rule : (op : AluOp) (k : Kind) → ByRule (first_operand_kind op k)
 first_rule alu.Mov k = tt
 first_rule op k = readable_rule k
 

@@ -23,7 +23,7 @@ use Rattle.tagged_model.specs.Step.{operand_value, assigned}
 use Rattle.abstraction.specs.Admits.{IsOfKind, HasKind}
 use Rattle.transfer.specs.Arithmetic.{check_readable}
 use Rattle.transfer.specs.Branches.{falls}
-use Rattle.transfer.specs.Effects.{source_kind, first_kind}
+use Rattle.transfer.specs.Effects.{source_kind, first_operand_kind}
 use Rattle.transfer.specs.Sound.{IsKindAt, EdgeAdmits}
 use Rattle.transfer.proofs.Parts.{Here, Agree, IsKindOf, IsReadable, IsFound, IsKnown, still_of, OnFalling, IsCoveredIf}
 use Rattle.transfer.proofs.Words.{kind_words}
@@ -88,7 +88,7 @@ module _ (here : Here) where
 
     -- a move does not read its destination
     pub first_found : (op : AluOp) (r : ℕ)
-        → Agree (IsFound here (first_operand op (s.registers r))) (first_kind op (kind_at f r))
+        → Agree (IsFound here (first_operand op (s.registers r))) (first_operand_kind op (kind_at f r))
         (first_operand op (s.registers r))
     first_found alu.Mov r = let k = constant_of here 0 (omega arith) in record { kind = k; from = refl; readable = tt }
     first_found op r = register_found r

@@ -17,7 +17,7 @@ use Rattle.words.specs.declared.stack.AccessSize.{AccessSize}
 use Rattle.insn_set.specs.declared.insn.Operand.{Operand}
 use Rattle.insn_set.specs.declared.insn.Operand.TheVariants.{Imm, Reg}
 use Rattle.insn_set.specs.View.{View, Access, WideValue, binary, unary, jump, branch, access, wide_load, call}
-use Rattle.insn_set.specs.View.{exit, loads, stores, changes, immediate, map_ref, value_ref, view, IsView}
+use Rattle.insn_set.specs.View.{exit, loads, stores, changes, immediate, map_ref, value_ref, view, WideLoadFitsWord}
 use Rattle.insn_set.specs.ViewLaws.{view_is}
 use Rattle.reg_kinds.specs.declared.kind.Kind.{Kind}
 use Rattle.reg_kinds.specs.declared.kind.Kind.TheVariants as kind
@@ -47,7 +47,7 @@ use Rattle.transfer.specs.declared.arithmetic.Direction.TheVariants.{Forwards, B
 use Rattle.transfer.specs.Arithmetic.{check_readable, near, stack_moved, value_by, distance, moved_offset, pointer_moved}
 use Rattle.transfer.specs.Arithmetic.{is_maybe_value, of_scalars, of_scalar, sum_kind, difference_kind, unless_maybe, arithmetic_kind}
 use Rattle.transfer.specs.Branches.{Edges, falls, with_source, with_pair, is_same, number_edges, null_edges, pointer_edges, branch_edges}
-use Rattle.transfer.specs.Effects.{source_kind, first_kind, assigns, is_word, context_read, load_kind, store_facts, number_or}
+use Rattle.transfer.specs.Effects.{source_kind, first_operand_kind, assigns, is_word, context_read, load_kind, store_facts, number_or}
 use Rattle.transfer.specs.Effects.{is_known_multiple, atomic_facts, map_of, value_of, known, exits_with, access_edges, wide_kind, effect_of, effect}
 use Rattle.transfer.specs.Calls.{map_kind, check_room, input_kind, output_facts, number_range, length_range}
 use Rattle.transfer.specs.Calls.{context_kind, readable_two, readable_four, any_number, call_facts}
@@ -80,7 +80,7 @@ module _ (bound : ℕ) (shapes : Shapes) (at : ℕ) (lt : at < bound) where
   source_words f wide (Imm z) h = word_of wide z
   source_words f wide (Reg r) h = h.registers r
 
-  first_words : (op : AluOp) (k : Kind) → IsKindAt bound k → OkIs (IsKindAt bound) (first_kind op k)
+  first_words : (op : AluOp) (k : Kind) → IsKindAt bound k → OkIs (IsKindAt bound) (first_operand_kind op k)
   first_words alu.Mov k h = omega arith
   first_words op k h = readable_words k h
 
@@ -335,12 +335,12 @@ module _ (bound : ℕ) (shapes : Shapes) (at : ℕ) (lt : at < bound) where
         register_words src _ (λ v _. then_ok _ _ _ _ (changed_words f (access_size size) off k v h) falls_words)
 
     wide_words : (dst : ℕ) (value : WideValue)
-        → IsView (wide_load dst value) → OkIs (IsKindAt bound) (wide_kind shapes value)
+        → WideLoadFitsWord (wide_load dst value) → OkIs (IsKindAt bound) (wide_kind shapes value)
     wide_words dst (immediate n) is = is
     wide_words dst (map_ref m) is = map_words m (shapes m)
     wide_words dst (value_ref m off) is = value_words m off (shapes m)
 
-    view_words : (v : View) → IsView v → OkIs AreFactsBoth (effect_of shapes at v f)
+    view_words : (v : View) → WideLoadFitsWord v → OkIs AreFactsBoth (effect_of shapes at v f)
     view_words (binary wide op dst src) is = binary_words wide op dst src
     view_words (unary wide op dst src) is =
         register_words src _

@@ -49,9 +49,9 @@ source_kind f wide (Reg r) = kind_at f r
 
 -- the kind of the first operand; a move does not read it, so it is taken as the number 0, readable
 -- or not
-abbrev pub first_kind : AluOp → Kind → Result Kind Reason
-first_kind alu.Mov k = Ok (kind.Scalar (constant 0))
-first_kind op k = check_readable k
+abbrev pub first_operand_kind : AluOp → Kind → Result Kind Reason
+first_operand_kind alu.Mov k = Ok (kind.Scalar (constant 0))
+first_operand_kind op k = check_readable k
 
 -- the edge to the next instruction, after register dst is assigned a value of the kind in r; or the
 -- reason in r
@@ -178,7 +178,7 @@ exit_edges f = and_then_ok (check_readable (kind_at f 0)) exits_with
 -- the first reason against it
 abbrev pub operator_edges : Bool → AluOp → ℕ → Operand → Facts → Result Edges Reason
 operator_edges wide op dst src f =
-    and_then_ok (first_kind op (kind_at f dst))
+    and_then_ok (first_operand_kind op (kind_at f dst))
     (λ a.
     and_then_ok (check_readable (source_kind f wide src))
     (λ b. assigns f dst (arithmetic_kind wide op a b)))

@@ -9,7 +9,7 @@ ghost use Rattle.insn_set.specs.Atomic.{access_size};
 ghost use Rattle.tagged_model.specs.Shape.{longest_value};
 ghost use Rattle.transfer.specs.Arithmetic.{of_scalar};
 ghost use Rattle.transfer.specs.Branches.{ends, falls};
-ghost use Rattle.transfer.specs.Effects.{source_kind, first_kind, context_read, load_kind, store_facts};
+ghost use Rattle.transfer.specs.Effects.{source_kind, first_operand_kind, context_read, load_kind, store_facts};
 ghost use Rattle.transfer.specs.Effects.{number_or, stack_changed, is_known_multiple, atomic_facts};
 ghost use Rattle.transfer.specs.Effects.{map_of, value_of, exit_edges, operator_edges, unary_edges, effect};
 ghost use Rattle.reg_kinds.specs.declared.reason.Reason.TheVariants.{OutsideStack, PointerStored};
@@ -58,8 +58,8 @@ fn source(facts: &Facts, wide: bool, src: &Operand) -> Kind
 /// The kind of the first operand of `op`; `kind` is that of its register. A move does not read the register, so the operand is taken as the
 /// number 0, whether it is readable or not. `UnreadableRegister` if `op` is no move and the register is not readable.
 #[inline(always)]
-fn first(op: AluOp, kind: Kind) -> Result<Kind, Reason>
-    ensures { result ≡ first_kind op kind }
+fn first_operand(op: AluOp, kind: Kind) -> Result<Kind, Reason>
+    ensures { result ≡ first_operand_kind op kind }
 {
     match op {
         AluOp::Mov => Ok(Kind::Scalar(Range::constant(0))),
@@ -309,7 +309,7 @@ fn assign(facts: &mut Facts, dst: Reg, kind: Kind) -> Flow
 
 /// The falling edge, after an instruction that may change only the stack slot `slot`, or no stack slot if `slot` is `None`.
 #[inline(always)]
-fn written(slot: Option<usize>) -> Flow
+fn flow_after_write(slot: Option<usize>) -> Flow
     ensures edges { (f : AnyFacts) → edges_of result f ≡ edges_of Falls f }
     ensures stack { (f g : AnyFacts) → ChangesAtMost slot f g → KeepsStack result f g }
 {
@@ -322,7 +322,7 @@ fn written(slot: Option<usize>) -> Flow
 /// The ranges of both operands, that of `dst` first; `None` unless both are numbers. A constant is sign-extended to 64 bits (`wide`) or
 /// taken modulo 2^32. The range of a register is that of all its 64 bits, also if `wide` is false.
 #[inline(always)]
-fn numbers(facts: &Facts, wide: bool, dst: Reg, src: &Operand) -> Option<(Range, Range)>
+fn operand_ranges(facts: &Facts, wide: bool, dst: Reg, src: &Operand) -> Option<(Range, Range)>
     ensures numbers { IfSome result (λ p. (kind_at facts.now dst ≡ Scalar p.0)
         × (source_kind facts.now wide src.now ≡ Scalar p.1)) }
 {
@@ -355,7 +355,7 @@ fn operate_on_any(
         ≡ Err reason) }
     ensures stays { OnErr result (facts.new ≡ facts.old) }
 {
-    let a = first(op, facts.kind(dst))?;
+    let a = first_operand(op, facts.kind(dst))?;
     let b = check_readable(source(facts, wide, &src))?;
     let kind = arithmetic(wide, op, a, b)?;
     facts.set_kind(dst, kind);
@@ -378,7 +378,7 @@ fn operate(facts: &mut Facts, wide: bool, op: AluOp, dst: Reg, src: Operand) -> 
         facts.set_kind(dst, kind);
         return Ok(());
     }
-    match numbers(facts, wide, dst, &src) {
+    match operand_ranges(facts, wide, dst, &src) {
         Some((a, b)) if op != AluOp::Mov => {
             let kind = Kind::Scalar(result_range(wide, Operator::Binary(op), a, b));
             facts.set_kind(dst, kind);
@@ -503,7 +503,7 @@ pub fn apply(facts: &mut Facts, named: &[Named], slot: usize, insn: &Insn) -> Re
         } => {
             let base = check_readable(facts.kind(dst))?;
             let value = check_readable(source(facts, true, &src))?;
-            Ok(written(store(facts, named, size, off, base, value)?))
+            Ok(flow_after_write(store(facts, named, size, off, base, value)?))
         }
         Insn::Atomic {
             size,
@@ -514,7 +514,7 @@ pub fn apply(facts: &mut Facts, named: &[Named], slot: usize, insn: &Insn) -> Re
         } => {
             let base = check_readable(facts.kind(dst))?;
             let value = check_readable(facts.kind(src))?;
-            Ok(written(change(facts, named, size, off, base, value)?))
+            Ok(flow_after_write(change(facts, named, size, off, base, value)?))
         }
         Insn::Const { dst, value } => Ok(assign(facts, dst, Kind::Scalar(Range::constant(value)))),
         Insn::MapFd { dst, fd } => {

@@ -13,7 +13,7 @@ use Rattle.insn_set.specs.Atomic.{access_size}
 use Rattle.transfer.specs.Branches.{Edges}
 use Rattle.transfer.specs.Branches.{falls as falls_on}
 use Rattle.transfer.specs.Arithmetic.{check_readable, arithmetic_kind, of_scalar}
-use Rattle.transfer.specs.Effects.{source_kind, first_kind, assigns, load_kind, store_facts}
+use Rattle.transfer.specs.Effects.{source_kind, first_operand_kind, assigns, load_kind, store_facts}
 use Rattle.transfer.specs.Effects.{atomic_facts, access_edges, wide_kind, known, exits_with, effect_of, effect}
 use Rattle.transfer.specs.Calls.{call_facts}
 use Rattle.tagged_model.specs.Named.{Shapes}
@@ -81,7 +81,7 @@ module _ (shapes : Shapes) (at : ℕ) (f : Facts) where
   view_leads : (v : View) → IfOk (LeadOnly v) (effect_of shapes at v f)
   view_leads (binary wide op dst src) =
       let v = binary wide op dst src in
-      after_given (LeadOnly v) (first_kind op (kind_at f dst)) _
+      after_given (LeadOnly v) (first_operand_kind op (kind_at f dst)) _
       (λ a. after_given (LeadOnly v) (check_readable (source_kind f wide src)) _
       (λ b. assigned_alone v f dst (arithmetic_kind wide op a b) refl))
   view_leads (unary wide op dst src) =

@@ -112,7 +112,7 @@ some_slot (Some to) h = (to, refl)
 pub goes_ahead : (code : List Insn) (named : List Named) → HasNoFault (structure_fault code named) → GoesAhead code
 goes_ahead code named none =
     record {
-      behind = λ at i begins h.
+      next = λ at i begins h.
           let shape = shaped code named none at i begins in
           falls_begins code at i shape (falls_to i at) begins (falls_lead code at i shape (falls_to i at) h refl);
       target = λ at i begins h.

@@ -5,7 +5,7 @@ use Rattle.std.proofs.lemmas.Option.{none-some, same_Some}
 use Rattle.tagged_model.specs.declared.shape.MapShape.{MapShape}
 use Rattle.tagged_model.specs.declared.shape.Named.{Named}
 use Rattle.tagged_model.specs.Named.{target_of, shape_in}
-use Rattle.verifier.specs.Maps.{without, distinct, maps_of, is_among, entries_of}
+use Rattle.verifier.specs.Maps.{without, distinct, maps_of, is_among, objects_at}
 use Rattle.verifier.specs.Laws.{MapsAreListed}
 use Rattle.verifier.proofs.LoadedShapes.{among_maps}
 
@@ -95,19 +95,19 @@ one_index (x ∷ xs) (suc i) (suc j) m h e f = ap suc (one_index xs i j m h.1 e 
 module _ (fds : List ℕ) (fd : ℕ) where
   -- a descriptor that has a shape among the entries that are kept is in the list by which they were kept
   pub shape_kept : (named : List Named) (shape : MapShape)
-      → shape_in (target_of (entries_of fds named) fd) ≡ Some shape → is_among fds fd ≡ true
+      → shape_in (target_of (objects_at fds named) fd) ≡ Some shape → is_among fds fd ≡ true
   unfolding target_of
   shape_kept [] shape e = absurd (none-some shape e)
   shape_kept (n ∷ ns) shape e = by (is_among fds n.fd) (n.fd == fd) refl refl (shape_kept ns shape) e
     where
       by : (b c : Bool)
           → is_among fds n.fd ≡ b → (n.fd == fd) ≡ c
-          → (shape_in (target_of (entries_of fds ns) fd) ≡ Some shape → is_among fds fd ≡ true)
-          → shape_in (target_of (cond b (n ∷ entries_of fds ns) (entries_of fds ns)) fd) ≡ Some shape
+          → (shape_in (target_of (objects_at fds ns) fd) ≡ Some shape → is_among fds fd ≡ true)
+          → shape_in (target_of (cond b (n ∷ objects_at fds ns) (objects_at fds ns)) fd) ≡ Some shape
           → is_among fds fd ≡ true
       by true true f g rest h = sym (ap (is_among fds) (eqb-true n.fd fd g)) ∙ f
       by true false f g rest h =
-          rest (sym (ap (λ t. shape_in (cond t (Some n.target) (target_of (entries_of fds ns) fd))) g) ∙ h)
+          rest (sym (ap (λ t. shape_in (cond t (Some n.target) (target_of (objects_at fds ns) fd))) g) ∙ h)
       by false c f g rest h = rest h
 
 pub maps_are_listed : MapsAreListed

@@ -28,7 +28,7 @@ use Rattle.transfer.specs.Effects.{effect}
 use Rattle.transfer.specs.Reasons.{IsUnknownHelper, IsUnshapedMap, IsNoValue, IsReasonOf, TransferReasons}
 use Rattle.verifier.specs.Shape.{is_unknown_helper, is_map, is_not_open, is_not_map, is_no_value, structure_fault}
 use Rattle.verifier.specs.Before.{facts_before}
-use Rattle.verifier.specs.Maps.{without, distinct, maps_of, is_among, entries_of, shapes_of}
+use Rattle.verifier.specs.Maps.{without, distinct, maps_of, is_among, objects_at, shapes_of}
 use Rattle.verifier.specs.Verdict.{reason_of, safety_fault, HasNoFault}
 use Rattle.verifier.specs.Laws.{SafetyFollowsShape, LoadedMapsHaveShapes}
 use Rattle.verifier.specs.ShapeLaws.{each_is_fine}
@@ -42,15 +42,15 @@ module _ (fds : List ℕ) (fd : ℕ) (among : is_among fds fd ≡ true) where
 
   kept_at : (n : Named) (ns : List Named) (b : Bool)
       → is_among fds n.fd ≡ b
-      → target_of (entries_of fds ns) fd ≡ target_of ns fd
-      → target_of (cond b (n ∷ entries_of fds ns) (entries_of fds ns)) fd ≡ target_of (n ∷ ns) fd
+      → target_of (objects_at fds ns) fd ≡ target_of ns fd
+      → target_of (cond b (n ∷ objects_at fds ns) (objects_at fds ns)) fd ≡ target_of (n ∷ ns) fd
   unfolding target_of
   kept_at n ns true e rest = ap (λ o. cond (n.fd == fd) (Some n.target) o) rest
   kept_at n ns false e rest =
       rest ∙ sym (cond-false (n.fd == fd) (Some n.target) (target_of ns fd) (ne_eqb n.fd fd (other_name n.fd e)))
 
   -- among the entries that are kept, a descriptor of the list names what it names among all
-  pub target_kept : (named : List Named) → target_of (entries_of fds named) fd ≡ target_of named fd
+  pub target_kept : (named : List Named) → target_of (objects_at fds named) fd ≡ target_of named fd
   target_kept [] = refl
   target_kept (n ∷ ns) = kept_at n ns (is_among fds n.fd) refl (target_kept ns)
 

@@ -22,7 +22,7 @@ use Rattle.tagged_model.specs.Table.{has_direct_value}
 use Rattle.tagged_model.specs.Named.{Shapes, target_of, shape_in, shapes_named}
 use Rattle.verifier.specs.Fits.{Fits, SameShapesAreAccepted}
 use Rattle.verifier.specs.Judgement.{Judges}
-use Rattle.verifier.specs.Maps.{maps_of, is_among, entries_of, shapes_of}
+use Rattle.verifier.specs.Maps.{maps_of, is_among, objects_at, shapes_of}
 use Rattle.verifier.specs.Shape.{leads_outside, leads_backward, is_reachable, is_number, calls_unknown, is_map, is_not_open}
 use Rattle.verifier.specs.Shape.{is_not_map, is_no_value, lacks_value, first_reason, shape_reason, shape_reason_at, structure_fault}
 use Rattle.verifier.specs.Verdict.{safety_fault, HasNoFault, IsAccepted}
@@ -38,10 +38,10 @@ each_among P fds all fd among =
 
 -- a descriptor that is not listed has no shape
 none_kept : (fds : List ℕ) (ns : List Named) (fd : ℕ)
-    → is_among fds fd ≡ false → shape_in (target_of (entries_of fds ns) fd) ≡ None
-none_kept fds ns fd out = by (shape_in (target_of (entries_of fds ns) fd)) refl
+    → is_among fds fd ≡ false → shape_in (target_of (objects_at fds ns) fd) ≡ None
+none_kept fds ns fd out = by (shape_in (target_of (objects_at fds ns) fd)) refl
   where
-    by : (o : Option MapShape) → shape_in (target_of (entries_of fds ns) fd) ≡ o → o ≡ None
+    by : (o : Option MapShape) → shape_in (target_of (objects_at fds ns) fd) ≡ o → o ≡ None
     by None e = refl
     by (Some shape) e = absurd (true≢false (sym (shape_kept fds fd ns shape e) ∙ out))
 

@@ -8,7 +8,7 @@ use Rattle.tagged_model.specs.Named.{Shapes, shapes_named}
 use Rattle.tagged_model.specs.declared.shape.Named.{Named}
 use Rattle.verifier.specs.Before.{facts_before}
 use Rattle.verifier.specs.declared.fault.VerifyFault.{VerifyFault}
-use Rattle.verifier.specs.Maps.{entries_of, maps_of, shapes_of}
+use Rattle.verifier.specs.Maps.{objects_at, maps_of, shapes_of}
 use Rattle.verifier.specs.Shape.{structure_fault}
 use Rattle.verifier.specs.Seen.{known_at, reached, with_more, SeesBelow, SeesRefused}
 use Rattle.verifier.specs.inside.Watching.{SeesFirstFault}

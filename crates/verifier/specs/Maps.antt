@@ -26,10 +26,10 @@ abbrev pub is_among : List ℕ → ℕ → Bool
 is_among fds fd = list_any (λ other. other == fd) fds
 
 -- those of the open descriptors, with their objects, that are in the list `fds`
-abbrev pub entries_of : List ℕ → List Named → List Named
-entries_of fds named = filter (λ n. is_among fds n.fd) named
+abbrev pub objects_at : List ℕ → List Named → List Named
+objects_at fds named = filter (λ n. is_among fds n.fd) named
 
 -- the shapes of the maps that a program loads, or of which it loads values, by descriptor; None for
 -- any other descriptor, and for one that names no map
 abbrev pub shapes_of : List Insn → List Named → Shapes
-shapes_of code named = shapes_named (entries_of (maps_of code) named)
+shapes_of code named = shapes_named (objects_at (maps_of code) named)

@@ -4,12 +4,12 @@ ghost use Rattle.std.specs.Prelude.{◌≡◌, Ok, IsTrue, IfErr, OnOk, OnErr, �
 ghost use Rattle.insn_set.specs.Program.{program_bytes};
 ghost use Rattle.verifier.specs.Fits.{Fits};
 ghost use Rattle.verifier.specs.Judgement.{Judges};
-ghost use Rattle.verifier.specs.Maps.{maps_of, entries_of};
+ghost use Rattle.verifier.specs.Maps.{maps_of, objects_at};
 ghost use Rattle.verifier.specs.Verified.{shapes_in};
 ghost use Rattle.verifier.specs.declared.fitting.ReplaceFault.TheVariants.{OtherShapes, Memory};
 
 use crate::laws;
-use crate::maps::entries_of;
+use crate::maps::objects_at;
 use crate::verified::Verified;
 use std::alloc::{AllocError, Global};
 use tagged_model::{MapShape, Named, shape_of};
@@ -45,7 +45,7 @@ impl Verified {
     pub fn has_shape(&self, fd: u32, shape: Option<MapShape>) -> bool
         ensures { IsTrue result ↔ shape ≡ shapes_in self.now fd }
     {
-        is_same(shape, shape_of(&self.found.entries, fd))
+        is_same(shape, shape_of(&self.found.objects, fd))
     }
 
     /// Whether each descriptor of the program's maps names, in the list `named`, a map of the shape with which the program was accepted.
@@ -73,8 +73,8 @@ impl Verified {
         ensures code { self.new.code ≡ self.old.code }
         ensures judged { OnOk result
             (Judges named.now (program_bytes self.old.code) (Ok self.old.code)) }
-        ensures entries { OnOk result
-            (self.new.entries ≡ entries_of (maps_of self.old.code) named.now) }
+        ensures objects { OnOk result
+            (self.new.objects ≡ objects_at (maps_of self.old.code) named.now) }
         ensures shapes { IfErr result (λ fault. fault ≡ OtherShapes → ¬ Fits self.old named.now) }
         ensures memory { IfErr result (λ fault. fault ≡ Memory → Fits self.old named.now) }
         ensures err { OnErr result (self.new ≡ self.old) }
@@ -85,7 +85,7 @@ impl Verified {
         laws::same_shapes_are_accepted();
         // By the contract of `code` the instructions are a program (`IsProgram`).
         self.program.code();
-        self.found.entries = entries_of(alloc, named, &self.found.maps)?;
+        self.found.objects = objects_at(alloc, named, &self.found.maps)?;
         Ok(())
     }
 }

@@ -2,13 +2,13 @@
 
 ghost use Rattle.std.specs.Prelude.{◌≡◌, IfErr, IfOk, OnOk};
 ghost use Rattle.verifier.specs.Cost.{IsCostOf};
-ghost use Rattle.verifier.specs.Maps.{maps_of, entries_of};
+ghost use Rattle.verifier.specs.Maps.{maps_of, objects_at};
 ghost use Rattle.verifier.specs.Seen.{SeesRefused, SeesAll};
 ghost use Rattle.verifier.specs.Verdict.{IsAccepted, IsFaultOf};
 
 use crate::cost::Cost;
 use crate::fault::VerifyFault;
-use crate::maps::{entries_of, loaded_maps};
+use crate::maps::{loaded_maps, objects_at};
 use crate::pass::check_safety;
 use crate::shape::check_shape;
 use crate::watcher::Watcher;
@@ -23,7 +23,7 @@ pub(crate) struct Findings {
     /// The descriptors of the maps that it loads, each once, in the order of their first loads.
     pub(crate) maps: Vec<u32>,
     /// Those of the open descriptors that are in `maps`, each with the object that it names.
-    pub(crate) entries: Vec<Named>,
+    pub(crate) objects: Vec<Named>,
     pub(crate) cost: Cost,
 }
 
@@ -41,8 +41,8 @@ pub(crate) fn judge<W: Watcher>(
 ) -> Result<Findings, VerifyFault>
     ensures accepted { OnOk result (IsAccepted program.now named.now) }
     ensures maps { IfOk result (λ found. found.maps.items ≡ maps_of program.now) }
-    ensures entries { IfOk result (λ found. found.entries.items
-        ≡ entries_of (maps_of program.now) named.now) }
+    ensures objects { IfOk result (λ found. found.objects.items
+        ≡ objects_at (maps_of program.now) named.now) }
     ensures cost { IfOk result (λ found. IsCostOf found.cost program.now) }
     ensures refused { IfErr result (IsFaultOf program.now named.now) }
     ensures seen { OnOk result
@@ -52,14 +52,14 @@ pub(crate) fn judge<W: Watcher>(
 {
     let cost = check_shape(program, named, &mut working.jumping)?;
     let maps = loaded_maps(alloc, program, named)?;
-    let entries = entries_of(alloc, named, &maps)?;
+    let objects = objects_at(alloc, named, &maps)?;
     let pass = working.pass()?;
-    let verdict = check_safety(program, &entries, watcher, pass);
+    let verdict = check_safety(program, &objects, watcher, pass);
     pass.end();
     verdict?;
     Ok(Findings {
         maps,
-        entries,
+        objects,
         cost,
     })
 }

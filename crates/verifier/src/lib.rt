@@ -23,9 +23,9 @@
 //!   memory, up to some slot. The verdict is that of `verify`: `seen`, `seen_refused`, `accepted`, `refused` of
 //!   `verify_watched`.
 //! - A `Verified` is an accepted program, the one that was passed in, with the shapes that its descriptors named: `accepted` of
-//!   `verify`; `accepted`, `entries` of `verify_slots`; `verified` of `Verified::program`.
+//!   `verify`; `accepted`, `objects` of `verify_slots`; `verified` of `Verified::program`.
 //! - It can be used with other objects exactly if each descriptor of its maps names a map of the same shape among them (`Fits`): it
-//!   is accepted with these too, and is then what `verify_slots` gives for its slots and these objects: `fits`, `judged`, `entries`,
+//!   is accepted with these too, and is then what `verify_slots` gives for its slots and these objects: `fits`, `judged`, `objects`,
 //!   `shapes` of `Verified::replace_objects`; `same_shapes_are_accepted`.
 //! - It lists the descriptors of its loads of maps and of values of maps, in the order of first use, each once:
 //!   `Verified::maps`.

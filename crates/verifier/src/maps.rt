@@ -4,7 +4,7 @@ ghost use Rattle.std.specs.Prelude.{◌≡◌, is_some, IfOk, OnOk};
 ghost use Rattle.insn_set.specs.Program.{begins_at};
 ghost use Rattle.tagged_model.specs.Cells.{and_then};
 ghost use Rattle.insn_set.specs.Flow.{descriptor};
-ghost use Rattle.verifier.specs.Maps.{maps_of, is_among, entries_of};
+ghost use Rattle.verifier.specs.Maps.{maps_of, is_among, objects_at};
 ghost use Rattle.verifier.specs.Shape.{structure_fault};
 ghost use Rattle.verifier.specs.Verdict.{HasNoFault};
 ghost use Rattle.verifier.specs.inside.Descriptors.{with_descriptor};
@@ -81,12 +81,12 @@ fn is_among(maps: &[u32], fd: u32) -> bool
 
 /// Those of the open descriptors and their objects (`named`) whose descriptor is in the list `maps`, in the order of `named`. The error is
 /// out of memory.
-pub(crate) fn entries_of(
+pub(crate) fn objects_at(
     alloc: Global,
     named: &[Named],
     maps: &[u32],
 ) -> Result<Vec<Named>, AllocError>
-    ensures { IfOk result (λ kept. kept.items ≡ entries_of maps.now named.now) }
+    ensures { IfOk result (λ kept. kept.items ≡ objects_at maps.now named.now) }
 {
     let mut kept = Vec::new(alloc);
     for entry in named {

@@ -6,7 +6,7 @@ ghost use Rattle.tagged_model.specs.declared.value.Outcome.TheVariants.{Fault};
 ghost use Rattle.tagged_model.specs.Step.{MapsByDescriptor, result_of};
 ghost use Rattle.verifier.specs.Cost.{IsCostOf};
 ghost use Rattle.verifier.specs.Judgement.{Judges};
-ghost use Rattle.verifier.specs.Maps.{maps_of, entries_of};
+ghost use Rattle.verifier.specs.Maps.{maps_of, objects_at};
 ghost use Rattle.verifier.specs.Runs.{RunsArePaths, RunsCostAtMost};
 ghost use Rattle.verifier.specs.Sound.{AreRunInputs};
 ghost use Rattle.verifier.specs.Seen.{SeesRefused, SeesAll};
@@ -142,8 +142,8 @@ pub fn verify_slots(
         Judges named.now slots.now (Ok program.code))) }
     ensures refused { IfOk result (λ verdict. IfErr verdict (λ refusal.
         Judges named.now slots.now (Err refusal))) }
-    ensures entries { IfOk result (λ verdict. IfOk verdict (λ program.
-        program.entries ≡ entries_of (maps_of program.code) named.now)) }
+    ensures objects { IfOk result (λ verdict. IfOk verdict (λ program.
+        program.objects ≡ objects_at (maps_of program.code) named.now)) }
     // Memory is refused only if a program may have this number of bytes (`length_fault`).
     ensures memory { IfErr result (λ _. length_fault (length slots.now) ≡ None) }
     // The slot that a refusal names is one of `slots`, or the number after the last one.

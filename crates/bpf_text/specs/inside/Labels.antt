@@ -11,17 +11,17 @@ use Rattle.text_line.specs.declared.form.Form.{Form}
 use Rattle.text_line.specs.Form.{form_slots, names_label}
 use Rattle.text_line.specs.Line.{Line, blank, label, code, IsWellFormed}
 use Rattle.text_line.specs.Ranges.{form_fits, resolved}
-use Rattle.bpf_text.specs.declared.assembler.Definition.{Definition}
+use Rattle.bpf_text.specs.declared.assembler.LineStart.{LineStart}
 use Rattle.bpf_text.specs.declared.fault.TextFaultKind.{TextFaultKind}
 use Rattle.bpf_text.specs.declared.fault.TextFaultKind.TheVariants.{Syntax, Range, UnknownLabel, LabelTwice, TooLong}
 use Rattle.bpf_text.specs.Assembly.{line_slots, slots_on, label_line, passes}
 
 -- the definitions of labels, by their names, as the code keeps them
 abbrev pub Labels : Type 0
-Labels = HashMap (Bor (List ℕ)) Definition (BuildHasherDefault FoldHasher)
+Labels = HashMap (Bor (List ℕ)) LineStart (BuildHasherDefault FoldHasher)
 
 -- the definition that is kept for a name; `None` if none is
-abbrev pub definition_of : Labels → List ℕ → Option Definition
+abbrev pub definition_of : Labels → List ℕ → Option LineStart
 definition_of labels name = get_by (λ k. bytes_eq name k.now) labels
 
 -- x if it is a value, else y
@@ -30,42 +30,42 @@ or_else (Some x) y = Some x
 or_else None y = y
 
 -- line k, counted from 0, with the number of slots before it
-abbrev pub definition_at : List (Option Line) → ℕ → Definition
-definition_at lines k = record { line = k; slot = slots_on (take k lines) }
+abbrev pub line_start : List (Option Line) → ℕ → LineStart
+line_start lines k = record { line = k; slot = slots_on (take k lines) }
 
 -- `labels` has the first definition of each label that the first n lines define, and none of any
 -- other label
 abbrev pub FindsLabels : List (Option Line) → Labels → ℕ → Type 0
 FindsLabels lines labels n =
     (name : List ℕ)
-    → definition_of labels name ≡ option_map (definition_at lines) (label_line name (take n lines))
+    → definition_of labels name ≡ option_map (line_start lines) (label_line name (take n lines))
 
 -- ---- a line's fault and instruction, given the definitions that are kept
 
 -- the index of the line with the definition that is kept for a label. If none is kept, `line`, the
 -- index of the line that is checked, so that `label_fault` finds no earlier definition
-abbrev pub kept_line : Option Definition → ℕ → ℕ
+abbrev pub kept_line : Option LineStart → ℕ → ℕ
 kept_line None line = line
 kept_line (Some definition) line = definition.line
 
 -- the number of slots before the line that defines a label, by the definition that is kept for the
 -- label. 0 if none is kept (None): no jump uses this slot, since a jump to a label without a
 -- definition is a fault
-abbrev pub kept_slot : Option Definition → ℕ
+abbrev pub kept_slot : Option LineStart → ℕ
 kept_slot None = 0
 kept_slot (Some definition) = definition.slot
 
 -- The distance in slots from the slot after `slot` to a label. A label past slot `most_slots` is
 -- taken to be at this slot: then the text has more slots than a program may have. A label without
 -- a definition is taken to be at slot 0: a jump to it is a fault.
-abbrev pub kept_distance : Option Definition → ℕ → ℤ
+abbrev pub kept_distance : Option LineStart → ℕ → ℤ
 kept_distance definition slot = pos (min (kept_slot definition) most_slots) -ℤ pos (slot + 1)
 
 -- the fault of an instruction, the first of these that it has: a number is out of range, its label
 -- has no definition, its slots pass the most that a program may have (`passes`); None if it has
 -- none. `definition` is that of the label that it names (None if it names none or no line defines
 -- it), `before` the number of slots before it
-abbrev pub code_fault : Form → Option Definition → ℕ → Option TextFaultKind
+abbrev pub code_fault : Form → Option LineStart → ℕ → Option TextFaultKind
 code_fault form definition before =
     if form_fits form then
     (if not (names_label form) || is_some definition then
@@ -75,14 +75,14 @@ code_fault form definition before =
 
 -- the fault of a line that defines a label: `LabelTwice` if the label's definition in `Labels` is
 -- on a line before this one, whose index is `line`; else None
-abbrev pub label_fault : Option Definition → ℕ → Option TextFaultKind
+abbrev pub label_fault : Option LineStart → ℕ → Option TextFaultKind
 label_fault definition line =
     if nat_lt (kept_line definition line) line then Some LabelTwice else None
 
 -- the fault of a line, or None. The line is None if it has none of the forms: a fault of syntax.
 -- `here` has the line's index and the number of slots before it; `labels` has the definitions that
 -- are kept
-abbrev pub kept_fault : Labels → Definition → Option Line → Option TextFaultKind
+abbrev pub kept_fault : Labels → LineStart → Option Line → Option TextFaultKind
 kept_fault labels here None = Some Syntax
 kept_fault labels here (Some blank) = None
 kept_fault labels here (Some (label name)) = label_fault (definition_of labels name) here.line

@@ -69,7 +69,7 @@ fn access_at(
 }
 
 /// What a load does: `SignedLoad` if the load extends the sign (`is_signed`), else `Load`.
-fn load_deed(is_signed: bool) -> AccessKind {
+fn load_access_kind(is_signed: bool) -> AccessKind {
     if is_signed {
         AccessKind::SignedLoad
     } else {
@@ -86,7 +86,7 @@ fn access_of(insn: &Insn) -> Option<Access> {
             load.off,
             load.size,
             None,
-            load_deed(load.signed),
+            load_access_kind(load.signed),
         )),
         Insn::Store {
             size,

@@ -14,7 +14,7 @@ use Rattle.tenant.specs.Replies.{Writes}
 -- The reply to a command is the machine's, whether memory is refused to it (`refused`) or not, and
 -- is not the reply to a run that faults. The state `after` it is the machine's, and the births
 -- `later` are those after the command.
-pub record AnswersCommand (command : Command) (head : Head) (reply : List ℕ)
+pub record RepliesToCommand (command : Command) (head : Head) (reply : List ℕ)
     (before after : TenantState) (births later : List Birth) : Type 0 where
   pub refused : Bool
   pub answer : Answer

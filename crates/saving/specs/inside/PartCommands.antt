@@ -6,18 +6,18 @@ use Rattle.fd_table.specs.Table.{first_descriptor, most}
 use Rattle.tenant.specs.State.{TenantState, live}
 use Rattle.saving.specs.declared.save_parts.SavePart.{SavePart}
 use Rattle.saving.specs.declared.save_parts.SavePart.TheVariants.{Filling, Creation, Keys, Closing}
-use Rattle.saving.specs.declared.save_parts.TheConstants.{KEYS_OF_PART}
+use Rattle.saving.specs.declared.save_parts.TheConstants.{KEYS_PER_SAVE_PART}
 use Rattle.saving.specs.Births.{Birth}
 use Rattle.saving.specs.Restored.{filled, closings}
 use Rattle.saving.specs.SaveParts.{puts_of, creation, birth_parts}
 
 -- the commands of one part of a save; a part that puts keys puts those from index `first` on, at
--- most `KEYS_OF_PART`
+-- most `KEYS_PER_SAVE_PART`
 abbrev pub part_commands : TenantState → SavePart → List Command
 part_commands s Filling = filled most
 part_commands s (Creation b) = creation s b
 part_commands s (Keys handle fd first) =
-    take KEYS_OF_PART (drop first (puts_of fd (live s handle)))
+    take KEYS_PER_SAVE_PART (drop first (puts_of fd (live s handle)))
 part_commands s Closing = closings s.objects first_descriptor most
 
 -- the parts of a save after the first one: those of each birth, and the closes of the descriptors

@@ -7,7 +7,7 @@ use Rattle.verifier.specs.Verified.{Accepted, IsVerified}
 
 -- a `Verified` as contracts see it
 abbrev pub as_accepted : Inside → Accepted
-as_accepted v = record { code = v.program; entries = v.found.entries.items }
+as_accepted v = record { code = v.program; objects = v.found.objects.items }
 
 -- the invariant of a `Verified`: its program was accepted, the list of its maps is that of the maps
 -- that it loads, and its cost is the program's

@@ -3,16 +3,16 @@ use Rattle.std.specs.Map.{lookup}
 use Rattle.std.specs.Str.{bytes_eq}
 use Rattle.text_line.specs.Shown.{seen_option, seen_lines}
 use Rattle.bpf_text.proofs.LabelLines.{finds_more, slots_more, none_found, no_slots, take_seen, length_seen}
-use Rattle.bpf_text.specs.declared.assembler.Definition.{Definition}
+use Rattle.bpf_text.specs.declared.assembler.LineStart.{LineStart}
 use Rattle.bpf_text.proofs.assembler.labels.Goals as goal
 
-abbrev definition : ℕ → ℕ → Definition
-definition line slot = record { line = line; slot = slot }
+abbrev start : ℕ → ℕ → LineStart
+start line slot = record { line = line; slot = slot }
 
 pub loop-index-init : goal.loop-index-init
 loop-index-init c = record {
   finds = λ q.
-      ap (λ (es : List (Bor (List ℕ) × Definition)). lookup (λ k. bytes_eq q k.now) es) c.new-labels.ensures.empty
+      ap (λ (es : List (Bor (List ℕ) × LineStart)). lookup (λ k. bytes_eq q k.now) es) c.new-labels.ensures.empty
       ∙ none_found (seen_lines c.args.lines.now) q;
   slot = no_slots;
   bound = omega arith;
@@ -29,7 +29,7 @@ loop-index-preserved c =
           finds_more (seen_lines c.args.lines.now) l.index (seen_option line) l.labels
           c.note.new.labels (record { line = l.index; slot = l.slot })
           more len l.invariant.finds
-          (ap (λ (n : ℕ). definition l.index n) l.invariant.slot)
+          (ap (λ (n : ℕ). start l.index n) l.invariant.slot)
           c.in_ok-note.ensures;
       slot =
           ap (λ (n : ℕ). l.slot + n) c.line_slots-slot.ensures.value

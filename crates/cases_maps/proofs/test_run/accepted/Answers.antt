@@ -5,6 +5,6 @@ use Rattle.cases_maps.proofs.test_run.accepted.Goals as goal
 pub returns : goal.returns
 returns c =
     loaded_shape 3 c.args.shape c.loaded_maps_have_shapes.ensures
-    (record { code = c.in_ok-program.program; entries = [] })
+    (record { code = c.in_ok-program.program; objects = [] })
     c.in_ok-verified.verified
     c.in_ok-verified.ensures.accepted

@@ -5,5 +5,5 @@ use Rattle.interval.proofs.shifts.scaled.Goals as goal
 
 pub returns-else-a-greatest : goal.returns-else-a-greatest
 returns-else-a-greatest c =
-    let above = shifted_back_above c.greatest.result c.args.places c.args.a.hi c.if-a-greatest.false in
+    let above = shifted_back_above c.greatest.result c.args.bits c.args.a.hi c.if-a-greatest.false in
     grind (arith, common_steps)

@@ -6,7 +6,7 @@ use Rattle.command_frames.specs.Shown.{shown_command}
 use Rattle.tenant.specs.Kept.{state_in}
 use Rattle.tenant.specs.Machine.{Answers}
 use Rattle.fd_table.specs.Table.{most}
-use Rattle.tenant.specs.Replies.{shown_answer}
+use Rattle.tenant.specs.Replies.{shown_reply}
 use Rattle.bpf_maps.specs.Limits.{most_maps}
 use Rattle.tenant.specs.State.{TenantState}
 use Rattle.saving.specs.Births.{Birth, lives}
@@ -28,7 +28,7 @@ note-requires c =
     (few_after c.maps_are_held.ensures c.births_are_kept.ensures c.args.tenant.now c.args.births.now
     c.requires.recorded p e.answer.0
     (map_create a.kind a.key_size a.value_size a.max_entries a.flags)
-    (shown_answer r after) e.answer.1)
+    (shown_reply r after) e.answer.1)
 
 pub note-requires-in-ProgLoad : goal.note-requires-in-ProgLoad
 note-requires-in-ProgLoad c =
@@ -40,7 +40,7 @@ note-requires-in-ProgLoad c =
     subst (λ (bs : List Birth). length bs ≤ most + most_maps) (sym (births_opened r after c.args.births.now))
     (few_after c.maps_are_held.ensures c.births_are_kept.ensures c.args.tenant.now c.args.births.now
     c.requires.recorded p refused (prog_load a.kind a.slots.now)
-    (shown_answer r after) loads)
+    (shown_reply r after) loads)
 
 -- ---- commands that borrow the part to write it
 
@@ -97,7 +97,7 @@ returns-in-MapLookup-clause-replied c =
     seen false c.look_up-answer.result a.is
     (subst (λ (bytes : List ℕ).
     Answers false (state_in bytes k) (map_lookup a.fd a.key.now)
-    (shown_answer c.look_up-answer.result (state_in bytes k)))
+    (shown_reply c.look_up-answer.result (state_in bytes k)))
     c.part.ensures.bytes e.answer)
     e.writable c.write_command_reply-in-MapLookup.ensures refl
 

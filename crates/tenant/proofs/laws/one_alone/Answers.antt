@@ -1,4 +1,4 @@
-use Rattle.tenant.proofs.OneAnswer.{one_alone_is}
+use Rattle.tenant.proofs.OneCommandResult.{one_alone_is}
 use Rattle.tenant.proofs.laws.one_alone.Goals as goal
 
 pub returns : goal.returns

@@ -8,8 +8,8 @@ pub invariant_of-result : goal.invariant_of-result
 invariant_of-result c =
     let found = c.in-Ok-judge.found in
     let is = c.in-Ok-judge.ensures in
-    copy_is_whole c.in-Ok.program c.in-Ok.program c.args.named.now found.entries.items
-    found.maps.items found.cost refl is.accepted is.entries
+    copy_is_whole c.in-Ok.program c.in-Ok.program c.args.named.now found.objects.items
+    found.maps.items found.cost refl is.accepted is.objects
     is.maps is.cost
 
 pub returns-in-Err-judge-clause-memory : goal.returns-in-Err-judge-clause-memory

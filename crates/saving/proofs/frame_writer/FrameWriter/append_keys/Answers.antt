@@ -4,7 +4,7 @@ use Rattle.command_frames.specs.Command.{Command}
 use Rattle.tenant.specs.Entry.{numbered_entries}
 use Rattle.tenant.specs.Kept.{state_in}
 use Rattle.tenant.specs.State.{Map, live}
-use Rattle.saving.specs.declared.save_parts.TheConstants.{KEYS_OF_PART}
+use Rattle.saving.specs.declared.save_parts.TheConstants.{KEYS_PER_SAVE_PART}
 use Rattle.saving.specs.SaveParts.{puts_of, frames_of}
 use Rattle.saving.specs.inside.Puts.{puts, rest_after}
 use Rattle.saving.proofs.SaveSteps.{some_puts}
@@ -16,12 +16,12 @@ returns c =
     let m = c.args.map in
     let maps = c.args.tenant.now.live in
     let part = c.args.part.now in
-    let wanted = take KEYS_OF_PART (drop c.args.first (puts_of fd (live (state_in part c.args.tenant.now) m))) in
+    let wanted = take KEYS_PER_SAVE_PART (drop c.args.first (puts_of fd (live (state_in part c.args.tenant.now) m))) in
     let before = c.element_before-before.result in
-    let written = puts fd (take KEYS_OF_PART (rest_after before (numbered_entries part maps m))) in
+    let written = puts fd (take KEYS_PER_SAVE_PART (rest_after before (numbered_entries part maps m))) in
     let is : wanted ≡ written =
-    ap (λ (t : Option Map). take KEYS_OF_PART (drop c.args.first (puts_of fd t))) (c.in-Some.ensures.state part)
-    ∙ some_puts part maps m fd c.args.first KEYS_OF_PART before c.element_before-before.ensures in
+    ap (λ (t : Option Map). take KEYS_PER_SAVE_PART (drop c.args.first (puts_of fd t))) (c.in-Some.ensures.state part)
+    ∙ some_puts part maps m fd c.args.first KEYS_PER_SAVE_PART before c.element_before-before.ensures in
     -- what is reserved changes no frame
     record {
       written =

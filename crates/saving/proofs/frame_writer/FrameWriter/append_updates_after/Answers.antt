@@ -1,7 +1,7 @@
 use Rattle.std.proofs.Common.{◌++◌, ◌+◌, ◌-◌, ℕ, List, Some, option_map, take, sym, ap, ◌∙◌, arith}
 use Rattle.command_frames.specs.Frame.{framed}
 use Rattle.tenant.specs.Entry.{numbered_entries, lent_entry}
-use Rattle.saving.specs.declared.save_parts.TheConstants.{KEYS_OF_PART}
+use Rattle.saving.specs.declared.save_parts.TheConstants.{KEYS_PER_SAVE_PART}
 use Rattle.command_frames.specs.Encoded.{frame_of}
 use Rattle.saving.specs.Restored.{put_of}
 use Rattle.saving.specs.inside.Puts.{puts, rest_after}
@@ -13,8 +13,8 @@ loop-preserved c =
     let es = numbered_entries c.args.part.now c.args.tenant.now.live c.args.map in
     let e = lent_entry c.in-Some.entry in
     let fd = c.args.fd in
-    let left = KEYS_OF_PART - c.loop.counter in
-    let fewer = KEYS_OF_PART - (c.loop.counter + 1) in
+    let left = KEYS_PER_SAVE_PART - c.loop.counter in
+    let fewer = KEYS_PER_SAVE_PART - (c.loop.counter + 1) in
     record {
       left =
           one_command c.loop.self.frames.items c.loop.self.number c.append_update.new.self.number
@@ -34,7 +34,7 @@ loop-preserved c =
 pub returns-in_default : goal.returns-in_default
 returns-in_default c =
     let es = numbered_entries c.args.part.now c.args.tenant.now.live c.args.map in
-    let left = KEYS_OF_PART - c.loop.counter in
+    let left = KEYS_PER_SAVE_PART - c.loop.counter in
     record {
       written = no_commands c.loop.self.number (puts c.args.fd (take left (rest_after c.loop.after es)))
           (no_key c.args.fd es c.loop.after left
@@ -45,7 +45,7 @@ returns-in_default c =
 pub returns : goal.returns
 returns c =
     let es = numbered_entries c.args.part.now c.args.tenant.now.live c.args.map in
-    let left = KEYS_OF_PART - c.loop.counter in
+    let left = KEYS_PER_SAVE_PART - c.loop.counter in
     record {
       written = no_commands c.loop.self.number (puts c.args.fd (take left (rest_after c.loop.after es)))
           (no_put c.args.fd (rest_after c.loop.after es) left (omega arith))

@@ -5,7 +5,7 @@ use Rattle.bpf_maps.specs.Limits.{most_maps}
 use Rattle.insn_set.specs.Program.{IsProgram}
 use Rattle.tenant.specs.Alone.{MayReply}
 use Rattle.tenant.specs.Kept.{state_in}
-use Rattle.tenant.specs.Replies.{shown_answer}
+use Rattle.tenant.specs.Replies.{shown_reply}
 use Rattle.verifier.specs.Verified.{Accepted}
 use Rattle.saving.specs.Births.{Birth}
 use Rattle.saving.specs.Installs.{load_frame, load_reply}
@@ -23,7 +23,7 @@ note-requires c =
     let births = c.self.inside.births in
     let after = state_in [] c.install.new.self in
     let r = c.in-Ok.reply in
-    let a = shown_answer r after in
+    let a = shown_reply r after in
     let (refused, loads) = c.in-Ok.ensures.loaded [] in
     subst (λ (bs : List Birth). length bs ≤ most + most_maps) (sym (births_opened r after births))
     (few_after c.maps_are_held.ensures c.births_are_kept.ensures k births c.self.invariant []
@@ -35,7 +35,7 @@ invariant_of-self c =
     let births = c.self.inside.births in
     let after = state_in [] c.install.new.self in
     let r = c.in-Ok.reply in
-    let a = shown_answer r after in
+    let a = shown_reply r after in
     let (refused, loads) = c.in-Ok.ensures.loaded [] in
     recorded_after c.maps_are_held.ensures c.births_are_kept.ensures k births c.self.invariant []
     c.install.new.self c.note.new.self []
@@ -51,7 +51,7 @@ returns-in-Ok-clause-replied c = λ number part.
     let small : SFits w32 c.status_of.result = search rules in
     let after = state_in part c.install.new.self in
     let r = c.in-Ok.reply in
-    let a = shown_answer r after in
+    let a = shown_reply r after in
     let is =
     subst IsProgram (c.program.ensures.value ∙ ap (λ (a : Accepted). a.code) c.deref.ensures) c.code.ensures.program in
     let (refused, loads) = c.in-Ok.ensures.loaded part in
@@ -69,7 +69,7 @@ returns-in-Ok-clause-recorded c = λ number part.
     let small : SFits w32 c.status_of.result = search rules in
     let after = state_in part c.install.new.self in
     let r = c.in-Ok.reply in
-    let a = shown_answer r after in
+    let a = shown_reply r after in
     let is =
     subst IsProgram (c.program.ensures.value ∙ ap (λ (a : Accepted). a.code) c.deref.ensures) c.code.ensures.program in
     let (refused, loads) = c.in-Ok.ensures.loaded part in
@@ -88,7 +88,7 @@ returns-in-Ok-clause-no_fault c = λ number.
     let small : SFits w32 c.status_of.result = search rules in
     let after = state_in [] c.install.new.self in
     let r = c.in-Ok.reply in
-    let a = shown_answer r after in
+    let a = shown_reply r after in
     let is =
     subst IsProgram (c.program.ensures.value ∙ ap (λ (a : Accepted). a.code) c.deref.ensures) c.code.ensures.program in
     let (refused, loads) = c.in-Ok.ensures.loaded [] in

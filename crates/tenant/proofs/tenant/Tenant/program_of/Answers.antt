@@ -1,5 +1,5 @@
 use Rattle.std.proofs.Common.{ap, subst, ◌∙◌}
-use Rattle.verifier.specs.Maps.{maps_of, entries_of}
+use Rattle.verifier.specs.Maps.{maps_of, objects_at}
 use Rattle.verifier.specs.Verdict.{IsAccepted}
 use Rattle.tenant.proofs.LoadingRefusals.{of_ok}
 use Rattle.tenant.proofs.tenant.Tenant.program_of.Goals as goal
@@ -10,7 +10,7 @@ with_maps-requires-clause-accepted c = λ part.
     (c.deref.ensures.value ∙ c.in_ok-descriptors.ensures part)
     (of_ok _ _ _ c.in-Ok.is c.in_ok-program.ensures.accepted).2
 
-pub with_maps-requires-clause-entries : goal.with_maps-requires-clause-entries
-with_maps-requires-clause-entries c = λ part.
-    of_ok _ _ _ c.in-Ok.is c.in_ok-program.ensures.entries
-    ∙ ap (entries_of (maps_of c.in-Ok.program.code)) (c.deref.ensures.value ∙ c.in_ok-descriptors.ensures part)
+pub with_maps-requires-clause-objects : goal.with_maps-requires-clause-objects
+with_maps-requires-clause-objects c = λ part.
+    of_ok _ _ _ c.in-Ok.is c.in_ok-program.ensures.objects
+    ∙ ap (objects_at (maps_of c.in-Ok.program.code)) (c.deref.ensures.value ∙ c.in_ok-descriptors.ensures part)

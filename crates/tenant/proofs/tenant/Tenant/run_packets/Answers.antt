@@ -23,7 +23,7 @@ run_packets-requires-clause-bound c =
     (are_bound c.self.invariant
     (bound_of c.args.fd c.self.invariant c.in_ok-program.ensures.found)
     c.maps_are_listed.ensures c.program.result.now c.program.ensures.code
-    c.program.ensures.entries)
+    c.program.ensures.objects)
 
 pub invariant_of-self : goal.invariant_of-self
 invariant_of-self c = kept_after c.self.invariant c.run_packets.ensures.maps

@@ -4,7 +4,7 @@ use Rattle.fd_table.specs.Table.{named}
 use Rattle.flat_machine.specs.Runs.{AreBound}
 use Rattle.tagged_model.specs.declared.value.Outcome.{Outcome}
 use Rattle.tenant.specs.Kept.{KeptTenant, state_in}
-use Rattle.tenant.specs.Machine.{outcome_answer, run_of}
+use Rattle.tenant.specs.Machine.{outcome_result, run_of}
 use Rattle.tenant.proofs.StillKept.{kept_in, with_live}
 use Rattle.tenant.proofs.TestRunEnds.{seen_of}
 use Rattle.tenant.proofs.TestRunKept.{kept_after}
@@ -18,7 +18,7 @@ run_with-outcome-requires-clause-bound c =
     (are_bound c.self.invariant
     (bound_of c.args.fd c.self.invariant c.in_ok-program.ensures.found)
     c.maps_are_listed.ensures c.program.result.now c.program.ensures.code
-    c.program.ensures.entries)
+    c.program.ensures.objects)
 
 pub invariant_of-self : goal.invariant_of-self
 invariant_of-self c = kept_after c.self.invariant c.run_with-outcome.ensures.maps
@@ -38,6 +38,6 @@ returns-clause-answer c =
     c.if-packet-gt-LONGEST_PACKET.false
     c.maps.ensures c.program.ensures.code c.context_words-context.ensures run.ensures.runs
     run.ensures.maps run.ensures.values in
-    ap (λ (o : Outcome). outcome_answer o after) (sym c.in-Value.is)
+    ap (λ (o : Outcome). outcome_result o after) (sym c.in-Value.is)
     ∙ is
     ∙ ap (λ (x : KeptTenant). run_of (state_in part x) words packet (named x.objects c.args.fd)) c.self.view_is

@@ -1,5 +1,5 @@
 use Rattle.std.proofs.Common.{◌≡◌, ℕ, List, [], length, sym, ap, ap₂, subst, ◌∙◌}
-use Rattle.verifier.specs.Maps.{maps_of, entries_of}
+use Rattle.verifier.specs.Maps.{maps_of, objects_at}
 use Rattle.tenant.specs.Kept.{KeptTenant, IsWellFormedTenant, IsBound, state_in}
 use Rattle.tenant.specs.inside.Loading.{AreLive}
 use Rattle.tenant.specs.Machine.{loaded_program, handles_from, targets}
@@ -35,9 +35,9 @@ module _ (c : goal.After-new) where
       (ap (λ (k : KeptTenant). k.objects) c.self.view_is)
       c.maps.ensures in
       loaded_is c.new.result insns
-      (entries_of (maps_of insns) (targets (state_in part k)))
+      (objects_at (maps_of insns) (targets (state_in part k)))
       (handles_from k.objects (maps_of insns)) c.new.ensures.insns
-      (c.new.ensures.named ∙ c.requires.entries part)
+      (c.new.ensures.named ∙ c.requires.objects part)
       (c.new.ensures.maps
       ∙ ap (zip (maps_of insns)) maps
       ∙ loaded_pairs c.loaded_maps_have_shapes.ensures k part insns (c.requires.accepted part))

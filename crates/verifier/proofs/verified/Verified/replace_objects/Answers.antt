@@ -2,7 +2,7 @@ use Rattle.std.proofs.Common.{List, ℕ, Ok, sym, ap, subst, ◌∙◌}
 use Rattle.insn_set.specs.Program.{program_bytes}
 use Rattle.verifier.specs.Fits.{Fits}
 use Rattle.verifier.specs.Judgement.{Judges}
-use Rattle.verifier.specs.Maps.{entries_of}
+use Rattle.verifier.specs.Maps.{objects_at}
 use Rattle.verifier.specs.Verified.{Accepted}
 use Rattle.verifier.specs.inside.Kept.{as_accepted}
 use Rattle.verifier.proofs.OtherObjects.{fits_accepted, fits_judged}
@@ -19,7 +19,7 @@ invariant_of-self c =
             (subst (λ (x : Accepted). Fits x named) (sym c.self.view_is) (c.fits.ensures.0 c.if-not-fits.false));
         shaped =
             c.in_ok-self-inside.ensures
-            ∙ ap (λ (fds : List ℕ). entries_of fds named) (c.deref.ensures.value ∙ c.self.invariant.1);
+            ∙ ap (λ (fds : List ℕ). objects_at fds named) (c.deref.ensures.value ∙ c.self.invariant.1);
       },
       c.self.invariant.1,
       c.self.invariant.2,

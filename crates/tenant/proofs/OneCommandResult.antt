@@ -7,9 +7,9 @@ use Rattle.command_frames.specs.Command.{Command, prog_load, parsed}
 use Rattle.fd_table.specs.Table as table
 use Rattle.verifier.specs.Laws.{OneJudgement}
 use Rattle.tenant.specs.State.{TenantState}
-use Rattle.tenant.specs.Machine.{Answer, answer_of_judgement, targets, LoadsAs, LoadsUnder}
-use Rattle.tenant.specs.Alone.{AnswersFrame, IsServedAlone}
-use Rattle.tenant.specs.Laws.{OneAnswer, OneReply, OneAlone}
+use Rattle.tenant.specs.Machine.{Answer, result_of_judgement, targets, LoadsAs, LoadsUnder}
+use Rattle.tenant.specs.Alone.{IsFrameResult, IsServedAlone}
+use Rattle.tenant.specs.Laws.{OneCommandResult, OneReply, OneAlone}
 
 loads_as : OneJudgement
     → (refused : Bool) (s : TenantState) (fd : ℕ) (slots : List ℕ) (a b : Answer)
@@ -17,7 +17,7 @@ loads_as : OneJudgement
     → a ≡ b
 loads_as one true s fd slots a b x y = x ∙ sym y
 loads_as one false s fd slots a b (j, is, seen) (k, is_too, seen_too) =
-    seen ∙ ap (answer_of_judgement s fd) (one (targets s) slots j k is is_too) ∙ sym seen_too
+    seen ∙ ap (result_of_judgement s fd) (one (targets s) slots j k is is_too) ∙ sym seen_too
 
 loads_under : OneJudgement
     → (refused : Bool) (s : TenantState) (o : Option ℕ) (slots : List ℕ) (a b : Answer)
@@ -35,22 +35,22 @@ loads_by one true refused s o slots x a b h k = loads_under one refused s o slot
 loads_by one false refused s o slots x a b h k = h ∙ sym k
 
 -- a command has one result, if slots have one judgement
-pub one_answer_is : OneJudgement → OneAnswer
-one_answer_is one refused s (prog_load kind slots) a b x y =
+pub one_command_result_is : OneJudgement → OneCommandResult
+one_command_result_is one refused s (prog_load kind slots) a b x y =
     loads_by one (kind == 1) refused s (table.lowest s.objects) slots _ a b x y
-one_answer_is one refused s other a b x y = x ∙ sym y
+one_command_result_is one refused s other a b x y = x ∙ sym y
 
 -- ---- frames
 
-one_frame : OneAnswer
+one_frame : OneCommandResult
     → (refused : Bool) (s : TenantState) (r : Result Command BadFrame) (a b : Answer)
-    → AnswersFrame refused s r a → AnswersFrame refused s r b
+    → IsFrameResult refused s r a → IsFrameResult refused s r b
     → a ≡ b
 one_frame one refused s (Err fault) a b x y = x ∙ sym y
 one_frame one refused s (Ok command) a b x y = one refused s command a b x y
 
 -- a frame has one reply, if a command has one result
-pub one_reply_is : OneAnswer → OneReply
+pub one_reply_is : OneCommandResult → OneReply
 one_reply_is one refused frame x y None a b h k = (h.1 ∙ sym k.1, h.0 ∙ sym k.0)
 one_reply_is one refused frame x y (Some s) a b (p, h, x_is, a_is) (q, k, y_is, b_is) =
     let same : p ≡ q = one_frame one refused s (parsed frame) p q h k in (

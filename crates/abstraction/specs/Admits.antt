@@ -67,8 +67,8 @@ HasKind witness k o = (v : Tagged) × (o ≡ Some v) × IsOfKind witness k v
 
 -- ---- stack slots
 
--- a value that a cell, the content of a stack slot, keeps whole: a map or a pointer. A cell has a
--- number only as bytes
+-- the value is a map or a pointer: of these a cell, the content of a stack slot, keeps the value
+-- itself (`holds`). Of a number a cell has only bytes
 abbrev pub IsKeptWhole : Tagged → Type 0
 IsKeptWhole (Scalar n) = ⊥
 IsKeptWhole (Map m) = Unit {0}

@@ -40,7 +40,8 @@ fn read_lines<'a>(alloc: Global, text: &'a [&'a str]) -> Result<Vec<Option<Line<
     Ok(lines)
 }
 
-/// A line by its index, from 0, and the number of slots before it: the line that defines a label, or the one that is assembled.
+/// The start of a line: the line's index, from 0, and the number of slots before it. The assembler keeps it for the first line that defines
+/// each label, and computes it for the line that it assembles.
 #[derive(Clone, Copy, Debug)]
 struct LineStart {
     line: usize,
@@ -206,7 +207,6 @@ fn instructions(
     let mut insns = Vec::new(alloc);
     let mut slot = 0;
     for (index, line) in lines.iter().enumerate() {
-        // Also for a line that defines no label, a `LineStart` is the line's index and the number of slots before the line.
         let insn = match instruction(labels, line, LineStart { line: index, slot }) {
             Ok(insn) => insn,
             Err(kind) => return Err(TextFault::at(index, kind)),

@@ -136,8 +136,9 @@ fn write_movsx(text: &mut String, movsx: &Movsx) -> Result<(), AllocError>
     write!(text, "{dst} = ({bits}){src}")
 }
 
-/// Appends the line of a conditional jump, without a line feed, as `if r1 == 0 goto +2`: the offset `off` is in slots, from the next slot.
-/// The jump compares 64 bits if `wide`, else the low 32.
+/// Appends the line of a conditional jump, without a line feed, as `if r1 == 0 goto +2`. The jump compares register `dst` with `src`, a
+/// register or a constant. It compares 64 bits if `wide`; else the low 32, and the registers have the names of their low halves, as `w1`.
+/// `off` is the distance to the target in slots, from the next slot.
 #[tactic(auto, unfolding(text_line::specs::Written::printed_insn))]
 fn write_jump(
     text: &mut String,

@@ -46,7 +46,8 @@ impl Prepared {
         }
     }
 
-    /// The raw pointer of the program's box, which the caller then owns and has to free; `None` if the handle is empty.
+    /// Consumes the handle, and returns the box of its program as a raw pointer. The caller then owns the program, and frees it by
+    /// `into_box`, which makes the pointer a box again. `None` if the handle is empty.
     pub(crate) fn into_raw_box(self) -> Option<RawBox<Verified, Global>>
         ensures { option_map (λ raw. raw.value) result ≡ self.program }
     {

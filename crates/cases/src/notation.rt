@@ -93,9 +93,12 @@ fn append_repeated(alloc: Global, bytes: &mut Vec<u8>, text: &str) -> Result<(),
     append_text(bytes, rest)
 }
 
-/// The bytes that a text in the notation of cases represents, with its `;`, `\xHH` and `{COUNT*PART}`. The text is split at each `{`, so
-/// each piece but the first begins with a repetition. `Notation` if a `}` or `*` is missing, COUNT is wrong (`times`), or two bytes can't
-/// be split off after a `\x`; `Digits` if the two bytes are no hex digits; `Memory` if out of memory.
+/// The bytes that a text in the notation of cases gives. `;` gives a line feed, `\xHH` the byte with these two hex digits, and
+/// `{COUNT*PART}` the bytes of PART, COUNT times, in which each `#` is the number of repetitions before, from 0 on. All other bytes are
+/// unchanged. PART may have `;` and `\xHH` but no repetition, since it ends at the first `}`.
+///
+/// `Notation` if a `}` or `*` is missing, COUNT is no number or too large (`times`), or the text can't be split two bytes after a `\x`;
+/// `Digits` if these two bytes are no hex digits; `Memory` if out of memory.
 pub fn written(alloc: Global, text: &str) -> Result<Vec<u8>, CaseError> {
     let mut bytes = Vec::new(alloc);
     for (index, piece) in text.split('{').enumerate() {

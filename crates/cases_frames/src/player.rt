@@ -74,8 +74,8 @@ fn numbers(alloc: Global, words: &str) -> Result<Vec<u8>, CaseError> {
     Ok(bytes)
 }
 
-/// The bytes of `front`, and after them those of the hex digits `digits`. The errors are those of `bytes_of`, which reads the digits, or
-/// out of memory.
+/// The bytes of `front`, and after them the bytes that `digits` gives, hex digits in the notation of cases (`bytes_of`). The errors are
+/// those of `bytes_of`, and `Memory` if out of memory.
 fn prefixed_bytes(alloc: Global, front: &[u8], digits: &str) -> Result<Vec<u8>, CaseError> {
     let rest = bytes_of(alloc, digits)?;
     let mut bytes = Vec::new(alloc);
@@ -193,8 +193,9 @@ impl HostPlayer {
         Ok(self.load_slots(tenant, &slots)?)
     }
 
-    /// The reply to a test run, for the words of a line: a tenant, a descriptor, and the hex digits of a packet. The context words are
-    /// those of the last line `words`, or zeros if there was none. It fails like `command`, and on the digits like `prefixed_bytes`.
+    /// The reply to PROG_TEST_RUN, as hex digits, for the words of a line: a tenant, the descriptor of a program, and the hex digits of a
+    /// packet. In the frame the bytes of the context words are before those of the packet: the bytes that the last line `words` gave, or
+    /// zeros if there was none. The errors are those of `bytes_of` for the packet, and of `command`; `Memory` if out of memory.
     fn run(&mut self, rest: &str) -> Result<String, CaseError> {
         let (tenant, rest) = first_word(rest);
         let (descriptor, packet) = first_word(rest);

@@ -67,9 +67,10 @@ fn next<M: ValueMap>(alloc: Global, map: &M, size: u32, digits: &str) -> Result<
     key_text(alloc, outcome, &buffer, size)
 }
 
-/// What a call on a map returns, as text, by the call's name and the words after it. The call `end` ends a run, so that the elements kept
-/// apart are free again, and returns the empty text. `size` is the size of the map's keys. `UnknownWord` if no call has this name, and the
-/// errors of `find`, `claim`, `remove` and `next`.
+/// Calls a function of the map, and returns its result as text. `call` is the name of the function (`find`, `claim`, `remove`, `next` or
+/// `end`), `rest` has the words of its arguments. `end` ends a run, so that the elements of removed keys are free again; its text is empty.
+/// `size` is the size of the map's keys in bytes. `UnknownWord` if `call` is none of these names; the other errors are those of the
+/// functions `find`, `claim`, `remove` and `next`.
 fn play_call<M: ValueMap>(
     alloc: Global,
     map: &mut M,

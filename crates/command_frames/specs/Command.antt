@@ -86,8 +86,9 @@ exactly n body command = if length body == n then Ok command else Err Body
 abbrev pub at_least : ℕ → List ℕ → Command → Result Command BadFrame
 at_least n body command = if nat_le n (length body) then Ok command else Err Body
 
--- the command of number n with this body; Unknown if no command has this number, and Body if the
--- body's length is wrong
+-- the command with the number n (those of bpf(2), and 256 for CLOSE), given its body, the bytes of
+-- the frame after the head. Unknown if no command has this number; else Body if the command does
+-- not have a body of this length
 abbrev pub command_in : ℕ → List ℕ → Result Command BadFrame
 command_in n body =
     if n == 0 then exactly create_body body

@@ -156,8 +156,8 @@ fn close(body: &[u8]) -> Result<Command<'_>, BadFrame>
     Ok(Command::Close { fd: word(body, 0) })
 }
 
-/// Reads the command `number` (those of bpf(2), and 256 for CLOSE) from its body. `Unknown` if no command has this number;
-/// `Body` if the body's length is wrong.
+/// Parses the command of a frame: `number` is the command's number in the head (those of bpf(2), and 256 for CLOSE), `body` the bytes after
+/// the head. `Unknown` if no command has this number; else `Body` if the command does not have a body of this length.
 pub(crate) fn command_in(number: u16, body: &[u8]) -> Result<Command<'_>, BadFrame>
     ensures { shown_result result ≡ command_in number body.now }
 {

@@ -34,7 +34,9 @@ abbrev pub IsAllowedFor : Option TenantState → ℕ → ℕ → ℕ → ℕ →
 IsAllowedFor None fd bound packets n = n ≡ packets
 IsAllowedFor (Some s) fd bound packets n = IsAllowed (named s.objects fd) bound packets n
 
--- the status of a batch: 0 if it is run, or the negated number of the error
+-- the status of a batch of packets, by the error for which it is rejected (`refusal_for`): the
+-- negated number of the error, as in a reply; 0 if there is no error (None), and then each packet
+-- is run
 abbrev pub batch_status : Option Errno → ℤ
 batch_status None = pos 0
 batch_status (Some errno) = status_of errno

@@ -11,7 +11,8 @@ Takes remaining old new bytes = Consumes (remaining old) (remaining new) bytes
 
 -- ---- how many calls failed
 
--- 1 if a read failed, else 0
+-- what a read with this result adds to the number of failed reads: 1 if it is an error; 0 if it is
+-- the number of bytes read, also if that is 0
 abbrev pub read_failures : {E : Type 0} → Result ℕ E → ℕ
 read_failures (Ok n) = 0
 read_failures (Err e) = 1

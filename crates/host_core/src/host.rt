@@ -99,8 +99,8 @@ impl Host {
         })
     }
 
-    /// Whether memory was ever refused to `tenant`, so that its replies may differ from those of its own machine without refusals. False
-    /// for a number that is not served.
+    /// Whether the tenant with the number `tenant` was ever refused memory: for a load, for an installed program, or for a new map. If not,
+    /// its replies are those of its machine without refusals; if so, they may differ. False for a number that is not served.
     pub fn memory_was_refused(&self, tenant: usize) -> bool
         ensures refused { result ≡ true → ¬ IsUnrefused (slice_get self.now.states tenant) }
         ensures unrefused { result ≡ false → IsUnrefused (slice_get self.now.states tenant) }

@@ -40,8 +40,9 @@ abbrev pub first_operand : AluOp → ℕ → Option ℕ
 first_operand Mov dst = None
 first_operand op dst = Some dst
 
--- what a wide load names: nothing if it loads a number, else a map or a byte in the first value of
--- one
+-- what a wide load names, by the value that it loads: nothing for a number; for a map, its
+-- descriptor; for the address of a byte in a map's first value, the map's descriptor and the byte's
+-- offset
 abbrev pub reference_of : WideValue → Reference
 reference_of (immediate n) = names.Nothing
 reference_of (map_ref fd) = names.Map fd

@@ -33,7 +33,7 @@ use Rattle.verifier.specs.Shape.{leads_backward, is_reachable, reached_from, fir
 use Rattle.verifier.specs.Verdict.{HasNoFault, IsAccepted, reason_of, safety_fault}
 use Rattle.saving.specs.Filler.{filler}
 
--- ---- entries that are selected by their descriptors
+-- ---- objects that are selected by their descriptors
 
 picked : (p : ℕ → Bool) (ns : List Named) (fd : ℕ)
     → p fd ≡ true → target_of (filter (λ n. p n.fd) ns) fd ≡ target_of ns fd

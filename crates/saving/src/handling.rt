@@ -38,10 +38,11 @@ struct HeadedCommand<'a> {
     command: Command<'a>,
 }
 
-/// Executes the command of a frame and writes the reply. `number` is that of the tenant's part in the arena. In `births`, MAP_CREATE and
-/// PROG_LOAD add the birth of the object that they open, CLOSE removes those of objects that are no longer live, and the other commands
-/// change none. A load is verified in `working`. The bytes of the command are those of a parsed frame, so they are at most
-/// `LONGEST_FRAME` (`short`).
+/// Executes the command of a frame on the tenant, and writes the reply to `reply`. `number` is the number of the tenant's part in the
+/// arena. `births` is the record for saves: at which descriptor each live map was created, and each open program loaded. MAP_CREATE and
+/// PROG_LOAD add the object that they open, CLOSE removes the objects that are no longer live, and other commands do not change the record.
+/// `working` is memory for the verification of a load; its contents mean nothing. The key, the value, the slots or the packet in the
+/// command have at most `LONGEST_FRAME` bytes (`short`), since the command is that of a parsed frame.
 fn reply_to_command(
     tenant: &mut Tenant,
     births: &mut Births,

@@ -57,7 +57,8 @@ impl SavableTenant {
         })
     }
 
-    /// Whether memory was ever refused to this tenant: to a load or to a new map.
+    /// Whether this tenant was ever refused memory: for a load, for an installed program, or for a new map. Its replies may then differ
+    /// from those of its machine without refusals.
     pub fn memory_was_refused(&self) -> bool
         ensures { (part : List ℕ) → result ≡ (tenant_state part self.now).refused }
     {

@@ -143,7 +143,8 @@ abbrev pub map_given : Tagged → Option ℕ
 map_given (Map m) = Some m
 map_given _ = None
 
--- Some if the value is the pointer to the start of the context, None for any other value
+-- for an argument that must be the context: Some, without content, if the value is a pointer to the
+-- first byte of the context; None for any other value
 abbrev pub context_given : Tagged → Option (Unit {0})
 context_given (Pointer object.Context x) = if int_eq x (pos 0) then Some tt else None
 context_given _ = None

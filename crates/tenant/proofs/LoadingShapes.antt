@@ -22,7 +22,7 @@ use Rattle.tenant.specs.Machine.{object_target, entry_of, targets_from, targets}
 use Rattle.tenant.specs.State.{Map, TenantState, live}
 use Rattle.tenant.proofs.Targets.{named_at}
 
--- ---- entries that are selected by their descriptors
+-- ---- objects that are selected by their descriptors
 
 picked : (p : ℕ → Bool) (ns : List Named) (fd : ℕ)
     → p fd ≡ true → at.target_of (filter (λ n. p n.fd) ns) fd ≡ at.target_of ns fd
@@ -50,7 +50,7 @@ among (x ∷ fds) zero fd there =
     let same : (x == fd) ≡ true = eq-eqb x fd (same_Some x fd there) in ap (λ (b : Bool). b || is_among fds fd) same
 among (x ∷ fds) (suc i) fd there = ap (λ (b : Bool). (x == fd) || b) (among fds i fd there) ∙ or-true (x == fd)
 
--- a descriptor of the list has the same shape among the selected entries as among all
+-- a descriptor of the list has the same shape among the selected objects as among all
 pub shapes_picked : (fds : List ℕ) (ns : List Named) (i fd : ℕ)
     → slice_get fds i ≡ Some fd → shapes_named (objects_at fds ns) fd ≡ shapes_named ns fd
 shapes_picked fds ns i fd there = ap shape_in (picked (is_among fds) ns fd (among fds i fd there))

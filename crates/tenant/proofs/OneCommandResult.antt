@@ -1,4 +1,4 @@
--- The machine has one reply to a command.
+-- A command has one result, and a frame one reply.
 use Rattle.std.proofs.Common.{◌≡◌, ℕ, Bool, true, false, List, [], ◌∷◌, Option, Some, None, Result, Ok, Err, refl, sym, ap, ap₂, subst, ◌∙◌}
 use Rattle.std.specs.Prelude.{◌==◌, MatchBool}
 use Rattle.command_frames.specs.declared.command.BadFrame.{BadFrame}

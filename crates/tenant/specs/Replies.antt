@@ -1,4 +1,4 @@
--- The machine's answers that the code's replies represent. This project's own.
+-- The machine's results that the code's replies represent. This project's own.
 use Rattle.std.specs.Prelude.{◌≡◌, ◌≢◌, ℕ, ◌+◌, ◌<◌, ◌≤◌, ◌^◌, List, [], length, Result, Ok, Err}
 use Rattle.byteorder.specs.Endian.{little_bytes}
 use Rattle.bpf_maps.specs.KeyRef.{key_bytes}
@@ -12,7 +12,7 @@ use Rattle.tenant.specs.declared.reply.Reply.TheVariants as reply
 use Rattle.tenant.specs.State.{TenantState}
 use Rattle.tenant.specs.Machine.{Answer, gives, opens, refuses, refuses_load}
 
--- the answer that a reply or an error represents, with the state after the command
+-- the machine's result that a reply or an error represents, with the state after the command
 abbrev pub shown_reply : Result Reply Errno → TenantState → Answer
 shown_reply (Ok reply.Done) s = gives [] s
 shown_reply (Ok (reply.Opened fd)) s = opens fd s

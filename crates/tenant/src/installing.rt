@@ -50,7 +50,8 @@ impl Tenant {
     /// The loaded program that `program` becomes: the objects with which it was accepted are replaced by those that are open here, and it
     /// gets the handles of its maps. The caller has seen that it fits, so `OtherShapes` can't occur. The result is accepted with the open
     /// descriptors (`judges`), and its maps are live (`there`), with the shapes with which it was accepted (`bound`). `part` may be any
-    /// bytes. `AllocError`: out of memory.
+    /// bytes. It allocates three lists: the open descriptors with their objects, those of the program's maps with their objects, and the
+    /// handles of these maps. `AllocError`: out of memory for one of them.
     fn program_here(
         &self,
         alloc: Global,
@@ -72,17 +73,18 @@ impl Tenant {
         }
     }
 
-    /// Opens a program that was verified elsewhere, as PROG_LOAD of its slots does (type 1, a socket filter). With which objects it was
-    /// accepted does not matter, if each descriptor of its maps names a map of the same shape here. It is neither copied nor verified
-    /// again.
+    /// Opens a prepared program, which was verified without a host, at the lowest free descriptor, as PROG_LOAD of its slots does (type 1,
+    /// a socket filter). The program fits if each descriptor of its maps names here a map of the shape with which it was accepted. The
+    /// program is neither copied nor verified again. Memory is allocated only for three lists (`program_here`): the open descriptors with
+    /// their objects, those of the program's maps, and the handles of these maps.
     ///
-    /// `Err` gives back a program that does not fit; then nothing has changed. `Ok` has the result of `load` for its slots; if that is an
-    /// error, the program is dropped.
+    /// `Err` gives back a program that does not fit; then nothing has changed. `Ok` has what `load` returns for the slots: the descriptor,
+    /// or an error. After an error the program is dropped.
     ///
     /// # Errors
     ///
-    /// Those in `Ok`, the first that applies: `TooManyOpen` if no descriptor is free; `NoMemory` if out of memory, which sets the tenant's
-    /// flag of refused memory.
+    /// Those in `Ok`, the first that applies: `TooManyOpen` if no descriptor is free; `NoMemory` if memory for one of the lists is refused,
+    /// which sets the tenant's flag of refused memory (`refused`).
     pub fn install(
         &mut self,
         alloc: Global,

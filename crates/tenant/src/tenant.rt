@@ -334,7 +334,8 @@ impl Tenant {
         }
     }
 
-    /// Whether memory was ever refused to this tenant: to a load or to a new map.
+    /// Whether this tenant was ever refused memory: for a load, for an installed program, or for a new map. Its replies may then differ
+    /// from those of its machine without refusals.
     pub fn memory_was_refused(&self) -> bool
         ensures { (part : List ℕ) → result ≡ (state_in part self.now).refused }
     {

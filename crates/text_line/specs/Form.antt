@@ -96,8 +96,9 @@ value_layout (value.MapValue fd off) rest =
     word (codes "map_value") ∷ space
     ∷ constant fd (space ∷ sign (codes "+") ∷ space ∷ Some (number off) ∷ rest)
 
--- the table of the grammar: how the line of each form is laid out. `label` is the name of the label
--- to which the form jumps; a form that names no label does not use it.
+-- the tokens and spaces of the line of each form, as it is printed: the table of the grammar.
+-- `label` is the name of the label to which the form jumps; a form that names no label does not use
+-- it
 abbrev pub layout : Form → List ℕ → TokenLayout
 layout (form.Operation wide dst o) label = reg wide dst ∷ space ∷ operation_layout wide dst o
 layout (form.Jump long to) label = word (jump_name long) ∷ space ∷ destination to label
@@ -167,7 +168,8 @@ names_label (form.Jump long to) = to_label to
 names_label (form.Branch wide cond dst src to) = to_label to
 names_label _ = false
 
--- the number of slots of a form's instruction: a wide load has two
+-- the number of slots of the instruction of a line of this form: two for a wide load, one for any
+-- other instruction
 abbrev pub form_slots : Form → ℕ
 form_slots (form.WideLoad dst v) = 2
 form_slots _ = 1

@@ -56,8 +56,9 @@ output_facts shapes f r (kind.Value p) =
 output_facts shapes f r (kind.MaybeValue m site) = Err MaybeNull
 output_facts shapes f r k = Err HelperArgument
 
--- the range of an argument that has to be a number, by the argument's kind; HelperArgument if this
--- is not the kind of a number
+-- for an argument that a helper requires to be a number: the range of the number, by the kind of
+-- the argument; HelperArgument, the reason to reject the program, if that is not the kind of a
+-- number
 abbrev pub number_range : Kind → Result Range Reason
 number_range (kind.Scalar r) = Ok r
 number_range k = Err HelperArgument

@@ -93,7 +93,7 @@ one_index (x ∷ xs) (suc i) (suc j) m h e f = ap suc (one_index xs i j m h.1 e 
 -- ---- a shape belongs to a map that is loaded
 
 module _ (fds : List ℕ) (fd : ℕ) where
-  -- a descriptor that has a shape among the entries that are kept is in the list by which they were kept
+  -- a descriptor that has a shape among the objects that are kept is in the list by which they were kept
   pub shape_kept : (named : List Named) (shape : MapShape)
       → shape_in (target_of (objects_at fds named) fd) ≡ Some shape → is_among fds fd ≡ true
   unfolding target_of

@@ -34,7 +34,7 @@ use Rattle.verifier.specs.Laws.{SafetyFollowsShape, LoadedMapsHaveShapes}
 use Rattle.verifier.specs.ShapeLaws.{each_is_fine}
 use Rattle.verifier.proofs.Loads.{still_there}
 
--- ---- the entries that are kept have the same targets
+-- ---- the objects that are kept have the same targets
 
 module _ (fds : List ℕ) (fd : ℕ) (among : is_among fds fd ≡ true) where
   other_name : (m : ℕ) → is_among fds m ≡ false → m ≡ fd → ⊥
@@ -49,7 +49,7 @@ module _ (fds : List ℕ) (fd : ℕ) (among : is_among fds fd ≡ true) where
   kept_at n ns false e rest =
       rest ∙ sym (cond-false (n.fd == fd) (Some n.target) (target_of ns fd) (ne_eqb n.fd fd (other_name n.fd e)))
 
-  -- among the entries that are kept, a descriptor of the list names what it names among all
+  -- among the objects that are kept, a descriptor of the list names what it names among all
   pub target_kept : (named : List Named) → target_of (objects_at fds named) fd ≡ target_of named fd
   target_kept [] = refl
   target_kept (n ∷ ns) = kept_at n ns (is_among fds n.fd) refl (target_kept ns)
@@ -214,7 +214,7 @@ none_lacking shapes named (names.Value fd off) same has none =
     ∙ has)
 none_lacking shapes named r same has none = none
 
--- the shapes by the kept entries are the shapes by all descriptors
+-- the shapes of the objects that are kept are the shapes by all descriptors
 kept_shape : (code : List Insn) (named : List Named) (n : ℕ) (i : Insn)
     → begins_at code n ≡ Some i → (fd : ℕ) → descriptor i ≡ Some fd
     → shapes_of code named fd ≡ shapes_named named fd

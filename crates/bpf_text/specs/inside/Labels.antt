@@ -29,7 +29,7 @@ abbrev pub or_else : {A : Type 0} → Option A → Option A → Option A
 or_else (Some x) y = Some x
 or_else None y = y
 
--- line k, counted from 0, with the number of slots before it
+-- the start of line k: the line's index, from 0, and the number of slots before it
 abbrev pub line_start : List (Option Line) → ℕ → LineStart
 line_start lines k = record { line = k; slot = slots_on (take k lines) }
 

@@ -104,8 +104,8 @@ fn disassembled(alloc: Global, input: &[u8]) -> Result<String, Failure>
     Ok(text)
 }
 
-/// What the task makes of the input: of a program's text its hex lines, or of a program's hex lines its text. Fails like `assembled` or
-/// `disassembled`.
+/// The output of `asm` (`Assemble`) or of `dis` (`Disassemble`) for this input. `asm` makes a program's hex lines of its text, and `dis`
+/// its text of its hex lines. The errors are those of `assembled` or of `disassembled`.
 fn rewritten(alloc: Global, task: TextTask, input: &[u8]) -> Result<String, Failure>
     ensures made { IfOk result (λ output. IsRewritten task input.now (string_bytes output)) }
     ensures only { (output : List ℕ) → IsRewritten task input.now output

@@ -45,7 +45,8 @@ struct Access {
     offset: i64,
     /// How many bytes the instruction accesses.
     bytes: i64,
-    /// The number of the source register of a store or of an atomic operation; `None` for a load, and for a store of a constant.
+    /// The number of the register whose value a store writes, or with which an atomic operation computes; `None` for a load, and for a
+    /// store of a constant.
     given: Option<u8>,
     access_kind: AccessKind,
 }
@@ -77,8 +78,9 @@ fn load_access_kind(is_signed: bool) -> AccessKind {
     }
 }
 
-/// The memory access of a load, a store or an atomic operation; `None` for any other instruction, calls included. The fourth argument of
-/// `access_at` is the number of the source register; `None` for a load, and for a store of a constant.
+/// The memory access of a load, a store or an atomic operation; `None` for any other instruction, also for a call. The fourth argument of
+/// `access_at` is the number of the register whose value a store writes, or with which an atomic operation computes; `None` for a load, and
+/// for a store of a constant.
 fn access_of(insn: &Insn) -> Option<Access> {
     match *insn {
         Insn::Load(ref load) => Some(access_at(

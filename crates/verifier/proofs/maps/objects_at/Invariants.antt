@@ -2,6 +2,6 @@ use Rattle.std.proofs.Common.{◌≡◌, take}
 use Rattle.verifier.specs.Maps.{objects_at}
 use Rattle.verifier.proofs.maps.objects_at.Given as goal
 
--- the entries so far
+-- the objects that are kept so far
 abbrev pub invariant-loop-entry : goal.invariant-loop-entry
 invariant-loop-entry l = l.kept.items ≡ objects_at l.maps (take l.entry-index l.named)

@@ -19,9 +19,9 @@ pub struct BoundProgram<'a> {
 #[derive(Clone, Copy)]
 pub(crate) struct Given<'a> {
     pub(crate) program: &'a Verified,
-    /// Its slots, with marks.
+    /// Its slots, as `slots_of` returns them.
     pub(crate) slots: &'a [RawSlot],
-    /// The opcode or mark of the first slot, which is read once for all runs.
+    /// The opcode of the first of these slots, which is read once for all runs.
     pub(crate) first: usize,
     /// The maps that it loads.
     pub(crate) loaded: BoundMaps<'a>,

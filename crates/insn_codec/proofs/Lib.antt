@@ -8,7 +8,6 @@ pub mod KnownOpcodes
 pub mod ByOpcode
 pub mod PrefixFree
 pub mod Marks
-pub mod Marking
 pub mod SlotsOf
 pub mod OneMore
 pub mod FaultKinds

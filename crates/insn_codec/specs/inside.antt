@@ -4,4 +4,3 @@ pub mod Opcodes
 pub mod Form
 pub mod FirstFault
 pub mod Code
-pub mod Marking

@@ -11,9 +11,8 @@ use Rattle.tagged_model.specs.declared.shape.MapShape.{MapShape}
 use Rattle.tagged_model.specs.declared.value.Tagged.{Tagged}
 use Rattle.tagged_model.specs.declared.value.Tagged.TheVariants.{Scalar, Map}
 use Rattle.tagged_model.specs.Table.{Table}
-use Rattle.tagged_model.specs.Cells.{and_then}
 use Rattle.tagged_model.specs.State.{RunState, with_map, input}
-use Rattle.tagged_model.specs.Helpers.{GivenMap, map_argument, argument, number_given, replies, returns, updated, removed, packet_bytes, packet_result, called}
+use Rattle.tagged_model.specs.Helpers.{GivenMap, map_argument, argument, number_given, replies, returns, removed, packet_bytes, packet_result, called}
 use Rattle.arena.specs.Memory.{Memory, base, part_start, with_bytes}
 use Rattle.arena.specs.PartLaws.{part_within}
 use Rattle.bpf_helpers.specs.inside.Below.{LawsBelow}
@@ -26,6 +25,7 @@ use Rattle.bpf_helpers.specs.inside.Flat.{flat_look_up, Updates, UpdatesNamed, D
 use Rattle.bpf_helpers.specs.Calls.{AreArguments, Extends, ResultFollows, CallFollows}
 use Rattle.bpf_helpers.specs.inside.Laws.{GivesWord, ReturnsKeepSimulation, TaggedUpdate, update_reply}
 use Rattle.bpf_helpers.proofs.Many.{also_some}
+use Rattle.bpf_helpers.proofs.Asked.{asks_key, asks_update}
 use Rattle.bpf_helpers.proofs.Inputs.{input_there}
 use Rattle.bpf_helpers.proofs.Words.{key_is, pair_is}
 use Rattle.bpf_helpers.proofs.LookUps.{is_given, IsBound, map_bound, look_ups_follow}
@@ -79,7 +79,8 @@ module _ (env : Environment) (l : Layout) (flat : FlatState) (s : RunState)
   abbrev IsMap : GivenMap → Type 0
   IsMap g = IsBound env l flat s room stands (slice_index words 0) g.descriptor g.map
 
-  map_there : (g : GivenMap) → map_argument s 1 ≡ Some g → IsMap g
+  -- if register 1 has a map, the first word names the handle of the live map that represents it
+  pub map_there : (g : GivenMap) → map_argument s 1 ≡ Some g → IsMap g
   map_there g e =
       let given = is_given s 1 g e in
       let word : IsWord env l (Map g.descriptor) (slice_index words 0) =
@@ -87,11 +88,12 @@ module _ (env : Environment) (l : Layout) (flat : FlatState) (s : RunState)
       (stands.values 1 (Map g.descriptor) (omega arith) given.register) in
       map_bound env l flat s room stands (slice_index words 0) g.descriptor g.map word given.there
 
-  map_shape : {g : GivenMap} (m : IsMap g) → shape_at flat.maps (slice_index env.bind m.index) ≡ g.map.table.shape
+  -- the live map has the shape of the map in register 1
+  pub map_shape : {g : GivenMap} (m : IsMap g) → shape_at flat.maps (slice_index env.bind m.index) ≡ g.map.table.shape
   map_shape m = ap (λ (x : Table ℕ). x.shape) m.has.table
 
-  -- the bytes at the address in another register
-  bytes_there : (i n size : ℕ) (bs : List ℕ)
+  -- the bytes at the address in another register lie in the part, at the word's address
+  pub bytes_there : (i n size : ℕ) (bs : List ℕ)
       → i < 5 → size ≡ n
       → argument s (i + 1) (λ p. input s p n) ≡ Some bs
       → (part_input flat.memory env.tenant size (slice_index words i) ≡ Some bs) × (length bs ≡ n)
@@ -107,7 +109,7 @@ module _ (env : Environment) (l : Layout) (flat : FlatState) (s : RunState)
       )
 
   -- a key of the map in register 1, at the address in register 2
-  key_is_named : {g : GivenMap} (m : IsMap g) (key : List ℕ)
+  pub key_is_named : {g : GivenMap} (m : IsMap g) (key : List ℕ)
       → part_input flat.memory env.tenant
       (shape_at flat.maps (slice_index env.bind m.index)).key_size
       (slice_index words 1)
@@ -187,36 +189,9 @@ module _ (env : Environment) (l : Layout) (flat : FlatState) (s : RunState)
         → called Update s ≡ Some u
         → ResultFollows env l flat u reply
     update_followed reply u seen e =
-        let a =
-        also_some (map_argument s 1)
-        (λ g.
-        and_then (argument s 2 (λ p. input s p g.map.table.shape.key_size))
-        (λ key.
-        and_then (argument s 3 (λ p. input s p g.map.table.shape.value_size))
-        (λ value.
-        and_then (argument s 4 number_given) (λ flags. Some (replies s g.descriptor (updated g.map key value flags))))))
-        u e in
-        let g = a.0 in
-        let b =
-        also_some (argument s 2 (λ p. input s p g.map.table.shape.key_size))
-        (λ key.
-        and_then (argument s 3 (λ p. input s p g.map.table.shape.value_size))
-        (λ value.
-        and_then (argument s 4 number_given) (λ flags. Some (replies s g.descriptor (updated g.map key value flags)))))
-        u a.2 in
-        let c =
-        also_some (argument s 3 (λ p. input s p g.map.table.shape.value_size))
-        (λ value.
-        and_then (argument s 4 number_given) (λ flags. Some (replies s g.descriptor (updated g.map b.0 value flags))))
-        u b.2 in
-        let d =
-        also_some (argument s 4 number_given)
-        (λ flags. Some (replies s g.descriptor (updated g.map b.0 c.0 flags)))
-        u c.2 in
-        subst (λ (x : RunState). ResultFollows env l flat x reply) (same_Some _ u d.2)
-        (update_by reply seen
-        (record { given = g; key = b.0; value = c.0; flags = d.0 })
-        a.1 b.1 c.1 d.1 (map_there g a.1))
+        let a = asks_update s u e in
+        subst (λ (x : RunState). ResultFollows env l flat x reply) a.leads
+        (update_by reply seen a.asked a.map a.key a.value a.flags (map_there a.asked.given a.map))
       where
         update_by : (reply : CallResult)
             → UpdatesNamed (site_in env flat)
@@ -267,31 +242,22 @@ module _ (env : Environment) (l : Layout) (flat : FlatState) (s : RunState)
         → called Delete s ≡ Some u
         → ResultFollows env l flat u (answers word flat.memory new)
     delete_followed word new u seen e =
-        let a =
-        also_some (map_argument s 1)
-        (λ g.
-        and_then (argument s 2 (λ p. input s p g.map.table.shape.key_size))
-        (λ key. Some (replies s g.descriptor (removed g.map key))))
-        u e in
-        let g = a.0 in
-        let b =
-        also_some (argument s 2 (λ p. input s p g.map.table.shape.key_size))
-        (λ key. Some (replies s g.descriptor (removed g.map key)))
-        u a.2 in
-        let m = map_there g a.1 in
+        let a = asks_key s u (λ g key. replies s g.descriptor (removed g.map key)) e in
+        let g = a.given in
+        let m = map_there g a.map in
         let k = slice_index env.bind m.index in
         let keys =
-        bytes_there 1 g.map.table.shape.key_size (shape_at flat.maps k).key_size b.0 (omega arith)
-        (ap (λ (x : MapShape). x.key_size) (map_shape m)) b.1 in
-        let r : Deletes flat.maps (record { map = k; key = b.0 }) word new =
-        subst (λ o. DeletesNamed flat.maps o word new) (key_is_named m b.0 keys.0) seen in
+        bytes_there 1 g.map.table.shape.key_size (shape_at flat.maps k).key_size a.key (omega arith)
+        (ap (λ (x : MapShape). x.key_size) (map_shape m)) a.bytes in
+        let r : Deletes flat.maps (record { map = k; key = a.key }) word new =
+        subst (λ o. DeletesNamed flat.maps o word new) (key_is_named m a.key keys.0) seen in
         let st =
-        deletes_keep_simulation below env l flat s m.index g.descriptor g.map b.0 word new stands
-        m.named (is_given s 1 g a.1).there r in
-        let gave = removed g.map b.0 in
+        deletes_keep_simulation below env l flat s m.index g.descriptor g.map a.key word new stands
+        m.named (is_given s 1 g a.map).there r in
+        let gave = removed g.map a.key in
         changes_keys m.index m.within (answers word flat.memory new) r.rest l (extends_itself l) u
         (subst (λ (x : RunState). Simulates env l (with_result flat (answers word flat.memory new)) x)
-        (same_Some (replies s g.descriptor gave) u b.2)
+        a.leads
         (returned env l (with_held flat flat.memory new) (with_map s g.descriptor gave.map)
         (Scalar gave.answer) word st.1 st.0))
 

@@ -1,5 +1,6 @@
 pub mod Many
 pub mod Inputs
+pub mod Asked
 pub mod LookUps
 pub mod Outputs
 pub mod Owned
@@ -16,6 +17,9 @@ pub mod Loads
 pub mod Words
 pub mod Named
 pub mod Followed
+pub mod SameApart
+pub mod Replaced
+pub mod NamedCalls
 pub mod Cells
 pub mod Addresses
 pub mod SingleLoads

@@ -1,8 +1,7 @@
 -- Bytes of the packet that are written through a pointer.
 use Rattle.std.proofs.Common.{◌≡◌, ℕ, ◌+◌, ◌%◌, ◌^◌, ◌-◌, ◌<◌, ◌==◌, leb, Bool, true, false}
-use Rattle.std.proofs.Common.{if◌then◌else◌, List, length, replicate, Some, None, refl, sym, ap, subst, ◌∙◌, arith}
+use Rattle.std.proofs.Common.{if◌then◌else◌, List, length, replicate, Some, None, sym, ap, subst, ◌∙◌, arith}
 use Rattle.std.specs.Prelude.{slice_index}
-use Rattle.std.specs.Option.{IsSome}
 use Rattle.std.proofs.lemmas.Bool.{cond_both, and_parts, leb-true}
 use Rattle.std.proofs.lemmas.Option.{none-some, same_Some}
 use Rattle.std.proofs.lemmas.List.{length-replicate}
@@ -18,7 +17,6 @@ use Rattle.arena.specs.Memory.{part_start, with_bytes}
 use Rattle.arena.specs.Apart.{WritesStayInside}
 use Rattle.bpf_helpers.specs.Layout.{Layout, IsWord}
 use Rattle.bpf_helpers.specs.Stands.{IsRoom, Simulates}
-use Rattle.bpf_helpers.specs.Calls.{LoadedBytesAreInside}
 use Rattle.bpf_helpers.specs.Named.{named_offset}
 use Rattle.bpf_helpers.specs.inside.Laws.{LoadKeepsSimulation}
 use Rattle.bpf_helpers.proofs.Many.{also_some}
@@ -134,8 +132,3 @@ module _ (env : Environment) (l : Layout) (flat : FlatState) (s : RunState)
         (λ t. Some (returns t (Scalar (packet_result s.packet b.0 c.0))))
         u c.2 in
         written b.0 c.0 u d.0 (number_word 2 b.0 (omega arith) b.1) (length_word 4 c.0 (omega arith) c.1) d.1 d.2
-
--- the bytes that a load of packet bytes writes are in the part
-pub loaded_bytes_are_inside : WritesStayInside → LoadedBytesAreInside
-loaded_bytes_are_inside writes env l flat s u room stands e =
-    subst IsSome (sym (load_stands env l flat s room stands writes u e).offset_is) refl

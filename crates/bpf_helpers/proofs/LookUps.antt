@@ -23,6 +23,7 @@ use Rattle.bpf_helpers.specs.Named.{bound_map, part_input, NamedKey, key_named}
 use Rattle.bpf_helpers.specs.inside.Flat.{value_word, key_word, flat_look_up}
 use Rattle.bpf_helpers.specs.inside.Laws.{GivesWord, LookUpsFollow}
 use Rattle.bpf_helpers.proofs.Many.{also_some}
+use Rattle.bpf_helpers.proofs.Asked.{asks_key}
 use Rattle.bpf_helpers.proofs.Inputs.{input_there}
 use Rattle.bpf_helpers.proofs.Words.{key_is}
 use Rattle.bpf_helpers.specs.States.{Environment, FlatState, site_in}
@@ -142,19 +143,10 @@ module _ (env : Environment) (l : Layout) (flat : FlatState) (s : RunState)
       (flat_look_up (site_in env flat) (slice_index flat.registers 1) (slice_index flat.registers 2))
       (Some v)
   follows along u e =
-      let a =
-      also_some (map_argument s 1)
-      (λ g.
-      and_then (argument s 2 (λ p. input s p g.map.table.shape.key_size))
-      (λ key. Some (returns s (looked_up g.descriptor (look_up g.map.table key)))))
-      u e in
-      let g = a.0 in
-      let given = is_given s 1 g a.1 in
-      let b =
-      also_some (argument s 2 (λ p. input s p g.map.table.shape.key_size))
-      (λ key. Some (returns s (looked_up g.descriptor (look_up g.map.table key))))
-      u a.2 in
-      let c = also_some (s.registers 2) (λ p. input s p g.map.table.shape.key_size) b.0 b.1 in
+      let a = asks_key s u (λ g key. returns s (looked_up g.descriptor (look_up g.map.table key))) e in
+      let g = a.given in
+      let given = is_given s 1 g a.map in
+      let c = also_some (s.registers 2) (λ p. input s p g.map.table.shape.key_size) a.key a.bytes in
       let bound =
       map_bound (slice_index flat.registers 1) g.descriptor g.map
       (stands.values 1 (Map g.descriptor) (omega arith) given.register)
@@ -164,17 +156,17 @@ module _ (env : Environment) (l : Layout) (flat : FlatState) (s : RunState)
       ap (λ (x : MapShape). x.key_size) (shape_same along g.descriptor key g.map bound.has) in
       let read =
       input_there env l flat s room stands c.0 (slice_index flat.registers 2)
-      g.map.table.shape.key_size b.0 (stands.values 2 c.0 (omega arith) c.1)
+      g.map.table.shape.key_size a.key (stands.values 2 c.0 (omega arith) c.1)
       c.2 in
       let named =
       key_is (site_in env flat) (slice_index flat.registers 1) (slice_index flat.registers 2)
-      bound.bound b.0
+      bound.bound a.key
       (ap (λ (n : ℕ). part_input flat.memory env.tenant n (slice_index flat.registers 2)) size ∙ read) in (
-        looked_up g.descriptor (look_up g.map.table b.0),
-        sym (same_Some _ u b.2),
+        looked_up g.descriptor (look_up g.map.table a.key),
+        sym a.leads,
         given_word (slice_index flat.registers 1) (slice_index flat.registers 2)
-            (looked_up g.descriptor (look_up g.map.table b.0)) named
-            (look_up_follows along g.descriptor key g.map bound.has b.0),
+            (looked_up g.descriptor (look_up g.map.table a.key)) named
+            (look_up_follows along g.descriptor key g.map bound.has a.key),
       )
 
 pub look_ups_follow : CallsRefineValues ℕ ℕ → LookUpsFollow

@@ -1,9 +1,16 @@
--- Bytes that have an offset in a part lie in it.
-use Rattle.std.proofs.Common.{◌≡◌, ℕ, ◌+◌, ◌-◌, ◌≤◌, leb, ◌&&◌, Bool, true, false, if◌then◌else◌, Some, None, refl, ap}
+-- Bytes that have an offset in a part lie in it; and what words name if they name a key, or a key and a value.
+use Rattle.std.proofs.Common.{◌≡◌, ℕ, zero, suc, ◌+◌, ◌-◌, ◌<◌, ◌≤◌, ◌==◌, leb, ◌&&◌, Bool, true, false, if◌then◌else◌}
+use Rattle.std.proofs.Common.{List, length, slice_get, Option, Some, None, option_map, refl, ap, subst, ◌∙◌, arith}
+use Rattle.std.specs.Prelude.{slice_index}
 use Rattle.std.specs.Option.{IsSome}
-use Rattle.std.proofs.lemmas.Bool.{and_parts, leb-true, false≢true}
+use Rattle.std.proofs.lemmas.Bool.{cond-false, and_parts, leb-true, ne_eqb, false≢true}
+use Rattle.std.proofs.lemmas.Option.{slice_get-get_or, slice_get_within}
+use Rattle.words.specs.Bytes.{bytes_at}
+use Rattle.tagged_model.specs.Cells.{and_then}
 use Rattle.arena.specs.Memory.{Memory, base, part_start}
-use Rattle.bpf_helpers.specs.Named.{named_offset}
+use Rattle.bpf_maps.specs.Live.{shape_at}
+use Rattle.bpf_helpers.specs.Named.{bound_map, named_offset, key_input, value_input, NamedKey, NamedPair, key_at, pair_at, key_named, pair_named}
+use Rattle.bpf_helpers.specs.States.{CallSite}
 
 -- they begin at or after the beginning of the part, end at or before its end, and have this offset
 pub record IsNamed (m : Memory) (t n address : ℕ) : Type 0 where
@@ -32,3 +39,71 @@ is_named m t n address some =
           to = leb-true (address + n) (base + part_start m t + m.part) both.1;
           offset = ap (λ (b : Bool). if b then Some (address - (base + part_start m t)) else None) e;
         }
+
+-- ---- what words name
+
+module _ {A B : Type 0} where
+  some_before : (o : Option A) (f : A → Option B) → IsSome (and_then o f) → IsSome o
+  some_before None f h = h
+  some_before (Some a) f h = refl
+
+  some_mapped : (o : Option A) (f : A → B) → IsSome (option_map f o) → IsSome o
+  some_mapped None f h = h
+  some_mapped (Some a) f h = refl
+
+-- a word that names a map is the index of the map's handle, plus 1
+pub record IsBoundMap (bind : List ℕ) (word : ℕ) : Type 0 where
+  -- the word is not 0
+  pub some : 1 ≤ word
+  -- the index is one of a handle
+  pub within : word - 1 < length bind
+  -- the word names this handle
+  pub handle : bound_map bind word ≡ Some (slice_index bind (word - 1))
+
+pub is_bound_map : (bind : List ℕ) (word : ℕ) → IsSome (bound_map bind word) → IsBoundMap bind word
+is_bound_map bind zero some = absurd (false≢true some)
+is_bound_map bind (suc i) some =
+    let same : bound_map bind (suc i) ≡ slice_get bind (suc i - 1) =
+    cond-false (suc i == 0) None (slice_get bind (suc i - 1)) (ne_eqb (suc i) 0 (λ z. omega arith)) in
+    let within : suc i - 1 < length bind = by (slice_get bind (suc i - 1)) refl (subst IsSome same some) in
+    record { some = omega arith; within = within; handle = same ∙ slice_get-get_or bind (suc i - 1) 0 within }
+  where
+    by : (o : Option ℕ) → slice_get bind (suc i - 1) ≡ o → IsSome o → suc i - 1 < length bind
+    by None is h = absurd (false≢true h)
+    by (Some k) is h = slice_get_within bind (suc i - 1) k is
+
+module _ (site : CallSite) (map key : ℕ) where
+  -- if words name a map and a key, the first names a map
+  pub map_of_key : IsSome (key_named site map key) → IsSome (bound_map site.bind map)
+  map_of_key some = some_before (bound_map site.bind map) (key_at site key) some
+
+  module _ (k : ℕ) (bound : bound_map site.bind map ≡ Some k) where
+    -- the bytes of the key have an offset in the part
+    pub offset_of_key : IsSome (key_named site map key)
+        → IsSome (named_offset site.memory site.tenant (shape_at site.maps k).key_size key)
+    offset_of_key some =
+        some_before (named_offset site.memory site.tenant (shape_at site.maps k).key_size key)
+        (λ at. Some (bytes_at site.memory.bytes (part_start site.memory site.tenant + at) (shape_at site.maps k).key_size))
+        (some_mapped (key_input site k key) (λ bs. let n : NamedKey = record { map = k; key = bs } in n)
+        (subst (λ o. IsSome (and_then o (key_at site key))) bound some))
+
+    -- if the words name a value too, its bytes have an offset in the part
+    pub offset_of_value : (value : ℕ) → IsSome (pair_named site map key value)
+        → IsSome (named_offset site.memory site.tenant (shape_at site.maps k).value_size value)
+    offset_of_value value some =
+        some_before (named_offset site.memory site.tenant (shape_at site.maps k).value_size value)
+        (λ at. Some (bytes_at site.memory.bytes (part_start site.memory site.tenant + at) (shape_at site.maps k).value_size))
+        (by (key_input site k key)
+        (subst (λ o. IsSome (and_then (and_then o (key_at site key)) (pair_at site value))) bound some))
+      where
+        by : (o : Option (List ℕ))
+            → IsSome (and_then (option_map (λ bs. let n : NamedKey = record { map = k; key = bs } in n) o) (pair_at site value))
+            → IsSome (value_input site k value)
+        by None h = absurd (false≢true h)
+        by (Some bs) h =
+            some_mapped (value_input site k value)
+            (λ vs. let n : NamedPair = record { map = k; key = bs; value = vs } in n) h
+
+  -- if words name a map, a key and a value, they name the map and the key
+  pub key_of_pair : (value : ℕ) → IsSome (pair_named site map key value) → IsSome (key_named site map key)
+  key_of_pair value some = some_before (key_named site map key) (pair_at site value) some

@@ -1,7 +1,7 @@
 //! Laws of the words and bytes that represent a state. Each law is the contract of a function that does nothing.
 
 ghost use Rattle.bpf_helpers.specs.Accesses.{LoadsGiveWords, StoresKeepSimulation, ObjectAddressesAreBounded};
-ghost use Rattle.bpf_helpers.specs.Calls.{LoadedBytesAreInside};
+ghost use Rattle.bpf_helpers.specs.Calls.{CallsNameAll};
 ghost use Rattle.bpf_helpers.specs.Runs.{RunsBegin, RunsEnd, OthersStay};
 ghost use Rattle.bpf_helpers.specs.inside.Below.{LawsBelow};
 ghost use Rattle.bpf_helpers.specs.inside.Laws.{ReturnsKeepSimulation};
@@ -30,11 +30,11 @@ pub fn stores_keep_simulation()
     arena::laws::writes_stay_inside();
 }
 
-/// Words and bytes represent a state (`Simulates`), in a part of the size for runs. If the tagged machine's call of bpf_skb_load_bytes in
-/// this state is no fault, the bytes to which the call writes lie in the part. The word of register 3 is their address, and the word of
-/// register 4 their number.
-pub fn loaded_bytes_are_inside()
-    ensures { LoadedBytesAreInside }
+/// Words and bytes represent a state (`Simulates`), in a part of the size for runs. If the tagged machine's call of a helper in this state is
+/// no fault, the words of registers 1 to 5 name all that the helper needs: a map that is bound to the run, and bytes of the part for a key,
+/// for a value, or for the bytes that a load writes. So the calls of an accepted program need no test of these words.
+pub fn calls_name_all()
+    ensures { CallsNameAll }
 {
     arena::laws::writes_stay_inside();
 }

@@ -60,14 +60,14 @@ fn steps_stay_inside()
     bpf_helpers::laws::stores_keep_simulation();
 }
 
-/// The premises of a run's proof: the laws of its steps and of loads of packet bytes, of its start and its end; that maps that are not
+/// The premises of a run's proof: the laws of its steps and of the arguments of calls, of its start and its end; that maps that are not
 /// bound keep their values; that a program's maps are listed; and that elements keep their offsets if the areas are unchanged.
 pub(crate) fn run_premises()
     ensures { RunLaws }
 {
     steps_follow();
     steps_stay_inside();
-    bpf_helpers::laws::loaded_bytes_are_inside();
+    bpf_helpers::laws::calls_name_all();
     bpf_helpers::laws::runs_begin();
     bpf_helpers::laws::runs_end();
     bpf_helpers::laws::others_stay();

@@ -2,14 +2,15 @@ use Rattle.std.proofs.Common.{sym, subst}
 use Rattle.tagged_model.specs.declared.helper.Helper.{Helper}
 use Rattle.bpf_helpers.specs.Calls.{CallFollows}
 use Rattle.bpf_helpers.specs.States.{answers as gives, site}
-use Rattle.bpf_helpers.proofs.Followed.{look_up_follows, load_follows}
+use Rattle.bpf_helpers.proofs.Followed.{look_up_follows, update_follows, load_follows}
+use Rattle.bpf_helpers.proofs.SameApart.{updates_apart}
 use Rattle.bpf_helpers.proofs.calls.call_in_run.Goals as goal
 
 pub returns-in-LookUp-clause-follows : goal.returns-in-LookUp-clause-follows
 returns-in-LookUp-clause-follows c =
     let here =
     site c.args.caller.tenant c.args.caller.bind.now c.args.caller.packet.now c.args.arena.now c.args.maps.now in
-    let look = c.look_up_among in
+    let look = c.look_up_inside in
     subst (λ (h : Helper). CallFollows here c.args.words.now h (gives look.result c.args.arena.now c.args.maps.now))
     (sym c.in-LookUp.is)
     (look_up_follows c.returns_keep_simulation.ensures c.call_premises.ensures c.args.words.now
@@ -24,3 +25,20 @@ returns-in-LoadBytes-clause-follows c =
     (sym c.in-LoadBytes.is)
     (load_follows c.returns_keep_simulation.ensures c.call_premises.ensures c.args.words.now
     load.result load.new.arena here (load.ensures.loaded c.args.maps.now))
+
+pub returns-in-Update-clause-follows : goal.returns-in-Update-clause-follows
+returns-in-Update-clause-follows c =
+    let here =
+    site c.args.caller.tenant c.args.caller.bind.now c.args.caller.packet.now c.args.arena.now c.args.maps.now in
+    let reply = gives c.update_inside.result c.update_inside.new.arena c.update_inside.new.maps in
+    subst (λ (h : Helper). CallFollows here c.args.words.now h reply) (sym c.in-Update.is)
+    (update_follows c.returns_keep_simulation.ensures c.call_premises.ensures c.args.words.now
+    reply here c.update_inside.ensures.updated)
+
+pub returns-in-Update-clause-apart : goal.returns-in-Update-clause-apart
+returns-in-Update-clause-apart c =
+    updates_apart
+    (site c.args.caller.tenant c.args.caller.bind.now c.args.caller.packet.now c.args.arena.now c.args.maps.now)
+    _ _
+    (gives c.update_inside.result c.update_inside.new.arena c.update_inside.new.maps)
+    c.update_inside.ensures.updated

@@ -18,7 +18,6 @@ pub mod Words
 pub mod Named
 pub mod Followed
 pub mod SameApart
-pub mod Replaced
 pub mod NamedCalls
 pub mod Cells
 pub mod Addresses

@@ -36,15 +36,6 @@ part_range memory t at n part is fits =
 
 -- ---- a map with a key, and with a value
 
--- a range of a borrowed part that is as long as a key of the map of handle k has the bytes of a key at this offset
-pub key_range : (site : CallSite) (k at : ℕ) {n : ℕ} {part : List ℕ}
-    → n ≡ (shape_at site.maps k).key_size
-    → part ≡ part_bytes site.memory site.tenant → at + n ≤ site.memory.part
-    → slice_range part at (at + n) ≡ key_bytes site k at
-key_range site k at {n} {part} size is fits =
-    part_range site.memory site.tenant at n part is fits
-    ∙ ap (λ (m : ℕ). bytes_at site.memory.bytes (part_start site.memory site.tenant + at) m) size
-
 module _ (site : CallSite) (map key : ℕ) where
   -- if the word of the map names no map, it and a key's address name no key
   pub no_map : bound_map site.bind map ≡ None → key_named site map key ≡ None
@@ -84,9 +75,11 @@ module _ (site : CallSite) (map key : ℕ) where
           → part ≡ part_bytes site.memory site.tenant → at + n ≤ site.memory.part
           → key_named site map key ≡ Some (record { map = k; key = slice_range part at (at + n) })
       key_there at {part} offset is fits =
+          let there : key_bytes site k at ≡ slice_range part at (at + n) =
+          ap (λ (m : ℕ). bytes_at site.memory.bytes (part_start site.memory site.tenant + at) m) (sym size)
+          ∙ sym (part_range site.memory site.tenant at n part is fits) in
           key_found offset
-          ∙ ap (λ (bs : List ℕ). let o : Option NamedKey = Some (record { map = k; key = bs }) in o)
-          (sym (key_range site k at size is fits))
+          ∙ ap (λ (bs : List ℕ). let o : Option NamedKey = Some (record { map = k; key = bs }) in o) there
 
   -- if the words of a map and a key name no key, they name no pair with a value
   pub no_pair : (value : ℕ) → key_named site map key ≡ None → pair_named site map key value ≡ None

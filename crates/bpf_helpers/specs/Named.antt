@@ -2,7 +2,7 @@
 -- helpers are the kernel's (linux/bpf.h, bpf_func_id), EINVAL is an error of bpf(2), and EFAULT one
 -- of errno(3). Which words name what is this project's own, and so is the result if they name
 -- nothing: no accepted program makes such a call.
-use Rattle.std.specs.Prelude.{◌≡◌, ◌≢◌, ℕ, ◌+◌, ◌-◌, ◌==◌, ◌&&◌, nat_le, if◌then◌else◌, List, slice_get, slice_index, Option, Some, None, IsSome, option_map}
+use Rattle.std.specs.Prelude.{◌≡◌, ℕ, ◌+◌, ◌-◌, ◌==◌, ◌&&◌, nat_le, if◌then◌else◌, List, slice_get, slice_index, Option, Some, None, IsSome, option_map}
 use Rattle.words.specs.Bytes.{bytes_at}
 use Rattle.tagged_model.specs.declared.fault.MapFault.TheVariants.{Invalid}
 use Rattle.tagged_model.specs.declared.helper.Helper.{Helper}
@@ -104,10 +104,13 @@ NamesAll site words Delete = IsSome (key_named site (slice_index words 0) (slice
 NamesAll site words LoadBytes =
     IsSome (named_offset site.memory site.tenant (slice_index words 3) (slice_index words 2))
 
--- a run may call the helper by `call_in_run`: it is no deletion, and its words name all that it
--- needs
+-- a helper that a run calls by `call_in_run`: a look-up, or an update or a load of bytes with words
+-- that name all that the helper needs
 abbrev pub IsInRun : CallSite → List ℕ → Helper → Type 0
-IsInRun site words helper = (helper ≢ Delete) × NamesAll site words helper
+IsInRun site words LookUp = Unit {0}
+IsInRun site words Update = NamesAll site words Update
+IsInRun site words Delete = ⊥
+IsInRun site words LoadBytes = NamesAll site words LoadBytes
 
 -- the result of a call whose words name nothing: null for a look-up, EINVAL, negated, for an update
 -- or a deletion, and EFAULT, negated, for a load of bytes

@@ -13,9 +13,9 @@
 //!   of refused memory stays: `follows` of `call`.
 //! - If a word names no map of the run, or bytes that are not in the tenant's part, a look-up returns null, an update and a
 //!   delete EINVAL, a load of bytes EFAULT, and nothing changes: `unnamed` of `call`.
-//! - If the machine's call has a result, its words name all that the helper needs: `calls_name_all`. So a run of an accepted
-//!   program looks keys up, updates and loads bytes of the packet like `call`, but without a test of a word. It also knows which of
-//!   its maps are arrays, and the addresses of their elements: `follows`, `kept`, `maps`, `apart` of `call_in_run`.
+//! - A run that knows which of its maps are arrays, and the addresses of their elements, looks keys up like `call`: `follows`,
+//!   `unnamed`, `kept` of `call_in_run`. If the machine's call has a result, its words name all that the helper needs:
+//!   `calls_name_all`. So a run updates and loads bytes of the packet without a test of a word: `follows`, `maps`, `apart`.
 //! - Each range that a call requests is in the tenant's part: `asks` of `call`.
 //! - When the machine loads or stores a value, the address of the access is in the part; the bytes there are a word that
 //!   simulates the loaded value, and with the word of the stored value they simulate the next state: `loads_give_words`,
@@ -36,12 +36,12 @@
 //!   which does not happen in an accepted program (`NamesNothing`, `unnamed_result`); then nothing changes. No `Option` or `Result`
 //!   is built and taken apart for the result, and a run has no arm for a call that faults. A look-up returns its address at once
 //!   (`address_of`). bench/FIGURES.md has the cost of calls.
-//! - `call_in_run` tests no word, since the verifier has: that the words name a map, and bytes of the part for a key, a value or what
-//!   is loaded, is its condition (`NamesAll`), as that of a load or a store of a program is that its bytes lie in the part.
-//! - `call` tests a word and an address once: the number of the map and the offset in the tenant's part are each one wrapping
+//! - An update and a load of bytes by a run test no word, since the verifier has: that the words name a map, and bytes of the part for
+//!   the key, the value or what is loaded, is the condition of `call_in_run` (`IsInRun`), as that of a load or a store of a program is
+//!   that its bytes lie in the part. A look-up has no such condition, and returns 0 whatever its words name (`unnamed`).
+//! - The other calls test a word and an address once: the number of the map and the offset in the tenant's part are each one wrapping
 //!   difference and one comparison, since a key and a value of a map are never longer than a part (`sizes_fit_in_parts`).
-//! - An update of a present key only reads the map, in the run's own machine code; one of an absent key is left to a separate function
-//!   (`put_absent`). The value is known to be in the part (`copy_inside` of `arena`), and eight bytes are one number.
+//!   What `put` copies is known to be in the part (`copy_inside` of `arena`), and eight bytes are one number.
 #![tactic(auto)]
 
 mod arrays;

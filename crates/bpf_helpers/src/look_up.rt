@@ -4,13 +4,10 @@ ghost use Rattle.std.specs.Prelude.{◌≡◌, ◌+◌, ◌-◌, ◌<◌, ◌≤
 ghost use Rattle.arena.specs.Memory.{base, part_start};
 ghost use Rattle.arena.specs.Ranges.{IsInside};
 ghost use Rattle.bpf_maps.specs.declared.part.TheConstants.{MAPS, PART};
-ghost use Rattle.bpf_helpers.specs.Named.{bound_map, named_offset, key_named};
+ghost use Rattle.bpf_helpers.specs.Named.{bound_map, named_offset};
 ghost use Rattle.bpf_helpers.specs.Calls.{AreArrays, AreLive};
 ghost use Rattle.bpf_helpers.specs.Parts.{IsPartOf, AsksInside};
-ghost use Rattle.tagged_model.specs.Table.{look_up};
-ghost use Rattle.bpf_maps.specs.KeyTable.{table_of};
-ghost use Rattle.bpf_maps.specs.Live.{live_at, keys_at, shape_at};
-ghost use Rattle.bpf_helpers.specs.inside.Flat.{site_of, value_word, flat_look_up};
+ghost use Rattle.bpf_helpers.specs.inside.Flat.{site_of, flat_look_up};
 
 use crate::arrays::Arrays;
 use crate::caller::Caller;
@@ -117,22 +114,6 @@ pub(crate) fn traced_offset_inside(
     (address - arena.address(tenant)) as usize
 }
 
-/// The address of a key's value in a live map; 0 if the map does not have the key, which has the size of the map's keys.
-#[inline(always)]
-fn address_of(map: MapKey, key: &[u8], caller: Caller<'_>, arena: &Arena, maps: &Maps) -> u64
-    requires part { IsPartOf caller.tenant arena.now }
-    requires live { IsSome (live_at maps.now map) }
-    requires size { length key.now ≡ (shape_at maps.now map).key_size }
-    ensures { result ≡ value_word (site_of caller.entry arena.now maps.now) map
-        (look_up (table_of (keys_at maps.now map)) key.now) }
-{
-    arena.memory_is_its_parts();
-    match maps.find(map, key) {
-        Some(element) => arena.address(caller.tenant) + maps.value_at(map, element) as u64,
-        None => 0,
-    }
-}
-
 /// bpf_map_lookup_elem (1): returns the address of the value of a key, or 0 if the map doesn't have the key. `map` is the position of the
 /// map among those of the run, counted from 1, and `key` the address of the key. It also returns 0 if there is no such map, or the key's
 /// bytes don't lie in the part.
@@ -161,16 +142,16 @@ pub(crate) fn look_up(
         return 0;
     };
     let part = arena.part(caller.tenant);
-    address_of(map, &part[at..at + size], caller, arena, maps)
+    maps.address_of(map, &part[at..at + size], arena.address(caller.tenant))
 }
 
-/// bpf_map_lookup_elem (1) with the result of `look_up`: the address of the key's value, or 0 if the map does not have the key. `map` is 1
-/// for the first of the run's maps (`bind` of `caller`), and `key` is the address of the key. The caller knows that `map` names a map and
-/// that the key's bytes lie in the tenant's part (`named`), so neither is tested. In an array the value is found by `arrays`, without
-/// reading the map. If the count of the map's `Elements` in `arrays` is 0, as for a hash map, the map is read. By `few` the run has at most
-/// `MAPS` maps, and each list of `arrays` has `MAPS` words, so it has one for each map.
+/// bpf_map_lookup_elem (1) with the result of `look_up`: the address of the key's value; 0 if the map does not have the key, if there is no
+/// such map, or if the key's bytes do not lie in the tenant's part. `map` is 1 for the first of the run's maps (`bind` of `caller`), and
+/// `key` is the address of the key. In an array the value is found by `arrays`, without reading the map. If the count of the map's
+/// `Elements` in `arrays` is 0, as for a hash map, `look_up` reads the map. By `few` the run has at most `MAPS` maps, and each list of
+/// `arrays` has `MAPS` words, so it has one for each map.
 #[inline(always)]
-pub(crate) fn look_up_inside(
+pub(crate) fn look_up_among(
     arrays: Arrays<'_>,
     map: u64,
     key: u64,
@@ -184,26 +165,24 @@ pub(crate) fn look_up_inside(
     requires few { length caller.bind.now ≤ MAPS }
     requires arrays { AreArrays arrays.elements.now arrays.values.now caller.bind.now
         arena.now caller.tenant maps.now }
-    requires named { IsSome (key_named (site_of caller arena.now maps.now) map key) }
     ensures value { result
         ≡ unwrap_or (flat_look_up (site_of caller.entry arena.now maps.now) map key) 0 }
     ensures asks { AsksInside arena.now caller.entry.tenant trace.old trace.new }
 {
+    laws::sizes_fit_in_parts();
     arena.memory_is_its_parts();
-    let handle = bound_inside(caller.bind, map);
+    let Some(handle) = bound(caller.bind, map) else {
+        return 0;
+    };
     let index = map.wrapping_sub(1) as usize;
     let array = Elements::of_word(arrays.elements[index]);
-    let part = arena.part(caller.tenant);
     if array.count == 0 {
-        let size = maps.shape(handle).key_size as usize;
-        let at = traced_offset_inside(arena, caller.tenant, size, key, trace);
-        return address_of(handle, &part[at..at + size], caller, arena, maps);
+        return look_up(map, key, caller, arena, maps, trace);
     }
-    let at = traced_offset_inside(arena, caller.tenant, INDEX_SIZE, key, trace);
-    array.address_of(
-        maps,
-        handle,
-        &part[at..at + INDEX_SIZE],
-        arrays.values[index],
-    )
+    let size = INDEX_SIZE;
+    let Some(at) = traced_offset(arena, caller.tenant, size, key, trace) else {
+        return 0;
+    };
+    let part = arena.part(caller.tenant);
+    array.address_of(maps, handle, &part[at..at + size], arrays.values[index])
 }

@@ -1,21 +1,19 @@
 //! An update of a map, on words and bytes.
 
-ghost use Rattle.std.specs.Prelude.{◌≡◌, ◌+◌, ◌-◌, ◌<◌, ◌≤◌, None, IsSome};
+ghost use Rattle.std.specs.Prelude.{◌≡◌, ◌+◌, ◌-◌, ◌<◌, ◌≤◌, IsSome};
 ghost use Rattle.bpf_maps.specs.declared.part.TheConstants.{PART};
-ghost use Rattle.tagged_model.specs.Table.{look_up};
-ghost use Rattle.bpf_maps.specs.KeyTable.{table_of};
-ghost use Rattle.bpf_maps.specs.Live.{live_at, keys_at, shape_at};
+ghost use Rattle.bpf_maps.specs.Live.{live_at, shape_at};
 ghost use Rattle.tagged_model.specs.Helpers.{errno, negative};
 ghost use Rattle.bpf_helpers.specs.Calls.{AreLive};
 ghost use Rattle.bpf_helpers.specs.States.{answers};
 ghost use Rattle.bpf_helpers.specs.Named.{pair_named};
 ghost use Rattle.bpf_helpers.specs.Parts.{IsPartOf, AsksInside};
-ghost use Rattle.bpf_helpers.specs.inside.Flat.{site_of, pair_there, key_bytes, value_bytes, with_element_value, Updates, UpdatesNamed};
+ghost use Rattle.bpf_helpers.specs.inside.Flat.{site_of, pair_there, Updates, UpdatesNamed};
 
 use crate::caller::Caller;
 use crate::look_up::{bound, bound_inside, traced_offset, traced_offset_inside};
 use arena::{Arena, Trace};
-use bpf_maps::{EXIST, MapKey, Maps, NOEXIST, laws};
+use bpf_maps::{MapKey, Maps, laws};
 use tagged_model::MapFault;
 
 /// The addresses of the key and the value that an update stores, as the words of its arguments give them.
@@ -54,78 +52,9 @@ pub(crate) fn refusal(fault: MapFault) -> u64
     u64::MAX - errno_of(fault) + 1
 }
 
-/// Writes the value of an element of a live map: as many bytes as a value of the map has are copied from offset `from` of the tenant's part.
-/// The caller knows that they lie in it (`from`), so the bytes are copied without a test.
-#[inline(always)]
-fn write_value(
-    map: MapKey,
-    element: u32,
-    from: usize,
-    caller: Caller<'_>,
-    arena: &mut Arena,
-    maps: &Maps,
-    trace: &mut Trace,
-)
-    requires part { IsPartOf caller.tenant arena.old }
-    requires live { IsSome (live_at maps.now map) }
-    requires element { element < (shape_at maps.now map).max_entries }
-    requires from { from + (shape_at maps.now map).value_size ≤ PART }
-    ensures written { arena.new ≡ with_element_value (site_of caller.entry arena.old maps.now) map
-        element (value_bytes (site_of caller.entry arena.old maps.now) map from) }
-    ensures asks { AsksInside arena.old caller.entry.tenant trace.old trace.new }
-{
-    arena.memory_is_its_parts();
-    let start = arena.address(caller.tenant);
-    let to = start + maps.value_at(map, element) as u64;
-    let size = maps.shape(map).value_size as usize;
-    arena.copy_inside(to, start + from as u64, size, trace);
-}
-
-/// Stores a value under a key that a live map does not have (`absent`), and returns 0. If that fails, nothing changes, and it returns the
-/// error's number, negated. The key and the value are at the offsets `at` of the tenant's part; the caller knows that both lie in it (`key`,
-/// `value`). `flags` are those of bpf(2). This function is cold and not inlined, since most updates are of present keys.
-#[cold]
-#[inline(never)]
-fn put_absent(
-    map: MapKey,
-    at: Offsets,
-    flags: u64,
-    caller: Caller<'_>,
-    arena: &mut Arena,
-    maps: &mut Maps,
-    trace: &mut Trace,
-) -> u64
-    requires part { IsPartOf caller.tenant arena.old }
-    requires live { IsSome (live_at maps.old map) }
-    requires key { at.key + (shape_at maps.old map).key_size ≤ PART }
-    requires value { at.value + (shape_at maps.old map).value_size ≤ PART }
-    requires absent { look_up (table_of (keys_at maps.old map))
-        (key_bytes (site_of caller arena.old maps.old) map at.key) ≡ None }
-    ensures updated { Updates (site_of caller.entry arena.old maps.old)
-        (pair_there (site_of caller.entry arena.old maps.old) map at.key at.value) flags
-        (answers result arena.new maps.new) }
-    ensures asks { AsksInside arena.old caller.entry.tenant trace.old trace.new }
-{
-    arena.memory_is_its_parts();
-    laws::areas_keep_elements();
-    let size = maps.shape(map).key_size as usize;
-    let part = arena.part(caller.tenant);
-    match maps.claim_absent(map, &part[at.key..at.key + size], flags) {
-        Ok(element) => {
-            write_value(map, element, at.value, caller, arena, maps, trace);
-            0
-        }
-        Err(fault) => refusal(fault),
-    }
-}
-
 /// Stores a value under a key of a live map, and returns 0. If that fails, nothing changes, and it returns the error's number, negated. The
-/// key and the value are at the offsets `at` of the tenant's part; the caller knows that both lie in it (`key`, `value`). `flags` are those
-/// of bpf(2).
-///
-/// The value of a present key is replaced in the caller's own machine code, which only reads the map. `put_absent` does all else, and gets
-/// the memory in another variable: the caller's is lent to no function, so its address stays in a machine register.
-#[inline(always)]
+/// key and the value are at the offsets `at` of the tenant's part; `update` has tested that both lie in it (`key`, `value`), so the value
+/// is copied without a test. `flags` are those of bpf(2).
 fn put(
     map: MapKey,
     at: Offsets,
@@ -145,29 +74,24 @@ fn put(
     ensures asks { AsksInside arena.old caller.entry.tenant trace.old trace.new }
 {
     arena.memory_is_its_parts();
-    maps.maps_are_laid();
-    let size = maps.shape(map).key_size as usize;
+    laws::areas_keep_elements();
+    let shape = maps.shape(map);
     let part = arena.part(caller.tenant);
-    let Some(element) = maps.find(map, &part[at.key..at.key + size]) else {
-        let mut lent = arena.take();
-        let result = put_absent(map, at, flags, caller, &mut lent, maps, trace);
-        *arena = lent;
-        return result;
-    };
-    if flags > EXIST {
-        return refusal(MapFault::Invalid);
+    match maps.claim(map, &part[at.key..at.key + shape.key_size as usize], flags) {
+        Ok(element) => {
+            let start = arena.address(caller.tenant);
+            let to = start + maps.value_at(map, element) as u64;
+            let from = start + at.value as u64;
+            arena.copy_inside(to, from, shape.value_size as usize, trace);
+            0
+        }
+        Err(fault) => refusal(fault),
     }
-    if flags == NOEXIST {
-        return refusal(MapFault::Exists);
-    }
-    write_value(map, element, at.value, caller, arena, maps, trace);
-    0
 }
 
 /// bpf_map_update_elem (2): stores a value under a key, and returns 0. `map` is the position of the map among those of the run, counted
 /// from 1, the key and the value are at the addresses `at`, and `flags` are those of bpf(2). With an error nothing changes, and it returns
 /// the error's number, negated; this is EINVAL if there is no such map, or the bytes of the key or of the value don't lie in the part.
-#[inline(always)]
 pub(crate) fn update(
     map: u64,
     at: Addresses,

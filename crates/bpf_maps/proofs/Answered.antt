@@ -1,6 +1,6 @@
 -- From calls on the fields of a map to the calls of the map.
 use Rattle.std.proofs.Common.{◌≡◌, ℕ, ◌+◌, ◌<◌, ◌≤◌, ◌==◌, Bool, true, false, List, Option, Some, None, Result, Ok}
-use Rattle.std.proofs.Common.{IfSome, refl, sym, ap, subst, ◌∙◌, nat_lt, nat_le, if◌then◌else◌, arith}
+use Rattle.std.proofs.Common.{Err, IfOk, IfSome, refl, sym, ap, subst, ◌∙◌, nat_lt, nat_le, if◌then◌else◌, arith}
 use Rattle.std.proofs.lemmas.Bool.{ltb-true}
 use Rattle.std.specs.Map.{values_of}
 use Rattle.tagged_model.specs.declared.shape.MapKind.{MapKind}

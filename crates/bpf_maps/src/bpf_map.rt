@@ -1,6 +1,6 @@
 //! The two kinds of map as one type.
 
-ghost use Rattle.std.specs.Prelude.{◌≡◌, ◌<◌, ◌⊎◌, length, [], None, option_map, IfOk, IfSome};
+ghost use Rattle.std.specs.Prelude.{◌≡◌, ◌<◌, ◌⊎◌, length, [], option_map, IfOk, IfSome};
 ghost use Rattle.ordered_keys.specs.Orders.{next_entry};
 ghost use Rattle.tagged_model.specs.Table.{look_up, verdict, removal, next_of};
 ghost use Rattle.bpf_maps.specs.KeyTable.{KeyTable, table_of, IsSound, Claims, Removes, new_keys, after_run};
@@ -81,22 +81,6 @@ impl BpfMap {
         match self {
             BpfMap::Array(map) => map.entry_after(element),
             BpfMap::Hash(map) => map.entry_after(element),
-        }
-    }
-
-    /// Claims an element for an absent key, as `ValueMap::claim` does. An array has no element for it.
-    pub(crate) fn claim_absent(&mut self, key: &[u8], flags: u64) -> Result<u32, MapFault>
-        requires absent { look_up (table_of (keys_in self.old)) key.now ≡ None }
-        requires size { length key.now ≡ (keys_in self.old).shape.key_size }
-        ensures claimed { Claims (verdict (table_of (keys_in self.old)) key.now flags) key.now
-            (keys_in self.old) result (keys_in self.new) }
-        ensures within { IfOk result (λ element. element < (keys_in self.new).shape.max_entries) }
-        ensures shape { (keys_in self.new).shape ≡ (keys_in self.old).shape }
-        ensures sound { IsSound (keys_in self.new) }
-    {
-        match self {
-            BpfMap::Array(map) => map.claim(key, flags),
-            BpfMap::Hash(map) => map.claim_absent(key, flags),
         }
     }
 }

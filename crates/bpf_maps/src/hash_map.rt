@@ -121,8 +121,10 @@ impl HashMap {
 
     /// Adds an absent key as the last one, claims a free element for it, and returns this element. Of the spare elements, which no key has,
     /// the first `kept` are kept apart and the others are free, so the last one is claimed. `TooBig`, and nothing has changed, if none is
-    /// free. The caller, `claim_absent`, has checked the flags of the update: both `ANY` and `NOEXIST` allow an absent key, so the contract
-    /// has only `ANY` (0).
+    /// free. The caller, `claim`, has checked the flags of the update: both `ANY` and `NOEXIST` allow an absent key, so the contract has
+    /// only `ANY` (0). Not inlined, unlike the rest of an update, as an update of a present key does not call this function.
+    #[cold]
+    #[inline(never)]
     #[tactic(auto, using(crate::proofs::Kept::sound))]
     fn add(&mut self, key: &[u8]) -> Result<u32, MapFault>
         requires absent { look_up (table_of self.old) key.now ≡ None }
@@ -139,31 +141,6 @@ impl HashMap {
         self.spare.pop();
         Ok(element)
     }
-
-    /// Claims a free element for an absent key, which has the size of the map's keys, and returns this element; the key becomes the last one.
-    ///
-    /// # Errors
-    ///
-    /// `Invalid` if `flags` is none of `ANY`, `NOEXIST` and `EXIST`, 0 to 2; `NoEntry` if it is `EXIST`; else `TooBig` if the map is full.
-    /// Then nothing has changed.
-    pub(crate) fn claim_absent(&mut self, key: &[u8], flags: u64) -> Result<u32, MapFault>
-        requires absent { look_up (table_of self.old) key.now ≡ None }
-        requires size { length key.now ≡ self.old.shape.key_size }
-        ensures claimed { Claims (verdict (table_of self.old) key.now flags) key.now self.old result
-            self.new }
-        ensures within { IfOk result (λ element. element < self.new.shape.max_entries) }
-        ensures shape { self.new.shape ≡ self.old.shape }
-        ensures sound { IsSound self.new }
-    {
-        self.elements_are_distinct();
-        if flags > EXIST {
-            return Err(MapFault::Invalid);
-        }
-        if flags == EXIST {
-            return Err(MapFault::NoEntry);
-        }
-        self.add(key)
-    }
 }
 
 impl ValueMap for HashMap {
@@ -179,20 +156,29 @@ impl ValueMap for HashMap {
         self.element_of(key)
     }
 
-    // A present key keeps its element, which is returned; only an absent one needs a free element (`claim_absent`). `EXIST`, 2, is the
+    // A present key keeps its element, which is returned; only an absent one needs a free element, which `add` claims. `EXIST`, 2, is the
     // largest flag. `elements_are_distinct` is a law, for the proof.
     #[inline(always)]
     fn claim(&mut self, key: &[u8], flags: u64) -> Result<u32, MapFault> {
         self.elements_are_distinct();
-        let Some(element) = self.element_of(key) else {
-            return self.claim_absent(key, flags);
-        };
         if flags > EXIST {
-            Err(MapFault::Invalid)
-        } else if flags == NOEXIST {
-            Err(MapFault::Exists)
-        } else {
-            Ok(element)
+            return Err(MapFault::Invalid);
+        }
+        match self.element_of(key) {
+            Some(element) => {
+                if flags == NOEXIST {
+                    Err(MapFault::Exists)
+                } else {
+                    Ok(element)
+                }
+            }
+            None => {
+                if flags == EXIST {
+                    Err(MapFault::NoEntry)
+                } else {
+                    self.add(key)
+                }
+            }
         }
     }
 

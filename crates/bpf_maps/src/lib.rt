@@ -18,9 +18,9 @@
 //! - A look-up, an update, a delete and a request for the next key return and leave what the definition says, with errors in
 //!   its order, and none of them is refused memory: a map takes all memory that it can ever need when it is created. This holds for
 //!   the calls of `ValueMap`, for `ArrayMap` and `HashMap`.
-//! - In an array the address of a key's value is found without the map, from the number of its elements, their distance and the
-//!   address of the first: it is that of the element in the part, modulo 2^64, at which the whole value is, and 0 if the array has no
-//!   such key: `address`, `inside` of `Elements::address_of`.
+//! - The address of a key's value is that of its element in the part, modulo 2^64, at which the whole value is, and 0 if the map has
+//!   no such key: `address`, `inside` of `Maps::address_of`. In an array it is found from the number of its elements, their distance
+//!   and the address of the first: `Elements::of`, `Elements::address_of`.
 //! - A key is the list of its bytes, whether it is stored as a number or as bytes: `entries_of`, in the calls of `KeyIndex` and
 //!   the model of `HashMap`.
 //! - The next key is the one of the definition, and has the size of the map's keys: `given`, `size` of `key_after`. Or it is

@@ -10,7 +10,7 @@ ghost use Rattle.bpf_maps.specs.Limits.{most_maps, most_bytes};
 ghost use Rattle.bpf_maps.specs.KeyTable.{table_of, IsSound, Claims, Removes, GivesKey, after_run};
 ghost use Rattle.bpf_maps.specs.Elements.{elements_at, word_of};
 ghost use Rattle.bpf_maps.specs.KeyRef.{key_bytes, shown_entry};
-ghost use Rattle.bpf_maps.specs.Live.{live_at, keys_at, shape_at, holds_at, held_at, offset_at, value_in, map_in};
+ghost use Rattle.bpf_maps.specs.Live.{live_at, keys_at, shape_at, holds_at, held_at, offset_at, value_in, map_in, value_address};
 ghost use Rattle.bpf_maps.specs.Live.{LiesInPart, IsLaid, IsPacked, ClosesUp, start_at, AreSound, SameAreas, SameValues, KeepsMap};
 ghost use Rattle.bpf_maps.specs.Live.{KeepsMaps, KeepsOthers, area_by, areas, OnlyKeysChange, create_fault, Creates, one_more, one_less};
 ghost use Rattle.bpf_maps.specs.InMaps.{live_of};
@@ -22,7 +22,7 @@ use crate::part::{KEY_ROOM, LARGEST_SUM, MAPS, PART, STACK_AND_CONTEXT, clear};
 use crate::slab_keys::SlabKeys;
 use crate::spare_maps::SpareMaps;
 use crate::stored_map::{StoredMap, close_gap};
-use crate::value_map::{EXIST, NOEXIST, ValueMap};
+use crate::value_map::ValueMap;
 use seeded_hash::HashSeed;
 use slab::Slab;
 use std::alloc::{AllocError, Global};
@@ -332,6 +332,24 @@ impl Maps {
         self.stored(map).map.find(key)
     }
 
+    /// The address of a key's value in a live map, modulo 2^64, if the tenant's part begins at address `part`; 0 if the map doesn't have
+    /// the key. The key has the size of the map's keys. The value lies in the part.
+    #[inline(always)]
+    pub fn address_of(&self, map: MapKey, key: &[u8], part: u64) -> u64
+        requires live { IsSome (live_at self.now map) }
+        requires size { length key.now ≡ (shape_at self.now map).key_size }
+        ensures address { result ≡ value_address part self.now map
+            (look_up (table_of (keys_at self.now map)) key.now) }
+        ensures inside { IfSome (look_up (table_of (keys_at self.now map)) key.now) (λ element.
+            LiesInPart (offset_at self.now map element) (shape_at self.now map).value_size) }
+    {
+        let stored = self.stored(map);
+        match stored.map.find(key) {
+            Some(element) => part.wrapping_add(self.offset_in(map, stored, element) as u64),
+            None => 0,
+        }
+    }
+
     /// Claims an element of a live map for a key, which has the size of the map's keys, and returns it; the caller then writes the value
     /// there. A present key keeps its element. A new key becomes the last of the map's entries, and gets any element that is not in use.
     ///
@@ -352,38 +370,9 @@ impl Maps {
         ensures refused { self.new.refused ≡ self.old.refused }
     {
         self.maps_are_laid();
-        let Some(element) = self.find(map, key) else {
-            return self.claim_absent(map, key, flags);
-        };
-        if flags > EXIST {
-            Err(MapFault::Invalid)
-        } else if flags == NOEXIST {
-            Err(MapFault::Exists)
-        } else {
-            Ok(element)
-        }
-    }
-
-    /// Claims an element of a live map for an absent key, as `claim` does, for a caller that has looked the key up (`find`): it is not looked up
-    /// again. The key has the size of the map's keys, and becomes the last of the map's entries.
-    ///
-    /// # Errors
-    ///
-    /// `Invalid` if `flags` is none of `ANY`, `NOEXIST` and `EXIST`, 0 to 2; `TooBig` for an array; for a hash map `NoEntry` if `flags` is
-    /// `EXIST`, else `TooBig` if the map is full. Then no map has changed. Takes no memory.
-    pub fn claim_absent(&mut self, map: MapKey, key: &[u8], flags: u64) -> Result<u32, MapFault>
-        requires live { IsSome (live_at self.old map) }
-        requires absent { look_up (table_of (keys_at self.old map)) key.now ≡ None }
-        requires size { length key.now ≡ (shape_at self.old map).key_size }
-        ensures claimed { Claims (verdict (table_of (keys_at self.old map)) key.now flags) key.now
-            (keys_at self.old map) result (keys_at self.new map) }
-        ensures within { IfOk result (λ element. element < (shape_at self.new map).max_entries) }
-        ensures rest { OnlyKeysChange map self.old self.new }
-        ensures refused { self.new.refused ≡ self.old.refused }
-    {
         let at = self.keys.key(map.handle);
         let stored = &mut self.maps[at];
-        stored.map.claim_absent(key, flags)
+        stored.map.claim(key, flags)
     }
 
     /// Removes a key, which has the size of the map's keys, from a live map. Its element is kept apart: no key gets it until the caller

@@ -61,16 +61,12 @@ abbrev pub claim_word : Result ℕ MapFault → ℕ
 claim_word (Ok element) = 0
 claim_word (Err fault) = negative (errno fault)
 
--- the memory after the value of an element is written, for the map of handle k
-abbrev pub with_element_value : CallSite → ℕ → ℕ → List ℕ → Memory
-with_element_value site k element value =
-    with_bytes site.memory
-    (part_start site.memory site.tenant + offset_at site.maps k element)
-    value
-
 -- the memory after an update: the value is written to the claimed element, if there is one
 abbrev pub with_claimed : CallSite → NamedPair → Result ℕ MapFault → Memory
-with_claimed site pair (Ok element) = with_element_value site pair.map element pair.value
+with_claimed site pair (Ok element) =
+    with_bytes site.memory
+    (part_start site.memory site.tenant + offset_at site.maps pair.map element)
+    pair.value
 with_claimed site pair (Err fault) = site.memory
 
 -- `answer` is the result of an update at the call site, with the map, the key and the value of

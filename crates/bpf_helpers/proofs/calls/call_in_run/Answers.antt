@@ -10,7 +10,7 @@ pub returns-in-LookUp-clause-follows : goal.returns-in-LookUp-clause-follows
 returns-in-LookUp-clause-follows c =
     let here =
     site c.args.caller.tenant c.args.caller.bind.now c.args.caller.packet.now c.args.arena.now c.args.maps.now in
-    let look = c.look_up_inside in
+    let look = c.look_up_among in
     subst (λ (h : Helper). CallFollows here c.args.words.now h (gives look.result c.args.arena.now c.args.maps.now))
     (sym c.in-LookUp.is)
     (look_up_follows c.returns_keep_simulation.ensures c.call_premises.ensures c.args.words.now

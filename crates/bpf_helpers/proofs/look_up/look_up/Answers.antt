@@ -1,8 +1,12 @@
-use Rattle.std.proofs.Common.{option_map, sym, ap, ◌∙◌}
+use Rattle.std.proofs.Common.{◌+◌, option_map, slice_range, sym, ap, ◌∙◌, arith}
 use Rattle.std.specs.Prelude.{unwrap_or}
 use Rattle.tagged_model.specs.declared.shape.MapShape.{MapShape}
+use Rattle.tagged_model.specs.Table.{look_up}
+use Rattle.bpf_maps.specs.KeyTable.{table_of}
+use Rattle.bpf_maps.specs.Live.{keys_at}
 use Rattle.bpf_helpers.specs.inside.Flat.{site_of, key_word}
 use Rattle.bpf_helpers.proofs.Words.{no_map, no_key, key_there}
+use Rattle.bpf_helpers.proofs.Addresses.{address_word}
 use Rattle.bpf_helpers.proofs.look_up.look_up.Goals as goal
 
 pub returns-in_default-clause-value : goal.returns-in_default-clause-value
@@ -19,11 +23,16 @@ returns-clause-value c =
     let n = c.shape-size.result.key_size in
     let part = c.part-part.result.now in
     let size = ap (λ (s : MapShape). s.key_size) c.shape-size.ensures in
+    let o = look_up (table_of (keys_at site.maps k)) (slice_range part at (at + n)) in
     let there =
     key_there site c.args.map c.args.key (sym c.in-Some.ensures.value) size at
     c.in-Some-traced_offset.ensures.value c.part-part.ensures.bytes
     c.in-Some-traced_offset.ensures.within in
-    c.address_of.ensures ∙ sym (ap (λ o. unwrap_or (option_map (key_word site) o) 0) there)
+    let low = c.address.ensures.room in
+    let bound = c.memory_is_its_parts.ensures.bound in
+    c.address_of.ensures.address
+    ∙ address_word site k c.address.result o c.address.ensures.value (omega arith) c.address_of.ensures.inside
+    ∙ sym (ap (λ o. unwrap_or (option_map (key_word site) o) 0) there)
 
 pub returns-in_default-traced_offset-clause-value : goal.returns-in_default-traced_offset-clause-value
 returns-in_default-traced_offset-clause-value c =

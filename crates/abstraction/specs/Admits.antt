@@ -67,8 +67,8 @@ HasKind witness k o = (v : Tagged) × (o ≡ Some v) × IsOfKind witness k v
 
 -- ---- stack slots
 
--- the value is a map or a pointer: of these a cell, the content of a stack slot, keeps the value
--- itself (`holds`). Of a number a cell has only bytes
+-- the value is a map or a pointer: a cell, the content of a stack slot, keeps such a value whole
+-- (`holds`), but a number as bytes
 abbrev pub IsKeptWhole : Tagged → Type 0
 IsKeptWhole (Scalar n) = ⊥
 IsKeptWhole (Map m) = Unit {0}

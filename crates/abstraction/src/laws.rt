@@ -30,8 +30,8 @@ pub fn stack_input_admits()
     ensures { StackInputAdmits }
 {}
 
-/// A law: suppose that the facts that admit a state allow a helper to write bytes to the stack, of whose number they know a range. Then a
-/// write of any bytes, whose number is in this range, is no fault, and the facts after the write admit the state after the write.
+/// A law: if facts admit a state, and allow a helper to write bytes to the stack, from a least to a greatest number of bytes, then a write
+/// of any bytes, of a number in this range, is no fault, and the facts after the write admit the state after the write.
 pub fn stack_output_admits()
     ensures { StackOutputAdmits }
 {}
@@ -42,7 +42,8 @@ pub fn object_read_admits()
     ensures { ObjectReadAdmits }
 {}
 
-/// A law, for helpers: a write of bytes within a map's value is no fault, and the facts that admit the state before it admit that after it.
+/// A law, for helpers: in a state in range (`IsInRange`), a write of bytes within one value of a map is no fault. Facts that admit the
+/// state before the write also admit the state after the write, since facts know nothing of the bytes of values.
 pub fn object_write_admits()
     ensures { ObjectWriteAdmits }
 {}
@@ -58,27 +59,28 @@ pub fn value_store_admits()
     ensures { ValueStoreAdmits }
 {}
 
-/// A law: an update and a delete keep a map's shape, and do not lower its count. The count is the number of objects (values) that the map
-/// has had, those of deleted keys included. The number of the object that a look-up finds is below the count. So is that of the direct
-/// value, the one value of an array with one entry, whose address an instruction loads without a call.
+/// A law: an update and a delete keep a map's shape, and do not lower its count, the number of objects (values) that the map has had, those
+/// of deleted keys included. The object that a look-up finds has a number below the count. So has the object of the direct value:
+/// this is the one value of an array with one entry, whose address an instruction loads without a call.
 pub fn map_calls_keep()
     ensures { MapCallsKeep }
 {}
 
-/// A law: if a map of a run changes to one of its shape that has had no fewer objects (`KeepsShapeAndObjects`), the facts that admit the
-/// state before also admit the state after. The objects of a map are its values, those of deleted keys included.
+/// A law: if a map of a run is replaced by a map of equal shape with at least as many objects (`KeepsShapeAndObjects`), the facts that
+/// describe the state before also describe the state after. The objects of a map are its values, those of deleted keys included.
 pub fn map_change_admits()
     ensures { MapChangeAdmits }
 {}
 
-/// A law: if facts admit the state in which a helper returns, the facts after the call admit the state after it. Both change only in
-/// registers: register 0 gets the result, in facts a kind of the result, and registers 1 to 5 become empty, in facts unreadable.
+/// A law of the return from a helper: if facts admit a state, and a helper returns a value of some kind in this state, the facts after the
+/// call admit the state after the call. The return changes only registers: register 0 gets the value, in facts its kind, and registers 1 to
+/// 5 become empty, in facts unreadable.
 pub fn call_admits()
     ensures { CallAdmits }
 {}
 
-/// A law: if facts admit a state by a witness, and all sites in the facts are below a slot, the facts also admit the state by the witness
-/// that records, besides, a look-up at this slot with any result.
+/// A law: take facts that describe a state by a witness, and a slot above all sites in the facts. Then the facts also describe the state by
+/// the witness that has, in addition, a look-up at this slot with any result (`witness_at`).
 pub fn site_admits()
     ensures { SiteAdmits }
 {}

@@ -13,8 +13,8 @@ pub fn parts_are_apart()
     ensures { PartsAreApart }
 {}
 
-/// A write of bytes within a part, by their offset in the memory, writes them at their offset in the part's bytes, and leaves the size of
-/// the memory unchanged. Through the lent part (`part_mut`), a write of these bytes gives the same memory as by the offset in the memory.
+/// If bytes are written into the memory, all of them within a part, they are at the corresponding offset in the bytes of the part, and the
+/// size of the memory is unchanged. If they are written through the lent part (`part_mut`) instead, the memory is the same afterwards.
 pub fn writes_are_in_parts()
     ensures { WritesAreInParts }
 {}

@@ -188,7 +188,7 @@ impl Arena {
     }
 
     /// Stores the low `size` bytes (1, 2, 4 or 8) of `value` at `address`, little-endian. The caller knows that the range is in the memory
-    /// (`inside`), so there is no test.
+    /// (`inside`), so there is no test. The trace gets the range.
     #[inline(always)]
     pub fn store_inside(&mut self, address: u64, size: usize, value: u64, trace: &mut Trace)
         requires size { IsSize size }

@@ -30,9 +30,9 @@ pub fn stores_keep_simulation()
     arena::laws::writes_stay_inside();
 }
 
-/// Words and bytes represent a state (`Simulates`), in a part of the size for runs. If the tagged machine's call of a helper in this state is
-/// no fault, the words of registers 1 to 5 name all that the helper needs: a map that is bound to the run, and bytes of the part for a key,
-/// for a value, or for the bytes that a load writes. So the calls of an accepted program need no test of these words.
+/// If words and bytes represent a state (`Simulates`), in a part of the size for runs, and the tagged machine's call of a helper in this
+/// state is no fault, then the words of registers 1 to 5 name all that the helper needs: a map that is bound to the run, and bytes of the
+/// part for a key, for a value, or for the bytes that a load writes. So the calls of an accepted program need no test of these words.
 pub fn calls_name_all()
     ensures { CallsNameAll }
 {
@@ -51,9 +51,9 @@ pub(crate) fn returns_keep_simulation()
     ensures { ReturnsKeepSimulation }
 {}
 
-/// At the start of a run, words, bytes and live maps represent the state in which the tagged machine starts. This requires that the part
-/// has the run's context (`HasContext`), that registers 1 and 10 have its address (`AreFirst`), and that each bound map is live and keeps
-/// no element apart (`AreReady`).
+/// A law: at the start of a run, words, bytes and live maps represent the state in which the tagged machine starts. This requires that the
+/// part has the run's context (`HasContext`), that registers 1 and 10 have the address at which the stack ends and the context begins
+/// (`AreFirst`), and that each bound map is live and keeps no element apart (`AreReady`).
 pub fn runs_begin()
     ensures { RunsBegin }
 {}

@@ -48,7 +48,7 @@ fn write_named(arena: &mut Arena, tenant: usize, address: u64, bytes: &[u8], tra
 {
     arena.memory_is_its_parts();
     named_bytes_lie_inside(arena, tenant, bytes.len(), address);
-    // For the contract of `address`: the part lies in the memory, and so does the range.
+    // The result is not used: by the contract of `address` the proof knows that the part, and so the range, lies in the memory.
     let _ = arena.address(tenant);
     arena.write_inside(address, bytes, trace);
 }

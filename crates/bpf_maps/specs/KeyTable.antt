@@ -79,9 +79,10 @@ with_kept t key p = record {
   kept = t.kept ++ p ∷ [];
 }
 
--- which result the deletion of a key may have, by what `removal` gives, with the table before and
--- after it. If `removal` gives a fault, this is the result and nothing changes. If it gives the
--- key's element p, the key is removed, and p is kept apart
+-- the result that the deletion of `key` from the table `old` has, and the table `new` after the
+-- deletion. The first argument is what `removal` returns for the key. If this is a fault, it is the
+-- result, and the table is unchanged. If it is the key's element p, the result is no fault, the key
+-- is removed, and p is kept apart
 abbrev pub Removes : Result ℕ MapFault
     → List ℕ
     → KeyTable
@@ -91,9 +92,9 @@ abbrev pub Removes : Result ℕ MapFault
 Removes (Err fault) key old answer new = (answer ≡ Err fault) × (new ≡ old)
 Removes (Ok p) key old answer new = (answer ≡ Ok tt) × (new ≡ with_kept old key p)
 
--- what a request for the next key does, given this key: it writes the key to the front of the
--- caller's buffer, which has the bytes `old` before and `new` after. If no key follows (None), the
--- error is NoEntry, and nothing is written
+-- the result of a request for the next key, which is the first argument: the key is written to the
+-- front of the caller's buffer, which has the bytes `old` before and `new` after. If no key follows
+-- (None), the error is NoEntry, and nothing is written
 abbrev pub GivesKey : Option (List ℕ) → List ℕ → Result (Unit {0}) MapFault → List ℕ → Type 0
 GivesKey None old answer new = (answer ≡ Err NoEntry) × (new ≡ old)
 GivesKey (Some key) old answer new = (answer ≡ Ok tt) × (new ≡ key ++ drop (length key) old)

@@ -54,8 +54,8 @@ record IsWithout {A : Type 0} (k : ℕ) (xs : List (Option A)) : Type 0 where
   fewer : total (λ x. 1) slots + 1 ≡ total (λ x. 1) xs
   others : (j : ℕ) → j ≢ k → get_or slots j None ≡ get_or xs j None
 
--- the list xs, which has Some at index k, with None there instead; and that one option less is Some
--- and no other index changes (`IsWithout`). For the induction of `enough_present`
+-- a list that has None at index k, at which xs has Some, and otherwise equals xs; so it has one
+-- Some less (`IsWithout`). For the induction of `enough_present`
 without_position : {A : Type 0} (k : ℕ) (xs : List (Option A))
     → IsSome (get_or xs k None)
     → IsWithout k xs
@@ -136,8 +136,8 @@ live_within k tenant live = some_within k tenant.maps live
 
 -- ---- the lowest free handle
 
--- if two lists of options have one length, and Some at the same indices, the first index with None
--- is equal in both; if each index has Some, `position_or_len` is the length. For `same_lowest`
+-- if two lists of options have equal lengths, and None at equal indices, the first index with None,
+-- or the length if no index has None (`position_or_len`), is equal in both. For `same_lowest`
 same_front : {A B : Type 0} (xs : List (Option A)) (ys : List (Option B))
     → length xs ≡ length ys
     → ((k : ℕ) → is_some (get_or xs k None) ≡ is_some (get_or ys k None))

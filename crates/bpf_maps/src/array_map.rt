@@ -38,8 +38,9 @@ impl Model for ArrayMap {
 }
 
 impl ArrayMap {
-    /// Makes an array of this shape, whose keys are all its indices. The kind is `Array`: `BpfMap` has tested it. `align` takes no bytes:
-    /// with it, `shape` has the offset that it has in a hash map.
+    /// Makes an array of this shape, whose keys are all its indices. `BpfMap` has tested that the kind is `Array`. The field `align` takes
+    /// no bytes, and gives the field `shape` the offset that it has in a `HashMap`: so the shape of a map is read without a test of the
+    /// kind.
     #[inline(always)]
     pub(crate) fn new(shape: MapShape) -> ArrayMap
         requires { shape.kind ≡ Array }
@@ -132,8 +133,8 @@ impl ArrayMap {
         }
     }
 
-    /// The index after that of a key: one past the last, `max_entries`, if the key is the last one. After an absent key, also one of
-    /// another size, it is the first, 0.
+    /// The index that follows the index of `key`: `max_entries`, which is no index of the array, after the last key. If the array has no
+    /// such key, also if `key` has another size, the result is 0, the first index.
     fn index_after(&self, key: &[u8]) -> u32
         ensures next { next_of (table_of self.now) key.now
             ≡ (if nat_lt result self.now.shape.max_entries then Some (index_key result) else None) }

@@ -34,9 +34,9 @@ impl BpfMap {
         }
     }
 
-    /// Makes a map of this shape. A hash map gets the memory of one of `spares`, the maps that are no longer live, if one has the same key
-    /// size and `max_entries`. Else it takes new memory, with `seed`, and spare maps are freed first if they, the live hash maps (`live`)
-    /// and the new one are together too many (`SpareMaps` has the bounds). An array needs none of this. `AllocError`: out of memory for a
+    /// Makes a map of this shape. A hash map reuses the memory of one of `spares`, the hash maps that are no longer live, if one has its
+    /// key size and `max_entries`. Else it takes new memory, with `seed`, after spare maps are freed while they, the live hash maps
+    /// (`live`) and the new map exceed the bounds of `SpareMaps`. An array takes neither memory nor seed. `AllocError`: out of memory for a
     /// hash map.
     pub(crate) fn with_spares(
         alloc: Global,
@@ -119,6 +119,7 @@ impl ValueMap for BpfMap {
         }
     }
 
+    // Ends a run on the map: the elements of deleted keys, which were kept apart, become free.
     fn end_run(&mut self) {
         match self {
             BpfMap::Array(map) => map.end_run(),

@@ -21,8 +21,8 @@ pub struct Elements {
 }
 
 impl Elements {
-    /// The two numbers for a map of this shape. `count` is 0 for a hash map, since only the map finds the element of a key. `stride` is the
-    /// value's size, rounded up to a multiple of eight bytes.
+    /// The elements of a map of this shape. `count` is `max_entries` for an array, and 0 for a hash map, since only a hash map itself finds
+    /// the element of a key. `stride` is the value's size in bytes, rounded up to a multiple of eight.
     #[inline(always)]
     pub fn of(shape: MapShape) -> Elements
         ensures { result ≡ elements_of shape }

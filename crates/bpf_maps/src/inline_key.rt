@@ -61,6 +61,7 @@ impl<const N: usize> PartialEq for InlineKey<N> {
 
     ghost laws = { partial_equiv_from_equiv nat_list_eq_equiv };
 
+    /// Whether both keys have the same bytes. The zeros after the bytes of a key, which fill its array, are not compared.
     fn eq(&self, other: &InlineKey<N>) -> bool {
         self.bytes() == other.bytes()
     }
@@ -93,6 +94,7 @@ impl PartialEq for KeyBytes<'_> {
 
     ghost laws = { on_per (λ k. k.bytes.now) (partial_equiv_from_equiv nat_list_eq_equiv) };
 
+    /// Whether both keys have the same bytes.
     fn eq(&self, other: &KeyBytes<'_>) -> bool {
         self.bytes == other.bytes
     }
@@ -121,6 +123,7 @@ impl<const N: usize> Equivalent<InlineKey<N>> for KeyBytes<'_> {
 
     ghost respects_eq = { λ q x y. nat_list_eq_equiv.congr q.bytes.now x y };
 
+    // Whether the key that is looked up has the bytes of a stored key. So a look-up makes no `InlineKey` of its bytes.
     fn equivalent(&self, key: &InlineKey<N>) -> bool {
         self.bytes == key.bytes()
     }

@@ -5,14 +5,15 @@ ghost use Rattle.bpf_maps.specs.Laws.{SizesFitInParts, CallsAreThoseOfAMap, Writ
 ghost use Rattle.bpf_maps.specs.Laws.{ValuesAgree, ElementsAreWithin, AreasKeepElements, DeletesKeepElements};
 ghost use Rattle.bpf_maps.specs.InPart.{ValuesAreWritten, LiveMapsRefineValues};
 
-/// A table of keys is seen as a map whose objects are its elements (`table_of`). A new table is then a new map as `Table` of `tagged_model`
-/// defines it, and a new key, the deletion of a key and the end of a run change it as `Table` defines these changes of a map.
+/// A law: `table_of` makes of a table of keys a map (`Table` of `tagged_model`) whose objects are elements. The map of a new table is a new
+/// map, and the map changes as `Table` defines for a map if the table gets a new key, loses a key or ends a run.
 pub fn calls_are_those_of_a_map()
     ensures { CallsAreThoseOfAMap }
 {}
 
-/// If bytes become the value of the element that a sound table of keys (`IsSound`) has for a key, then in the map from keys to values they
-/// are the value of this key, and nothing else changes. The argument of `WritesRefineValues` is the type of a value, a list of bytes.
+/// A law: take a sound table of keys (`IsSound`) and the element that the table has for a key. If bytes are written as the value of this
+/// element, then in the map from keys to values the value of this key becomes these bytes, and nothing else changes. The argument of
+/// `WritesRefineValues` is the type of a value, a list of bytes.
 pub fn writes_refine_values()
     ensures { WritesRefineValues (List ℕ) }
 {}
@@ -32,13 +33,13 @@ pub fn areas_keep_elements()
     ensures { AreasKeepElements }
 {}
 
-/// A deletion itself frees no element: the element of the deleted key is kept apart, and only `end_run` frees it, after the run, or at once
-/// after a delete command. So each element is that of a key, or kept apart, as often as before.
+/// A law: a deletion frees no element. The element of the deleted key is kept apart, and only `end_run` frees it, after the run, or at once
+/// after a delete command. So how often an element belongs to a key or is kept apart, both counted together, does not change.
 pub fn deletes_keep_elements()
     ensures { DeletesKeepElements }
 {}
 
-/// A key and a value of a map are at most as long as a part.
+/// For each shape of a map, the size of a key is at most `PART`, and the size of a value is at most `PART`.
 pub fn sizes_fit_in_parts()
     ensures { SizesFitInParts }
 {}
@@ -49,9 +50,9 @@ pub fn values_are_written()
     ensures { ValuesAreWritten }
 {}
 
-/// A law, the refinement of maps. Take a change after which each live map has the shape and the area that it had before. If the table of
-/// keys of a live map is unchanged, loses a key, ends a run, or claims an element whose value is then written, then its map of values is
-/// unchanged, loses that key, ends a run, or gets that value.
+/// A law, the refinement of maps, for a change after which each live map has the shape and the area that it had before. If the table of
+/// keys of a live map is unchanged, its map of values is, too; if the table loses a key or ends a run, so does the map of values; and if
+/// the table claims an element for a key, and the element's value is then written, the map of values gets this value for the key.
 pub fn live_maps_refine_values()
     ensures { LiveMapsRefineValues }
 {

@@ -288,9 +288,9 @@ impl Maps {
         self.stored(map).map.shape()
     }
 
-    /// The offset of a map's first value in the tenant's part, and the map's `Elements` as one number (`Elements::word`): how many elements
-    /// a run finds without reading the map, 0 for a hash map, and the distance in bytes from the start of one value to that of the next.
-    /// `None` if the map is not live.
+    /// The offset of a map's first value in the tenant's part, in bytes, and the map's `Elements` as one number (`Elements::word`). Its low
+    /// 32 bits are how many elements a run finds without reading the map, 0 for a hash map; its high 32 bits are the distance in bytes from
+    /// the start of one value to that of the next. `None` if the map is not live.
     #[inline(always)]
     pub fn first_and_elements(&self, map: MapKey) -> Option<(usize, u64)>
         ensures live { IsSome (live_at self.now map)

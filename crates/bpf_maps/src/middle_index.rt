@@ -95,8 +95,8 @@ impl MiddleIndex {
         self.map.clear();
     }
 
-    /// Removes a key and returns its element; `None`, and nothing changes, if the key is absent. The other keys keep their order. `bound`:
-    /// the number that was given to `new`, which each element is less than, does not change.
+    /// Removes a key and returns its element; `None`, and nothing changes, if the key is absent. The other keys keep their order. The
+    /// number that was given to `new` (`bound`), which is greater than each element, is unchanged.
     pub(crate) fn remove(&mut self, key: &[u8]) -> Option<u32>
         ensures element { result ≡ found key.now self.old.entries }
         ensures left { self.new.entries ≡ without key.now self.old.entries }

@@ -28,7 +28,7 @@ impl Model for SlabKeys {
 }
 
 impl SlabKeys {
-    /// The keys of a slab without maps: no handle has one.
+    /// The slab's keys by handle, if the slab has no map yet: no handle has a key.
     pub(crate) fn new() -> SlabKeys
         ensures { result ≡ replicate most_maps None }
     {
@@ -84,7 +84,7 @@ impl SlabKeys {
     }
 }
 
-/// The slab's key that a word of a `SlabKeys` is; `None` if the word is `NO_KEY`, that is, if its handle has no map.
+/// The key of the slab in `word`, the word of a handle in `SlabKeys`; `None` if `word` is `NO_KEY`, since the handle then has no map.
 #[inline(always)]
 fn key_of(word: usize) -> Option<usize>
     ensures { result ≡ key_in word }

@@ -67,8 +67,8 @@ impl SpareMaps {
         }
     }
 
-    /// Keeps a hash map, if the list has room for it, and else frees it. The list always has room (`SpareMaps`), which is not proved. This
-    /// function is not inlined, so that for an array `keep` neither makes a call nor copies the map's record.
+    /// Keeps a hash map, if the list has room for one more, and else frees it. The list always has room (`SpareMaps`), which is not proved.
+    /// This function is not inlined, so that `keep`, if the map is an array, neither makes a call nor copies the map's struct.
     #[cold]
     #[inline(never)]
     fn keep_hash_map(&mut self, map: HashMap) {
@@ -113,7 +113,7 @@ impl SpareMaps {
         None
     }
 
-    /// The sum of the `max_entries` of the spare maps.
+    /// The sum of the `max_entries` of the spare maps, which `has_room` and `excess` compare with `MOST_ENTRIES_TOGETHER`.
     fn entries(&self) -> usize {
         let mut sum: usize = 0;
         for at in 0..self.maps.len() {
@@ -135,9 +135,9 @@ impl SpareMaps {
         entries.saturating_sub(MOST_ENTRIES_TOGETHER)
     }
 
-    /// Frees spare maps until the spare maps left, the live hash maps and the new one (`live` counts the last two) have room together
-    /// (`has_room`: their number, and the sum of their `max_entries`), or no spare map is left. Each turn of the loop frees at most one
-    /// map, and once a turn frees none, no later turn does.
+    /// Frees spare maps until the spare maps left and the maps that `live` counts have room together (`has_room`), or no spare map is left.
+    /// `live` counts the live hash maps and the new one. Each turn of the loop frees at most one map, and once a turn frees none, no later
+    /// turn does.
     fn make_room(&mut self, live: LiveHashMaps) {
         for _ in 0..self.maps.len() {
             if !self.maps.is_empty() && !self.has_room(live) {

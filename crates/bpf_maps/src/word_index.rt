@@ -111,7 +111,8 @@ impl WordIndex {
         self.map.clear();
     }
 
-    /// Removes a key, which has the index's size, and returns its element; `None` if the key is absent. The other keys keep their order.
+    /// Removes a key, which is as long as the keys of this index, and returns its element; `None` if the key is absent. The other keys keep
+    /// their order.
     pub(crate) fn remove(&mut self, key: &[u8]) -> Option<u32>
         requires { length key.now ≡ self.old.size }
         ensures element { result ≡ found key.now self.old.entries }

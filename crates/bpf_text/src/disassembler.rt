@@ -158,7 +158,7 @@ fn write_jump(
     write!(text, " goto {sign}{slots}")
 }
 
-/// Appends the line of a load. Its address is register `src` and an offset.
+/// Appends the line of a load, without a line feed. The address is register `src` plus an offset.
 #[tactic(auto, unfolding(text_line::specs::Written::printed_insn))]
 fn write_load(text: &mut String, load: &Load) -> Result<(), AllocError>
     ensures { OnOk result (string_bytes text.new ≡ string_bytes text.old
@@ -176,8 +176,9 @@ fn write_load(text: &mut String, load: &Load) -> Result<(), AllocError>
     write!(text, "{dst} = *({size} *)({base} {sign} {offset})")
 }
 
-/// Appends the line of a store, `*(SIZE *)(BASE SIGN OFFSET) = VALUE`. BASE is register `dst`. SIZE is an unsigned type, `u8` to `u64` (not
-/// `signed`). VALUE is a constant, or a register by the name of its 64 bits (`wide`), also if fewer are stored.
+/// Appends the line of a store, `*(SIZE *)(BASE SIGN OFFSET) = VALUE`. SIZE is the unsigned type of `size`, `u8` to `u64`. BASE is the
+/// register `dst`, and SIGN and OFFSET are the sign and the magnitude of `off`. VALUE is `src`: a constant, or a register by the name of
+/// its 64 bits, as `r1`, also if fewer bits are stored.
 #[tactic(auto, unfolding(text_line::specs::Written::printed_insn))]
 fn write_store(
     text: &mut String,

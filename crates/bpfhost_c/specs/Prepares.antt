@@ -76,9 +76,9 @@ abbrev pub install_code : Option Session → Option Accepted → ℤ
 install_code session program =
     if is_none session then ERR_NO_HOST else (if is_none program then ERR_NO_PROGRAM else DONE)
 
--- the handle has a program (not None), and it fits the tenant: each descriptor of its maps names a
--- map of the shape with which it was accepted; nothing is required of a tenant that is not served,
--- which has no state (None)
+-- the handle has a program (not None), and each descriptor of the program's maps names, for the
+-- tenant, a map of the shape with which the program was accepted. A tenant that is not served has
+-- no state (None): then it is enough that the handle has a program
 abbrev pub FitsPrepared : Option Accepted → Option TenantState → Type 0
 FitsPrepared None s = ⊥
 FitsPrepared (Some a) s = FitsTenant a s

@@ -15,7 +15,7 @@ use std::alloc::{AllocError, Global};
 use std::borrow::CowSlice;
 
 /// `words` as contexts of `GIVEN_WORDS` words each, without a copy; `None` if the last one is cut off. A run is given all words of such a
-/// context, so none of them has to be 0 (`known`).
+/// context, so no context has further words, which would have to be 0 (`known`).
 #[tactic(auto, using(crate::proofs::Given::as_given, crate::proofs::Given::all_known))]
 fn as_given(words: &[u32]) -> Option<&[[u32; GIVEN_WORDS]]>
     ensures some { is_some result ≡ nat_eq (length words.now % given_words) 0 }
@@ -30,8 +30,8 @@ fn as_given(words: &[u32]) -> Option<&[[u32; GIVEN_WORDS]]>
     Some(contexts)
 }
 
-/// The words that a run is given of a context: its first `GIVEN_WORDS`, and zeros for those that it does not have. Later words are left
-/// out: `copied_contexts` has found them zero.
+/// The first `GIVEN_WORDS` words of a context, which a run is given; a shorter context is filled up with zeros. Later words are left out:
+/// `copied_contexts` has tested that they are zero.
 fn fit(words: &[u32]) -> [u32; GIVEN_WORDS]
     ensures { result ≡ fitted words.now }
 {
@@ -41,8 +41,9 @@ fn fit(words: &[u32]) -> [u32; GIVEN_WORDS]
     context
 }
 
-/// The first `count` contexts in `words`, each of `size` words, as a run is given them (`fit`). The caller counts only whole contexts, so
-/// `words` has all of them. `AllocError`: out of memory.
+/// Copies of the first `count` contexts in `words`, which has `size` words for each. A copy has `GIVEN_WORDS` words: the first words of the
+/// context, and zeros for those that the context does not have (`fit`). The caller counts only whole contexts, so `words` has all of them.
+/// `AllocError`: out of memory.
 #[tactic(auto, using(crate::proofs::Loops::fitted_more, crate::proofs::Loops::room_step))]
 fn fit_all(
     alloc: Global,
@@ -63,7 +64,8 @@ fn fit_all(
     Ok(contexts)
 }
 
-/// Whether a context has only zeros after its first `GIVEN_WORDS` words, which are those that a run is given.
+/// Whether all words of a context after the first `GIVEN_WORDS`, which are all that a run is given, are 0; true for a context with no more
+/// words.
 fn has_known_words(words: &[u32]) -> bool
     ensures { result ≡ has_known_words words.now }
 {

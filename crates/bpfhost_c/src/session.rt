@@ -185,11 +185,11 @@ impl Session {
         }
     }
 
-    /// How many packets at the front of a batch a `bound` on executed instructions allows: `bound` divided by the weight of a run, but at
-    /// least 1, and at most `packets`; all if `bound` is 0. The weight is the most instructions that a run executes, and more for its calls
-    /// (`Host::allowed_packets`). The batch has `contexts` contexts and `packets` packets, and runs the program at descriptor `fd` of
-    /// `tenant`. The result is `packets` too for a batch that is rejected as a whole: it has neither one context nor one for each packet,
-    /// `fd` names no program, or `tenant` is not served.
+    /// How many packets at the front of a batch a `bound` on executed instructions allows. The batch has `contexts` contexts and `packets`
+    /// packets, for the program at descriptor `fd` of `tenant`. The result is `bound` divided by the weight of a run, but at least 1, and
+    /// at most `packets`; the weight is the most instructions that a run executes, plus a fixed number for each of the most calls that a
+    /// run makes (`Host::allowed_packets`). The result is `packets` if `bound` is 0, or if the batch is rejected as a whole: the batch has
+    /// neither one context nor one for each packet, `fd` names no program, or `tenant` is not served.
     fn allowed_packets(
         &self,
         tenant: usize,

@@ -30,8 +30,9 @@ fn append_characters(bytes: &mut Vec<u8>, text: &str) -> Result<(), AllocError> 
     Ok(())
 }
 
-/// Appends the byte that the two hex digits at the front of `text` name, and the characters after them. In the line, `text` follows a `\x`.
-/// `Notation` if `text` can't be split after two bytes, `Digits` if these are no hex digits.
+/// Appends the byte that the two hex digits at the front of `text` name, and then the characters after the digits, with `;` as a line feed.
+/// In the line, `text` follows a `\x`. `Notation` if `text` can't be split after two bytes, `Digits` if these are no hex digits, `Memory`
+/// if out of memory.
 fn append_escaped(bytes: &mut Vec<u8>, text: &str) -> Result<(), CaseError> {
     let (digits, rest) = text.split_at_checked(2).ok_or(CaseError::Notation)?;
     let byte = <[u8; 1] as FromHex>::from_hex(digits)?;
@@ -127,8 +128,9 @@ pub fn bytes_of(alloc: Global, text: &str) -> Result<Vec<u8>, CaseError> {
     Ok(bytes)
 }
 
-/// The bytes of a map's key or value, from hex digits in the notation of cases, which blanks may separate. `Size` if there are not `size`
-/// bytes; `Digits` if a character is no hex digit or the number of digits is odd. `Notation`, `NoText`, `Memory`: those of `bytes_of`.
+/// The bytes of a map's key or value, from hex digits in the notation of cases. Blanks may separate the digits. The errors are those of
+/// `bytes_of`, for example `Digits` if a character is no hex digit or the number of digits is odd, then `Size` if there are not `size`
+/// bytes.
 pub fn bytes_of_size(alloc: Global, text: &str, size: u32) -> Result<Vec<u8>, CaseError>
     ensures { IfOk result (λ bytes. length bytes.items ≡ size) }
 {

@@ -28,7 +28,8 @@ fn words_text(alloc: Global, words: [u32; GIVEN_WORDS]) -> Result<String, AllocE
     Ok(text)
 }
 
-/// The text of a command whose fields are a number (a descriptor, or the program type of a load) and bytes.
+/// The text of a command whose fields are a number (`fd`: a descriptor, or the program type of a load) and bytes: the command's name, the
+/// number, and the bytes (`shown`) in brackets.
 fn fd_and_bytes(alloc: Global, name: &str, fd: u32, bytes: &[u8]) -> Result<String, AllocError> {
     let bytes = shown(alloc, bytes)?;
     format!(in alloc; "{name} {fd} [{bytes}]")

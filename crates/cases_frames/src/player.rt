@@ -111,7 +111,8 @@ impl HostPlayer {
         })
     }
 
-    /// The reply to a frame, as hex digits.
+    /// Lets the host handle a frame, and returns the reply as hex digits, in groups of `GROUP` bytes. `AllocError`: out of memory for the
+    /// reply's buffer or for the digits.
     fn reply(&mut self, frame: &[u8]) -> Result<String, AllocError> {
         let mut reply = ReplyBuf::new(self.alloc)?;
         self.host.handle(frame, &mut reply);
@@ -184,8 +185,8 @@ impl HostPlayer {
         Ok(self.load_slots(tenant, &slots)?)
     }
 
-    /// The reply to a load, for the words of a line: a tenant, and the bytes of the slots in hex digits (`bytes_of`). `Number` if the
-    /// tenant is no number of 16 bits, and the errors of `bytes_of`.
+    /// The reply to PROG_LOAD, as hex digits. `rest` has a tenant, and the bytes of the program's slots in hex digits. `Number` if the
+    /// tenant is no number of 16 bits, else the errors of `bytes_of` for the slots; `Memory` if out of memory.
     fn load_digits(&mut self, rest: &str) -> Result<String, CaseError> {
         let (tenant, digits) = first_word(rest);
         let tenant = tenant.parse()?;
@@ -274,9 +275,8 @@ impl HostPlayer {
         Ok(String::new(self.alloc))
     }
 
-    /// Sets the context words of the runs that follow to the bytes of the hex digits, which blanks may separate. `Digits` if another
-    /// character is no hex digit or the number of digits is odd, `NoText` if they are not UTF-8, and the errors of `written`. Returns the
-    /// empty text, so nothing is written below the line.
+    /// Sets the context words of the runs that follow, as bytes. `digits` has these bytes as hex digits in the notation of cases. The
+    /// errors are those of `bytes_of`, which reads the digits. Returns the empty text, since this line has no output.
     fn set_words(&mut self, digits: &str) -> Result<String, CaseError> {
         self.words = bytes_of(self.alloc, digits)?;
         Ok(String::new(self.alloc))

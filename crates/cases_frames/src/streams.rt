@@ -76,9 +76,9 @@ pub fn cut(alloc: Global, line: &str) -> Result<String, CaseError> {
     served(alloc, &mut host, limit, &input)
 }
 
-/// Reads the bytes of hex `digits` by one call of a reader, into a buffer of `ROOM` bytes, and writes the bytes read by one call of a
-/// writer. Returns the text of how many bytes the writer took, how many the reader gave, and the writer's bytes in hex digits; or of which
-/// call failed. The errors are those of `bytes_of`.
+/// A case of `Counted`, as a reader and as a writer: reads the bytes of hex `digits` by one call, into a buffer of `ROOM` bytes, and writes
+/// the bytes read by one call. Returns the text of how many bytes the writer took, how many the reader gave, and the writer's bytes in hex
+/// digits; or of which call failed. The errors are those of `bytes_of`.
 pub fn relay(alloc: Global, digits: &str) -> Result<String, CaseError> {
     let input = bytes_of(alloc, digits)?;
     let mut reader = Counted::new(input.as_slice());

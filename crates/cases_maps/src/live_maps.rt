@@ -94,9 +94,9 @@ impl LiveMapsPlayer {
         Ok(self.handles.len() - 1)
     }
 
-    /// Makes a new map, for the words of a line: its shape, and the number of references that are added to its first one. Returns the map's
-    /// number and the offset of its first value in the part, or the name of the fault of the creation, as text. `Map` if the first word
-    /// means no shape, `Number` if the second is no number of 8 bits.
+    /// Makes a new map, for the words of a line: the shape, and how many references are added to the one that a new map has. Returns the
+    /// map's number in the lines and the offset of its first value in the part, or the name of the fault of the creation, as text. `Map` if
+    /// the first word means no shape, `Number` if the second is no number of 8 bits.
     fn create(&mut self, rest: &str) -> Result<String, CaseError> {
         let (shape, holds) = first_word(rest);
         let shape = shape_of(self.alloc, shape)?;

@@ -26,8 +26,9 @@ impl MapPlayer {
 }
 
 impl Player for MapPlayer {
-    /// The first word is what the line's call is on: `map` is one map, `maps` the live maps of a tenant, `memory` a memory. The second word
-    /// is the call, the rest its arguments. `UnknownWord` if the first word is none of these.
+    /// Plays a line by its first word, which names the object of the call: `map` one map, `maps` the live maps of a tenant, `memory` a
+    /// memory. The second word is the call, the rest its arguments. Returns the call's outcome or its error; `UnknownWord` for any other
+    /// first word.
     fn play(&mut self, line: &str) -> Result<String, CaseError> {
         let (word, rest) = first_word(line);
         let (call, rest) = first_word(rest);

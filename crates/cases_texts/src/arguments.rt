@@ -4,10 +4,10 @@ use cases::{CaseError, input_of, outcome, text_of, written};
 use host::{HashSeed, read_shape, run_words};
 use std::alloc::Global;
 
-/// A line `program`: the text of how `run_words` of `host` ends (`outcome`) on the arguments before the first `<` of `case` and the input
-/// after it, in the notation of cases (`written`). The seed of the hash maps is fixed. `Notation` if there is no `<`, or the input breaks
-/// the notation; `Digits` if two bytes after a `\x` of the input are no hex digits; `NoText` if what `run_words` writes is not UTF-8;
-/// `Memory` if out of memory.
+/// Plays a line `program`: calls `run_words` of `host` with the words before the first `<` of `case` as arguments, and the text after it,
+/// in the notation of cases (`written`), as input. Returns how the call ended, as text (`outcome`). The seed of the hash maps is fixed.
+/// `Notation` if there is no `<`, or the input breaks the notation; `Digits` if two bytes after a `\x` of the input are no hex digits;
+/// `NoText` if what `run_words` writes is not UTF-8; `Memory` if out of memory.
 pub fn program_ended(alloc: Global, case: &str) -> Result<String, CaseError> {
     let (arguments, text) = input_of(case)?;
     let arguments: Vec<&str> = arguments.split_whitespace().collect(alloc)?;

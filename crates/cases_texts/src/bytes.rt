@@ -102,7 +102,8 @@ fn is_known(opcode: u8) -> bool {
     }
 }
 
-/// `opcodes`: how many opcodes are the first byte of an instruction, as text. The error is out of memory.
+/// The outcome of the line `opcodes`: how many of the 256 values of a byte are the opcode of an instruction (`is_known`), as text. The
+/// error is out of memory.
 pub fn known_opcodes(alloc: Global) -> Result<String, CaseError> {
     let known = (0u8..=255).filter(|opcode| is_known(*opcode)).count();
     let answer = format!(in alloc; "{known} opcodes")?;

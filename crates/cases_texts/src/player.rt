@@ -20,9 +20,10 @@ impl TextPlayer {
 }
 
 impl Player for TextPlayer {
-    /// The first word of the line selects the function that makes the line's outcome from the text after this word: `codec` to `opcodes`
-    /// those of `bytes.rt`, `asm` to `hex` those of `texts.rt`, `program` and `map` those of `arguments.rt`. `opcodes` does not read that
-    /// text. `UnknownWord` for any other word; the other errors are those of the function.
+    /// The first word of the line selects the function that makes the line's outcome from the text after this word. In the order of the
+    /// arms, the functions from `codec` to `opcodes` are in `bytes.rt`, those from `asm` to `hex` in `texts.rt`, and those for `program`
+    /// and `map` in `arguments.rt`. `opcodes` does not read that text. `UnknownWord` for any other word; the other errors are those of the
+    /// function.
     fn play(&mut self, line: &str) -> Result<String, CaseError> {
         let (word, rest) = first_word(line);
         match word {

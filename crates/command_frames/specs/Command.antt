@@ -44,8 +44,8 @@ context_length = given_words * word_length
 abbrev pub before_packet : ℕ
 before_packet = word_length + context_length
 
--- the length of what is after the numbers of a command: of a key, of a key and a value (`bytes` of
--- an update), of slots, or of a packet; 0 for a command that has only numbers
+-- the length in bytes of a command's last field, if the field may have different lengths: a key, a
+-- key and a value (`bytes` of an update), slots, or a packet; 0 for a command that has only numbers
 abbrev pub tail_length : Command → ℕ
 tail_length (map_create kind key value max flags) = 0
 tail_length (map_lookup fd key) = length key
@@ -72,8 +72,8 @@ word_at at body = little_number 4 (drop at body)
 abbrev pub long_at : ℕ → List ℕ → ℕ
 long_at at body = little_number 8 (drop at body)
 
--- the little-endian numbers of the first n words of these bytes, four bytes each; the body of a
--- test run has all of them (`before_packet`)
+-- the first n words of these bytes, each the little-endian number of four bytes; a body that does
+-- not have the words of a test run makes no command (`at_least`)
 unfoldable pub words : ℕ → List ℕ → List ℕ
 words zero bytes = []
 words (suc n) bytes = little_number 4 bytes ∷ words n (drop 4 bytes)

@@ -61,10 +61,11 @@ fn fit_packets(contexts: usize, packets: usize) -> bool
     contexts == 1 || contexts == packets
 }
 
-/// A quick test of all packets at once: if `true`, packets with these ends are in order, in `many` bytes, and shorter than
-/// `LONGEST_PACKET`; if `false`, they may still be accepted, after a test of each. `lengths` has the bits of all lengths, `reach` those of
-/// all ends. `LONGEST_PACKET` is a power of two, so all lengths are below it exactly if `lengths` is. If no end has the highest bit, each
-/// negative length has it.
+/// A quick test of all packets at once. If `true`, packets with these ends are in order, in `many` bytes, and shorter than
+/// `LONGEST_PACKET`. If `false`, they may still be accepted, after a test of each (`first_fault`). `lengths` has every bit that is set in a
+/// length, `reach` every bit that is set in an end. `LONGEST_PACKET` is a power of two, so all lengths are below it exactly if `lengths`
+/// is. If no end has the highest bit, the wrapped length of a packet that ends before its start has this bit, and makes `lengths` too
+/// great.
 #[inline(always)]
 fn are_plain(many: usize, ends: &[usize]) -> bool
     ensures { result ≡ true → packets_fault many 0 ends.now ≡ None }
@@ -115,8 +116,8 @@ fn fault_of(many: usize, ends: &[usize]) -> Option<PacketFault>
 }
 
 impl<'a> Packets<'a> {
-    /// The packets in `bytes`: for each, `ends` has how many of the bytes are before its end. The first begins at 0, each other at the end
-    /// of the one before it. `contexts` has one array of context words for all packets, or one for each.
+    /// The packets in `bytes`, one after another from byte 0 on: the packet of index i ends before byte `ends[i]`, at which the next one
+    /// begins. `contexts` has one array of context words for all packets, or one for each.
     ///
     /// # Errors
     ///

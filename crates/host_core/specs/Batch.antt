@@ -19,17 +19,17 @@ RunsFor fd None inputs room written after = ⊥
 RunsFor fd (Some s) inputs room written after =
     (last : TenantState) × RunsBatch fd s inputs room written last × (after ≡ Some last)
 
--- why a batch of the program at descriptor fd is rejected: its tenant is not served (None), or the
--- tenant's own error; None if the batch is run. The batch has `contexts` contexts, packets that end
--- at `ends` in `many` bytes, and room for `room` results
+-- why a batch of the program at descriptor fd is rejected: NotPermitted if the tenant is not served
+-- and so has no state, else the error of `batch_refusal`; None if the batch is run. The batch has
+-- `contexts` contexts, packets that end at `ends` in `many` bytes, and room for `room` results
 abbrev pub refusal_for : Option TenantState → ℕ → ℕ → ℕ → List ℕ → ℕ → Option Errno
 refusal_for None fd contexts many ends room = Some NotPermitted
 refusal_for (Some s) fd contexts many ends room =
     batch_refusal (named s.objects fd) contexts many ends room
 
--- a batch of the program at descriptor fd has `packets` packets, and a bound on executed
--- instructions allows n of them: all for a tenant that is not served (None), since its batch is
--- rejected as a whole
+-- n is the number of packets that a bound allows, out of the `packets` packets of a batch of the
+-- program at descriptor fd (`IsAllowed`). All are allowed for a tenant that is not served (None),
+-- since its batch is rejected as a whole
 abbrev pub IsAllowedFor : Option TenantState → ℕ → ℕ → ℕ → ℕ → Type 0
 IsAllowedFor None fd bound packets n = n ≡ packets
 IsAllowedFor (Some s) fd bound packets n = IsAllowed (named s.objects fd) bound packets n

@@ -16,7 +16,8 @@ use Rattle.tenant.specs.Alone.{frames_of, replies_of, IsFault, IsServedAlone}
 
 -- ---- the replies to the tenants
 
--- no memory was ever refused to the tenant; true of one that is not served (None), which takes none
+-- no memory was ever refused to the tenant; true of a tenant that is not served (None), which takes
+-- no memory
 abbrev pub IsUnrefused : Option TenantState → Type 0
 IsUnrefused None = Unit {0}
 IsUnrefused (Some s) = s.refused ≡ false

@@ -18,9 +18,9 @@ use command_frames::ReplyBuf;
 use seeded_hash::HashSeed;
 use std::alloc::Global;
 
-/// If a new host serves a stream to its end, each tenant to which no memory was refused gets exactly the replies that the machine
-/// of a new tenant gives to its frames. Returns the number of replies; `None` at a fault, of which nothing is promised here. In the
-/// contract, `[]` are the bytes that were read after the last whole frame: none.
+/// If a new host serves a stream to its end, each tenant to which no memory was refused gets exactly the replies that the machine of a new
+/// tenant gives to its frames. Returns the number of replies; `None` at a fault, for which the contract promises nothing. In the contract,
+/// `[]` is the list of the bytes after the last whole frame: there are none. The seed and the limit of 100 frames are arbitrary.
 fn serve_from_the_beginning<R: Source, W: Sink>(
     alloc: Global,
     tenants: usize,

@@ -57,10 +57,11 @@ impl Host {
         }
     }
 
-    /// How many of the `packets` of a batch a bound allows. A run of the program at the descriptor `fd` of `tenant` has a weight: the most
-    /// instructions that it executes, plus `CALL_WEIGHT` (of the crate `tenant`) times the most calls of helpers that it makes. The result
-    /// is `bound` divided by the weight, but at least 1, and at most `packets`. It is `packets` if `bound` is 0; also if the tenant is not
-    /// served or the descriptor names no program, since such a batch is rejected as a whole.
+    /// How many of the `packets` of a batch may run within `bound`, a number of instructions. A run of the program at the descriptor `fd`
+    /// of `tenant` counts for the most instructions that it executes, and `CALL_WEIGHT` (of the crate `tenant`) more for each of the most
+    /// calls of helpers that it makes. The result is `bound` divided by this count and rounded down, but at least 1, and at most `packets`.
+    /// It is `packets` if `bound` is 0; also if the tenant is not served or the descriptor names no program, since such a batch is rejected
+    /// as a whole.
     #[tactic(auto, using(crate::proofs::Allowed::no_bound_allows_all))]
     pub fn allowed_packets(&self, tenant: usize, fd: u32, bound: u64, packets: usize) -> usize
         ensures allowed { IsAllowedFor (slice_get self.now.states tenant) fd bound packets result }

@@ -66,8 +66,8 @@ pub fn no_content_ends_a_stream()
     command_frames::laws::frames_in_front();
 }
 
-/// A law: the runs of a batch are the calls of `Host::handle` on the test-run frames of its packets, one after another. So what follows for
-/// the tenants over a sequence of calls also follows if some of them are batches.
+/// A law: a batch has the effect of the calls of `Host::handle` on the test-run frames of its packets, one after another, and the replies
+/// to these frames have the results of the batch. So what is proved of a sequence of calls also holds if there are batches among the calls.
 pub fn batch_is_its_calls()
     ensures { BatchIsItsCalls }
 {}

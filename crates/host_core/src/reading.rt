@@ -182,9 +182,10 @@ fn read_body<S: Source>(
     }
 }
 
-/// Reads a length and then a frame to the front of `buffer`, and returns the frame's length. If the frame is longer than the buffer, only
-/// its head, four bytes, is kept; later bytes of the buffer may be any. The result is then the buffer's length, too long for a valid frame.
-/// `None` if the input ends before a frame. `Truncated` if it ends inside one, `Read` if a call of the reader failed.
+/// Reads a length and then a frame of this length, and returns how many bytes at the front of `buffer` are handled as the frame. These are
+/// the frame's bytes, if they fit. Of a longer frame only the head, four bytes, is kept; then the result is the buffer's length, too long
+/// for a valid frame, and the bytes after the head may be any. `None` if the input ends before a frame. `Truncated` if it ends inside one,
+/// `Read` if a call of the reader failed.
 pub(crate) fn read_frame<S: Source>(
     reader: &mut S,
     buffer: &mut [u8],

@@ -68,8 +68,8 @@ impl Buffers {
 
 /// Reads a frame, handles it, and writes and flushes its reply: true. False if the input ends before a frame. `Truncated` if it ends inside
 /// one, `Read` or `Write` if a call of the reader or the writer failed. A frame that is longer than the buffer is too long for any command,
-/// so its reply depends only on its head, the tenant and the command number. A frame of the buffer's length with this head, which is too
-/// long as well, is handled instead.
+/// so its reply depends only on its head, the tenant and the command number. Instead the whole buffer is handled, which begins with
+/// this head and is too long for any command as well.
 fn serve_frame<R: Source, W: Sink>(
     host: &mut Host,
     reader: &mut R,

@@ -103,7 +103,8 @@ impl<R: Read> Source for Counted<R> {
 
     ghost failures = { λ c. c.failures };
 
-    /// Reads from the reader of std, and counts the call if it fails.
+    /// Reads bytes from the wrapped reader of std into the front of `buffer`, and returns the outcome: how many, or an error. An error adds
+    /// 1 to `failures`.
     fn read(&mut self, buffer: &mut [u8]) -> io::Result<usize> {
         let outcome = self.inner.read(buffer);
         if outcome.is_err() {

@@ -290,9 +290,9 @@ fn read_exit(entry: &mut Insn, slot: &RawSlot) -> Result<Option<RawSlot>, FaultK
 }
 
 /// Reads an unconditional jump (code 0, the upper four bits of the opcode), a call (code 8) or the exit (code 9) into `entry`. None of them
-/// has a second slot, so the result is `None`. `wide` is true of class JMP, which has all three, false of JMP32, which has only the jump.
-/// The slot's code is that of no condition (precondition `code`), so no instruction has another opcode, nor one with the source bit 1: then
-/// the fault is `Opcode`. Else the fault is `Reserved` if a field that the instruction does not use is not 0.
+/// has a second slot, so the result is `None`. Class JMP (`wide`) has all three, JMP32 (not `wide`) only the jump. The fault is `Opcode`
+/// for another code, and for the source bit 1: no conditional jump has the slot's code (precondition `code`). Else the fault is `Reserved`
+/// if a field that the instruction does not use is not 0.
 fn read_unconditional(
     wide: bool,
     entry: &mut Insn,
@@ -341,8 +341,8 @@ pub(crate) fn read_jump(
     }
 }
 
-/// Reads a load, of class LDX, into `entry` (RFC 9669, sections 5.1 and 5.2); it has no second slot (`None`). An opcode that the table of
-/// loads does not have is no instruction's, so the fault is `Opcode`. The other faults are those of `check_fields`: `Reserved`, `Register`.
+/// Reads a load, of class LDX, into `entry` (RFC 9669, sections 5.1 and 5.2). The result is `None`, since a load has no second slot. The
+/// fault is `Opcode` if no load has the opcode, else that of `check_fields`: `Reserved` or `Register`.
 #[inline(always)]
 pub(crate) fn read_load(entry: &mut Insn, slot: &RawSlot) -> Result<Option<RawSlot>, FaultKind>
     ensures value { OnOk result (IsInsn entry.new) }

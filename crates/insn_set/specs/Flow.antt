@@ -10,7 +10,7 @@ use Rattle.insn_set.specs.declared.profile.Reference.TheVariants as names
 use Rattle.insn_set.specs.Profile.{profile}
 use Rattle.insn_set.specs.Spelling.{slots}
 
--- an integer as a slot; None below 0
+-- an integer as the number of a slot; None if the integer is negative
 abbrev pub natural : ℤ → Option ℕ
 natural (pos n) = Some n
 natural (negsuc n) = None
@@ -78,8 +78,8 @@ jump_target i at = target_by (profile i).successors at
 abbrev pub written_register : Insn → Option ℕ
 written_register i = (profile i).written
 
--- the descriptor of the map that a reference names, or in whose first value it names a byte; None
--- if it names a helper or nothing
+-- the descriptor in a reference to a map, or to a byte of a map's first value; None in a reference
+-- to a helper or to nothing
 abbrev pub descriptor_by : Reference → Option ℕ
 descriptor_by names.Nothing = None
 descriptor_by (names.Helper id) = None

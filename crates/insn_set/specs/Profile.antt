@@ -55,18 +55,18 @@ stored_register (loads size signed dst) = None
 stored_register (stores size src) = register_of src
 stored_register (changes size op src) = Some src
 
--- the register into which an access loads; None if it is no load, also for an atomic operation, as
--- those that fetch are no instructions here
+-- the register into which an access loads; None for a store and for an atomic operation. Atomic
+-- operations that fetch, and so would load into a register, are no instructions here
 abbrev pub loaded_register : Access → Option ℕ
 loaded_register (loads size signed dst) = Some dst
 loaded_register (stores size src) = None
 loaded_register (changes size op src) = None
 
--- the row of an instruction, by what it does (`view`): the registers of its first and its second
+-- the row of an instruction, by its group (`View`): the registers of its first and its second
 -- operand, the register that it writes, its successors, what it names, the number of its slots. An
 -- exit reads register 0, the result; the row of a call has neither the arguments that it reads nor
--- the registers that it changes. An atomic operation writes no register: those that fetch are no
--- instructions here
+-- the registers that it changes. An atomic operation writes no register: an `Insn` has no atomic
+-- operation that fetches the old value
 abbrev pub profile_of : View → Profile
 profile_of (binary wide op dst src) =
     row (first_operand op dst) (register_of src) (Some dst) to.Next names.Nothing 1

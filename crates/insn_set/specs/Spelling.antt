@@ -36,12 +36,12 @@ imm_field (Reg r) = 0
 -- ---- the grammar: one case for each form, section 4 (arithmetic, jumps) and section 5 (loads,
 -- stores, atomic operations)
 
--- an instruction's first slot: opcode (`opcode` of a code, the source bit and a class, or
--- `memory_opcode` of a mode, a size and a class), destination, source, offset and immediate, each 0
--- if not used. Codes: 11 is a move, 8 a negation or (class 5) a call, 9 the exit; modes: 3 MEM, 6
--- ATOMIC. A sign extension has its number of bits in the offset, a byte-order conversion in the
--- immediate. In a wide load (0x18) the source field is 0 for a number, 1 for a map, and 2 for a
--- value
+-- an instruction's first slot: opcode, destination, source, offset and immediate; a field that is
+-- not used is 0. `opcode` makes an opcode of a code, a source bit and a class: code 11 is a move, 8
+-- a negation or, in class 5, a call, and 9 the exit. `memory_opcode` makes one of a mode, a size
+-- and a class: mode 3 is MEM, 6 ATOMIC. A sign extension has its number of bits in the offset, a
+-- byte-order conversion in the immediate. In a wide load (0x18) the source field is 0 for a number,
+-- 1 for a map, and 2 for the address of a byte in a map's first value
 abbrev pub first : Insn → SlotFields
 first (Alu wide op dst src) =
     slot (opcode (alu_number op) (source_bit src) (alu_class wide)) dst (src_field src)

@@ -32,7 +32,7 @@ fn slots_of_instructions() {
     prove!(!has_exit_two);
 }
 
-/// `MAX_SLOTS` of the code is `most_slots` of the definitions.
+/// The limit of the code on the slots of a program, `MAX_SLOTS`, is that of the definitions, `most_slots`. Only proved, never called.
 fn slots_of_the_longest_program() -> usize
     ensures { result ≡ most_slots }
 {

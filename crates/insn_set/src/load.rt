@@ -30,7 +30,8 @@ pub fn load_by_opcode(opcode: u8) -> Option<(bool, AccessSize)>
     by_number(&LOADS, u32::from(opcode))
 }
 
-/// The load that has this name of a size in a line of text: whether it extends the sign, and its size. `None` if no load has the name.
+/// The load for whose size a line of text has this name (`u8` to `u64`, `s8` to `s32`): whether the load extends the sign, and its access
+/// size. `None` if no load has the name.
 pub fn size_by_name(name: &str) -> Option<(bool, AccessSize)>
     ensures value { result ≡ size_by_name name.now }
     ensures inverse { IfSome result (λ l. size_name l.0 l.1 ≡ name.now) }

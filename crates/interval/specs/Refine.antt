@@ -13,8 +13,8 @@ use Rattle.interval.specs.Ranges.{span, is_constant, IsMember}
 abbrev pub RangePair : Type 0
 RangePair = Range × Range
 
--- the ranges of an edge in the other order, since a below b is refined as b above a; None if the
--- edge can't be taken
+-- the ranges of the two operands on an edge, exchanged, since a comparison `a below b` is refined
+-- as `b above a`; None if the edge can't be taken
 abbrev pub swapped : Option RangePair → Option RangePair
 swapped None = None
 swapped (Some p) = Some (p.1, p.0)

@@ -26,9 +26,9 @@ pub fn alu64(op: Operator, a: Range, b: Range) -> Range
     }
 }
 
-/// The range of the results of an operator of two operands on 64 bits, for first operands in `a` and second ones in `b`: one number if the
-/// range of each operand that `op` reads has only one number, else that of `alu_range`. Most operators have two operands. `alu64` finds
-/// them by one test, and gives those of one operand to `any64`.
+/// The range of the results of `op`, an operator of two operands or a move, on 64 bits, for first operands in `a` and second ones in `b`:
+/// one number if the range of each operand that `op` reads has only one number, else that of `alu_range`. `alu64` calls this function for
+/// most operators, after one test; those of one operand it gives to `any64`.
 fn binary64(op: AluOp, a: Range, b: Range) -> Range
     ensures exact { result ≡ range_of 64 (Binary op) a b }
     ensures sound { (x y : ℕ) → IsMember x a → IsMember y b
@@ -41,8 +41,9 @@ fn binary64(op: AluOp, a: Range, b: Range) -> Range
     }
 }
 
-/// The range of the results of any operator on 64 bits: one number if each operand that `op` reads is one, else that of `general_range`.
-/// `alu64` calls it for operators of one operand, which have no case in `binary64`.
+/// The range of the results of `op` on 64 bits: a single number if the range of each operand that `op` reads is a single number, else the
+/// range that `general_range` gives. The function is right for each operator, but `alu64` calls it only for the operators of one operand;
+/// those of two operands go to `binary64`.
 fn any64(op: Operator, a: Range, b: Range) -> Range
     ensures exact { result ≡ range_of 64 op a b }
     ensures sound { (x y : ℕ) → IsMember x a → IsMember y b → IsMember (operate 64 op x y) result }

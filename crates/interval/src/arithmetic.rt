@@ -24,8 +24,9 @@ pub(crate) fn sum(wide: bool, a: Range, b: Range) -> Range
     }
 }
 
-/// The range of the differences of members, numbers of 64 bits (`wide`) or 32, modulo 2^64 or 2^32: exact if none wraps or all do, else all
-/// numbers. If all wrap, 2^64 or 2^32 is added as the greatest number and 1, so nothing overflows.
+/// The range of the differences, modulo 2^64 (`wide`) or 2^32, of a member of `a` minus a member of `b`: exact if no difference wraps or
+/// all do, else all numbers of 64 or 32 bits. If all wrap, 2^64 or 2^32 is added in two steps, the greatest number first and 1 last, so
+/// that no sum overflows.
 pub(crate) fn difference(wide: bool, a: Range, b: Range) -> Range
     requires first { a.hi < 2 ^ width wide }
     requires second { b.hi < 2 ^ width wide }
@@ -54,8 +55,8 @@ pub(crate) fn product(wide: bool, a: Range, b: Range) -> Range
     }
 }
 
-/// The range of the unsigned quotients of members. If the divisor may be 0, it is from 0 to the greatest dividend, since a quotient by 0 is
-/// 0 and no quotient is above its dividend.
+/// The range of the unsigned quotients of a member of `a` by a member of `b`. If the divisor, in `b`, may be 0, the range is from 0 to the
+/// greatest dividend, since a quotient by 0 is 0 and no quotient is above its dividend.
 pub(crate) fn quotient(a: Range, b: Range) -> Range
     ensures { result ≡ quotient_range a b }
 {

@@ -28,9 +28,9 @@ pub(crate) fn exclusive_or(a: Range, b: Range) -> Range
     Range::new(0, most_with_digits(a, b))
 }
 
-/// The greatest number with as many binary digits as the greater of the two high ends. So no OR or XOR of a member of `a` and one of `b` is
-/// above it. The number 0 has a case of its own, as a shift by 64 bits is not defined. `or` needs `first` and `second`: the low end of its
-/// range, `a.lo` or `b.lo`, may not be above this number, the high end.
+/// The greatest number with as many binary digits as the greater of `a.hi` and `b.hi`. So no OR or XOR of a member of `a` and one of `b` is
+/// above the result. The number 0 has a case of its own, as a shift by 64 bits is not defined. `or` needs `first` and `second`: by them the
+/// result, the high end of its range, is not below the low end, `a.lo` or `b.lo`.
 fn most_with_digits(a: Range, b: Range) -> u64
     ensures value { result ≡ most_with_digits a b }
     ensures first { a.hi ≤ result }

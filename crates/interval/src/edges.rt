@@ -98,8 +98,8 @@ fn except(r: Range, value: u64) -> Option<Range>
     }
 }
 
-/// The edge on which the first operand is above the second: the first is above the least member of `b`, the second below the greatest of
-/// `a`. `None` if no member of `a` is above one of `b`.
+/// The ranges of the operands on the edge on which the first, of range `a`, is above the second, of range `b`: the first is also above the
+/// least member of `b`, the second below the greatest of `a`. `None` if no member of `a` is above one of `b`.
 fn if_above(a: Range, b: Range) -> Edge
     ensures { result ≡ if_above a b }
 {

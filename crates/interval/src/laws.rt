@@ -10,15 +10,15 @@ pub fn results_are_members()
     ensures narrow { ResultsAreMembers 32 }
 {}
 
-/// A law, so that ranges in facts have only words of 64 bits, below 2^64, as members: for two such ranges the table of ranges (`range_of`)
-/// gives such a range, for operators on 64 bits (`wide`) and on 32 (`narrow`).
+/// A law: if all members of two ranges are below 2^64, so are all members of the range that the table of ranges (`range_of`) gives for the
+/// two, for operators on 64 bits (`wide`) and on 32 (`narrow`). So ranges in facts have only words of 64 bits as members.
 pub fn results_are_words()
     ensures wide { ResultsAreWords 64 }
     ensures narrow { ResultsAreWords 32 }
 {}
 
-/// A law, for the soundness of a transfer function: if a member of each of two ranges of words takes an edge of a comparison, on 64 bits
-/// (`wide`) or 32 (`narrow`), each is a member of its range as refined on that edge.
+/// A law, for the soundness of a transfer function: if a member of a range of words is compared with a member of another such range, on 64
+/// bits (`wide`) or 32 (`narrow`), each of the two numbers is a member of its range as refined on the edge that the comparison takes.
 pub fn edges_keep_members()
     ensures wide { EdgesKeepMembers 64 }
     ensures narrow { EdgesKeepMembers 32 }

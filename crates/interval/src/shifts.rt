@@ -16,9 +16,9 @@ fn bits_shifted(wide: bool, by: u64) -> u64
     if wide { by % 64 } else { by % 32 }
 }
 
-/// The range of the members of `a`, numbers of 64 bits (`wide`) or 32, shifted left by `bits` bits; all numbers of that width if the
-/// shifted greatest member does not fit that width. `shift_left` gives `bits` below the width, by `bits_shifted`; the contract only
-/// requires it below 64, the bound of a Rust shift of 64 bits.
+/// The range of the members of `a`, numbers of 64 bits (`wide`) or 32, shifted left by `bits`. If the greatest member, shifted, does not
+/// fit in that width, the range has all numbers of the width. `bits` is less than the width in `shift_left`; the contract requires only
+/// less than 64, so that no shift of 64 bits overflows.
 fn scaled(wide: bool, a: Range, bits: u64) -> Range
     requires first { a.hi < 2 ^ width wide }
     requires bound { bits < 64 }

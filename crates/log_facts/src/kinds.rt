@@ -31,7 +31,7 @@ pub fn write_range(text: &mut String, range: Range) -> Result<(), AllocError> {
     }
 }
 
-/// Writes an offset in bytes from what has this name, as `stack - 8`; an offset of 0 as the name only. The error is out of memory.
+/// Writes `name` and an offset in bytes from what it names, as `stack - 8`; only `name` if the offset is 0. The error is out of memory.
 fn write_offset_from(text: &mut String, name: &str, offset: i32) -> Result<(), AllocError> {
     let distance = offset.unsigned_abs();
     if offset == 0 {

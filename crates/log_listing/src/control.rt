@@ -46,8 +46,8 @@ fn ends_block(insn: &Insn) -> bool {
     insn.profile().successors != Successors::Next
 }
 
-/// Sets the flag of a slot, that a basic block begins there. Does nothing if the slot is past the end of the program: the one after the
-/// last instruction, or the target of a jump that leads there.
+/// Records in `flags`, which has a flag for each slot of a program, that a basic block begins at `slot`. Does nothing if `slot` is past the
+/// end of the program: the one after the last instruction, or the target of a jump that leads there.
 fn mark(flags: &mut [bool], slot: usize) {
     if let Some(flag) = flags.get_mut(slot) {
         *flag = true;

@@ -28,8 +28,8 @@ enum Edge<'a> {
     Dead,
 }
 
-/// What is known of an edge: `seen` is the text of what is new on it, `None` if the pass found no run that takes it, or if there was no
-/// pass (`has_pass` of `input`).
+/// What is known of an edge: with a text of what is new on the edge (`seen`), that a run may take it (`Taken`). Without a text: that no run
+/// takes it (`Dead`) or, if there was no pass (`has_pass` of `input`), nothing (`Unknown`).
 fn edge_of<'a>(input: &ListingInput<'_>, seen: Option<&'a String>) -> Edge<'a> {
     match seen {
         Some(text) => Edge::Taken(text.as_str()),
@@ -203,9 +203,9 @@ impl<'a> Graph<'a> {
         self.write_fault(text, slot)
     }
 
-    /// Writes the instruction at a slot; before it the beginning of a block, if one begins there, and after it the end and the edges of the
-    /// block, if the block ends there. If an instruction of the block is rejected, `write_edges` gets no step: it writes the edges as edges
-    /// that no run takes, or without a pass as edges of which nothing is known.
+    /// Writes the instruction `insn`, which is at `slot`. If a block begins there, the beginning of the block is written first; if the
+    /// block ends there, its end and its edges follow. The edges of a block with a rejected instruction are written as edges that no run
+    /// takes or, if there was no pass (`has_pass`), as edges of which nothing is known.
     fn write_slot(
         &mut self,
         text: &mut String,

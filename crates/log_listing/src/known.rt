@@ -11,7 +11,8 @@ use std::alloc::AllocError;
 use std::fmt::Write;
 use words::{REGISTERS, STACK_SLOTS};
 
-/// Writes the semicolon before a note, unless the note is the first: then the text ends at the offset `start`, at which notes begin.
+/// Separates a note from the notes before it by a semicolon and a space. Writes nothing before the first note, that is, if the text ends at
+/// the offset `start`, at which notes begin.
 pub(crate) fn part(text: &mut String, start: usize) -> Result<(), AllocError> {
     if text.len() > start {
         text.push_str("; ")
@@ -119,8 +120,9 @@ impl Row {
         }
     }
 
-    /// Adds the stack byte at offset `byte`. If it is not the next after the bytes of the row (`end`), these are first written as a note
-    /// with the word `what`, `written` or `lost`, and the byte begins a new row.
+    /// Adds the stack byte at `byte`, an offset from the stack's upper end, to this `Row`. If `byte` does not follow the last byte that the
+    /// `Row` has, those bytes are first written into `text`, as a note with the word `what` (`written` or `lost`), and the `Row` begins
+    /// anew at `byte`.
     fn take(&mut self, text: &mut String, what: &str, byte: i64) -> Result<(), AllocError> {
         if byte != self.end {
             self.write(text, what)?;
@@ -130,8 +132,9 @@ impl Row {
         Ok(())
     }
 
-    /// Adds each byte of stack slot `index` whose bit in `mask` is 1; bit 0 is that of the lowest byte. If a byte does not follow the
-    /// bytes that the row has, these are first written as a note with the word `what`, which is `written` or `lost` (`take`).
+    /// Adds to the row each byte of stack slot `index` whose bit in `mask` is 1; bit 0 is that of the lowest byte. Before a byte that does
+    /// not follow the last byte of the row, the row is written as a note with the word `what`, `written` or `lost`, and a new row begins
+    /// (`take`).
     fn take_slot(
         &mut self,
         text: &mut String,
@@ -152,9 +155,9 @@ impl Row {
 }
 
 /// Writes a note for each row of consecutive stack bytes that changed from the facts `old` to the facts `new`. If `are_lost`, these are the
-/// bytes that were readable in `old` and are not in `new` (`lost`). Else they are the bytes that are written in `new` and were not in `old`
-/// or, in a slot with a spill in `old`, all that are written in `new` (`written`). No byte of a slot with a spill in `new` is among them.
-/// Notes begin at offset `start` of the text.
+/// bytes that were readable in `old` and are not in `new` (`lost`). Else they are the bytes that are written in `new`, and in `old` were
+/// unwritten or in a slot with a spill (`written`). No byte of a slot with a spill in `new` is among the changed bytes. Notes begin at
+/// offset `start` of the text.
 fn write_stack_bytes(
     text: &mut String,
     start: usize,
@@ -182,8 +185,9 @@ fn write_stack_bytes(
     row.write(text, what)
 }
 
-/// Writes a note for each stack slot that has a spill in `new`, unless it has the same spill in `old`: the slot's bytes, and the kind of
-/// what is spilled. Notes begin at offset `start` of the text.
+/// Appends a note for each stack slot that has a spill in `new`, unless it has the same spill in `old`: the offsets of the slot's first and
+/// last byte from the stack's upper end, and the kind of what is spilled. `start` is the offset in the text at which the first note begins;
+/// each other note has a semicolon before it (`part`).
 fn write_spills(
     text: &mut String,
     start: usize,

@@ -55,7 +55,7 @@ fn begin_note(text: &mut String, line: Line) -> Result<(), AllocError> {
     text.push_str(" // ")
 }
 
-/// Writes `note` after the instruction of `line`, and before the note what separates it (`begin_note`). Writes nothing if `note` is empty.
+/// Writes `note` at the end of `line`, with the separator before it that `begin_note` writes. Writes nothing if `note` is empty.
 fn write_note(text: &mut String, line: Line, note: &str) -> Result<(), AllocError> {
     if note.is_empty() {
         return Ok(());
@@ -95,8 +95,9 @@ fn write_sources(
     }
 }
 
-/// Writes which edge of a conditional jump is always taken; if both may be, what is new on the jumping edge, if anything. What is new on
-/// the falling edge is left to the next line. A rejected jump has no edges, and nothing is written.
+/// Writes the note on the edges of a conditional jump, which is the instruction of `step`: that it always or never jumps, if no run takes
+/// the other edge, else what is new on the jumping edge, if anything. What is new on the falling edge is left to the next line. A rejected
+/// jump has no edges, and nothing is written.
 fn write_edges(
     text: &mut String,
     line: Line,

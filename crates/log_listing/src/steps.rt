@@ -76,8 +76,9 @@ impl StepMaker<'_> {
     }
 
     /// The step of the instruction at the slot of `known`: what is new in the facts of `known` against `shown`, and the edges out of the
-    /// instruction (`leave`). `shown` are the facts of the step before, or those in which nothing is known, for the first step and if each
-    /// step has all that is known. An instruction begins at each slot with facts, so `get` finds it. `AllocError`: out of memory.
+    /// instruction (`leave`). `shown` are the facts of the step before. For the first step, and for every step if steps have all that is
+    /// known (`is_whole` of `steps_of`), `shown` are the facts in which nothing is known. An instruction begins at each slot with facts, so
+    /// `get` finds it. `AllocError`: out of memory.
     fn step(&mut self, shown: &Facts, known: &KnownFacts) -> Result<Step, AllocError> {
         let KnownFacts { slot, facts } = known;
         let mut step = Step {
@@ -93,8 +94,9 @@ impl StepMaker<'_> {
     }
 }
 
-/// The steps of a program, one for each instruction with facts in `known`, if descriptors name the objects of `named`. Each has what is new
-/// since the step before it, or if `is_whole`, all that is known. `AllocError`: out of memory.
+/// The steps of a program, one for each element of `known`, which has the facts before the instruction at a slot. `named` lists the open
+/// descriptors and their objects. The text `known` of a step is what is new since the step before it, or if `is_whole`, all that is known.
+/// `AllocError`: out of memory.
 pub(crate) fn steps_of(
     alloc: Global,
     program: &Program,

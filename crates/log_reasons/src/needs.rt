@@ -27,8 +27,8 @@ pub(crate) struct RefusedProgram<'a> {
 }
 
 /// Writes what was known at the rejected instruction `insn`, and what is required. Faults of the shape and unreadable registers are tested
-/// first, since instructions of many kinds can have them. The last arm is for accesses to memory. It also takes instructions that break no
-/// other rule, for example a jump without a condition.
+/// first, since instructions of many kinds can have them. The last arm is for accesses to memory. Unconditional jumps and wide loads would
+/// also take it, but are rejected only for faults of the shape.
 fn write_need(
     text: &mut String,
     refusal: &RefusedProgram<'_>,

@@ -88,10 +88,11 @@ struct Finder<'a> {
 }
 
 impl Finder<'_> {
-    /// Why the value (`wanted`) is missing before the instruction at `slot`, before which these are the facts; `None` if it is present. If
-    /// it is missing on some edges to the slot, but not on all, the cause is the first edge on which it is missing. If it is missing on
-    /// all, the cause is why it is missing on the first edge. Slot 0, to which no edge leads, has the cause `Never` from the start
-    /// (`first_arrivals`). If the value is missing on no edge (last arm), the join of the edges loses it.
+    /// Why the value that the rejected instruction needs (`wanted`) is missing before the instruction at `slot`; `None` if the value is
+    /// present. `facts` are those before this instruction. If the value is missing on some edges to the slot and present on others, the
+    /// cause is the first edge on which it is missing (`OnEdge`); if it is present on none, the cause is why it is missing on the first
+    /// edge; if it is missing on none, the join of the edges loses the value (`Joined`). Slot 0, to which no edge leads, has the cause
+    /// `Never` from the start (`first_arrivals`).
     fn cause_at(&self, slot: usize, facts: &Facts) -> Option<Cause> {
         if self.wanted.is_readable_by(facts) {
             return None;
@@ -170,8 +171,9 @@ fn first_arrivals(alloc: Global, slots: usize) -> Result<Vec<Arrival>, AllocErro
     Ok(arrivals)
 }
 
-/// Why the value `wanted` is missing before the rejected instruction; `None` if this value is present there. The instructions that the pass
-/// reached are followed in the order of their slots. The rejected one is the last, so `cause` is left as it is before this instruction.
+/// Why the value `wanted` is missing before the rejected instruction; `None` if this value is present there. `follow` takes the
+/// instructions that the pass reached, in the order of their slots, and records in `cause` why the value is missing before each of them.
+/// The rejected instruction is the last, so `cause` is the result. The error is out of memory.
 fn cause_of(refusal: &RefusedProgram<'_>, wanted: Wanted) -> Result<Option<Cause>, AllocError> {
     let (alloc, program, named) = (refusal.alloc, refusal.program, refusal.named);
     let mut finder = Finder {

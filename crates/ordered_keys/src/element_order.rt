@@ -57,7 +57,7 @@ impl ElementOrder {
         })
     }
 
-    /// `None` for the bound, which is the end of the ring, else the element.
+    /// `element`, or `None` if `element` is the bound, at which the order begins and ends.
     fn unless_end(&self, element: u32) -> Option<u32>
         ensures { result ≡ (if nat_eq element self.now.bound then None else Some element) }
     {
@@ -120,8 +120,8 @@ impl ElementOrder {
         self.count = 0;
     }
 
-    /// Takes an element out of the order, which has it: its neighbours in the ring, of which each may be the bound, are linked to each
-    /// other. The other elements keep their order.
+    /// Takes an element out of the order, which has it: the links before and after it in the ring, elements or the bound, at which the ring
+    /// begins and ends, are linked to each other. The other elements keep their order.
     pub(crate) fn remove(&mut self, element: u32)
         requires { 0 < occurrences element self.old.elements }
         ensures bound { self.new.bound ≡ self.old.bound }

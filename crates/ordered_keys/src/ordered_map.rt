@@ -153,10 +153,9 @@ impl<K: Eq + Hash + Copy, S: BuildHasher> OrderedMap<K, S> {
     }
 }
 
-/// Whether `table` has an entry at the index that `indices` has for `element`, and this entry has `element`. In an `OrderedMap` this is so
-/// exactly if a key has `element`: the index of an element without a key leads to an entry of another element, or to none. For an element
-/// that `indices` does not have, the index is 0: an entry of an `OrderedMap` there has an element that `indices` has, so the result is
-/// false.
+/// Whether `table` has an entry of `element` at the index that `indices` has for `element`. In an `OrderedMap` this is so exactly if a key
+/// has `element`: for an element without a key the index leads to an entry of another element, or to none. If `indices` has no index for
+/// `element`, the entry at index 0 is tested: this is none, or one of an element for which `indices` has an index, so the result is false.
 fn has_element<K: Eq + Hash, S: BuildHasher>(
     table: &IndexMap<K, u32, S>,
     indices: &[u32],
@@ -267,8 +266,8 @@ fn take_out<K: Eq + Hash + Copy, S: BuildHasher>(
     }
 }
 
-/// Takes out the entry at an index, and returns it; the last entry gets the index. The table has an entry at the index. The number of its
-/// entries and of those for which it has room, together, falls by one at most (`room`).
+/// Takes out the entry at `index`, at which the table has one, and returns it. The last entry moves to `index`. The capacity of the table
+/// (its entries and the further ones for which it has room) falls by at most one (`room`).
 #[inline(always)]
 fn take_at<K: Eq + Hash + Copy, S: BuildHasher>(
     table: &mut IndexMap<K, u32, S>,

@@ -28,8 +28,9 @@ abbrev pub spilled : Kind → Slot
 spilled Unreadable = Bytes 0
 spilled k = Spill k
 
--- the join of stack slots: the bytes written in both, or the join of two spilled values; no written
--- byte if only one slot is a spill
+-- the join of stack slots: of two spills, a spill with the join of their kinds, or no written byte
+-- if that join is Unreadable; else the bytes that are written in both slots, none if one slot is a
+-- spill
 abbrev pub slot_join : Slot → Slot → Slot
 slot_join (Bytes x) (Bytes y) = Bytes (bit_and x y)
 slot_join (Spill j) (Spill k) = spilled (kind_join j k)

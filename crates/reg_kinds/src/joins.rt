@@ -103,8 +103,9 @@ fn holds_range(a: &Range, b: &Range) -> bool
     a.lo <= b.lo && b.hi <= a.hi
 }
 
-/// Joins the kind `edge` into `known`. Of two ranges, or of two pointers into values of one map, only the bounds change, without a copy of
-/// the kind. It is out of line: `join_kind`, which is inlined, finds the joins that change nothing.
+/// Joins the kind `edge` into `known`. If both are ranges, or pointers into values of one map, only the bounds in `known` are written;
+/// `join_any_kinds` joins all other kinds. The function is not inlined, since its caller `join_kind`, which is inlined, has already found
+/// the joins that change nothing.
 #[inline(never)]
 fn join_other_kind(known: &mut Kind, edge: &Kind)
     ensures { known.new ≡ kind_join known.old edge.now }
@@ -235,9 +236,10 @@ fn join_slot(known: &mut Slot, edge: &Slot) -> bool
     }
 }
 
-/// Joins the stack slot `edge` into `known`, a spill that the join may change. A program can force two cases in many slots, and this
-/// function joins in these itself. If both are spilled pointers into values of one map, the join includes the offsets of both. If `edge` is
-/// no spill, the join has no written byte. In all other cases it calls `join_any_slots`, which is not inlined.
+/// Joins the stack slot `edge` into `known`, which is a spill that the join may change (`join_slot`). Two cases, which a program can force
+/// in many slots, are joined here: two spilled pointers into values of one map give the least range of offsets that includes both, and a
+/// spill with an `edge` that is no spill gives a slot without a written byte. `join_any_slots`, which is not inlined, joins in all other
+/// cases.
 #[inline(never)]
 fn join_other_slots(known: &mut Slot, edge: &Slot)
     ensures { known.new ≡ slot_join known.old edge.now }

@@ -25,7 +25,7 @@ pub fn joins_associate()
     interval::laws::hull_is_a_join();
 }
 
-/// A law: once a stack slot is joined with another, joining it with this other one again changes nothing. Nothing is done when it runs.
+/// A law: if slot t is joined into the join of the stack slots s and t, nothing changes. Nothing is done when it runs.
 pub fn slots_absorb()
     ensures { SlotsAbsorb }
 {

@@ -104,7 +104,7 @@ fn touch_a_spill(facts: &Facts, start: usize, count: usize) -> bool
     false
 }
 
-/// Whether one of `count` bytes of the stack, from byte index `start` on, may be unwritten. The slots below and above those of the loop
+/// Whether at least one of the `count` stack bytes from byte index `start` on may be unwritten. The loop leaves out only stack slots that
 /// have none of these bytes.
 fn are_missing(facts: &Facts, start: usize, count: usize) -> bool
     requires { start + count ≤ stack_size }
@@ -150,11 +150,11 @@ pub fn fill_stack(facts: &mut Facts, offset: i32, least: u32, most: u32) -> Resu
     Ok(())
 }
 
-/// What is known of stack slot `index` after a write of `least` to `most` bytes from byte index `start` on; `slot` was known before. If
-/// `most` bytes don't touch the slot, it is unchanged. Otherwise those of its bytes that are among the first `least` count as written. If
-/// the slot was a spill, the spill is lost, and its other bytes count as unwritten. `most` bytes lie in the stack. `least` may be above
-/// `most`: then no write has such a length, and the result describes no run. `least` comes from a `u32`, so its sum with `start` can't
-/// overflow.
+/// What is known of stack slot `index` after a write of at least `least` and at most `most` bytes from byte index `start` on. If the first
+/// `most` bytes touch no byte of the slot, the result is `slot`, which was known before. Otherwise the bytes of the slot that are among the
+/// first `least` count as written, and other written bytes stay written, except that a spill is lost: its bytes that are not among the
+/// first `least` count as unwritten. If `least` is above `most`, no write has such a length, and the result describes no run. `least` is
+/// below 2^32, so `start + least` can't overflow.
 fn filled_slot(slot: Slot, start: usize, least: usize, most: usize, index: usize) -> Slot
     requires least { least < 2 ^ 32 }
     requires within { start + most ≤ stack_size }

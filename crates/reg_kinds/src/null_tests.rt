@@ -101,9 +101,9 @@ fn settle_both_registers(facts: &mut Facts, taken: &mut Facts, site: usize, null
     }
 }
 
-/// Settles the stack for both edges of a null test of the look-up at slot `site`. `facts` has the stack before the test, and gets that on
-/// the falling edge; `taken` gets that on the jumping edge. The look-up's result is null on the jumping edge if `null`, else on the falling
-/// edge. No register changes.
+/// Settles the stack for both edges of a null test of the look-up at slot `site`. Before the call `facts` has the stack slots before the
+/// test; afterwards `facts` has the stack slots on the falling edge, and `taken` has those on the jumping edge. The look-up's result is
+/// null on the jumping edge if `null`, else on the falling edge. No register changes.
 fn settle_both_stacks(facts: &mut Facts, taken: &mut Facts, site: usize, null: bool)
     ensures taken { taken.new ≡ with_slots taken.old
         (λ i. slot_settled site null (slot_at facts.old i)) }

@@ -97,8 +97,9 @@ abbrev pub with_birth : ℕ → Option OpenObject → List Birth → List Birth
 with_birth fd None births = births
 with_birth fd (Some o) births = birth_of fd o ∷ births
 
--- the births after a command that may open an object. If its status is a descriptor, the birth of
--- the object there is added; if it is negative, an error, none is. s is the state after the command
+-- the births after a command that may open an object, by the status of its reply. A status from 0
+-- on is the descriptor of the new object, whose birth is added; after a negative one, an error, the
+-- births are unchanged. s is the state after the command
 abbrev pub with_opened : ℤ → TenantState → List Birth → List Birth
 with_opened (pos fd) s births = with_birth fd (named s.objects fd) births
 with_opened (negsuc n) s births = births

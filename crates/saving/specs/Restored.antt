@@ -36,8 +36,8 @@ abbrev pub made_map : ℕ → Option Map → List Command
 made_map fd None = []
 made_map fd (Some t) = create_of t.shape ∷ map (put_of fd) t.entries
 
--- the command that loads what a descriptor names, if it is a program; else none, which does not
--- happen for the birth of a program
+-- a list of one command, which loads the program that a descriptor names; empty if the descriptor
+-- names a map or is free, which does not occur for the birth of a program
 abbrev pub made_program : Option OpenObject → List Command
 made_program None = []
 made_program (Some (object.Map handle)) = []
@@ -50,9 +50,9 @@ made s (OfProgram fd) = made_program (named s.objects fd)
 
 -- ---- the walk
 
--- n loads of the filler, a program that returns 0: in a new tenant they open n descriptors. If n is
--- `most`, the number of all descriptors, none is free then: if one is closed, the next object gets
--- it
+-- n commands, each of which loads the filler, a program that returns 0. A new tenant opens n
+-- descriptors by them. With n = `most`, the number of all descriptors, all are open: if one is then
+-- closed, the next object gets this descriptor
 unfoldable pub filled : ℕ → List Command
 filled zero = []
 filled (suc n) = load_of filler ∷ filled n

@@ -62,7 +62,7 @@ impl Births {
         })
     }
 
-    /// The births with the oldest first.
+    /// The births, the oldest first. Contracts see them in the reverse order, with the latest first.
     pub(crate) fn oldest_first(&self) -> &[Birth]
         ensures { result.now ≡ reverse self.now }
     {

@@ -66,8 +66,9 @@ fn bytes_of_puts(shape: MapShape, keys: usize) -> usize {
     each.saturating_mul(keys)
 }
 
-/// The element after which the keys from index `count` on follow, in the order of a map: that of key `count` - 1, or of the last key if the
-/// map has fewer. `None` if `count` is 0 or the map has no key: then all keys follow. `part` has the tenant's `PART` bytes of the arena.
+/// The element of the key at index `count` - 1 in the order of a map, or of the last key if the map has fewer: after this element follow
+/// the keys from index `count` on. `None` if `count` is 0 or the map has no key: then all keys follow. `part` has the tenant's `PART` bytes
+/// of the arena.
 fn element_before(tenant: &Tenant, map: MapKey, count: usize, part: &[u8]) -> Option<u32>
     requires whole { length part.now ≡ PART }
     ensures { rest_after result (numbered_entries part.now tenant.now.live map)
@@ -123,8 +124,8 @@ impl FrameWriter {
         append_framed(&mut self.frames, &self.frame)
     }
 
-    /// Appends the frame that puts a key and its value into the map at a descriptor. The flags are 0 (BPF_ANY), which allow both: a new
-    /// array has the key already, a new hash map has not. `AllocError`: out of memory.
+    /// Appends the frame that puts a key and its value into the map at a descriptor. The flags are 0 (BPF_ANY), so the key may be present,
+    /// as each key of a new array is, or absent, as each key of a new hash map is. `AllocError`: out of memory.
     fn append_update(&mut self, fd: u32, key: &[u8], value: &[u8]) -> Result<(), AllocError>
         ensures written { OnOk result (self.new.frames.items
             ≡ self.old.frames.items
@@ -227,9 +228,10 @@ impl FrameWriter {
         Ok(())
     }
 
-    /// Appends the frames of one part of a save that put keys of `map`, with their values, into the map at descriptor `fd`: the keys from
-    /// index `first` on in the order of `map`, at most `KEYS_PER_SAVE_PART`. Appends no frame if `map` is not live, which does not happen
-    /// for the map of a birth. `part` is no part of a save: it has the tenant's `PART` bytes of the arena. `AllocError`: out of memory.
+    /// Appends the update frames of one part of a save: for the keys of `map` from index `first` on, in the order of `map`, and their
+    /// values, at most `KEYS_PER_SAVE_PART` frames. In these frames `fd` is the descriptor that the restored map has. Appends no frame if
+    /// `map` is not live, which does not happen for the map of a birth. `part` is no part of a save: it has the tenant's `PART` bytes of
+    /// the arena. `AllocError`: out of memory.
     fn append_keys(
         &mut self,
         tenant: &Tenant,

@@ -32,9 +32,10 @@ fn status_of(reply: &Result<Reply<'_>, Errno>) -> i32
 }
 
 impl SavableTenant {
-    /// Opens a program that was verified elsewhere, and records its birth, as at the frame that loads the program, with any number of the
-    /// tenant in the frame. Returns the status of the reply to that frame, which has no payload: the new descriptor, or a negative number
-    /// if no descriptor is free or memory is refused. `no_fault`: never that of `BadAddress`, the error of a run that faults.
+    /// Opens a program that was verified elsewhere, and records its birth, as for a frame that loads the program. Returns the status of the
+    /// reply to that frame, which has no payload: the new descriptor, or a negative number if no descriptor is free or memory is refused.
+    /// The contract holds for any tenant's `number` in the frame. `no_fault`: the status is never that of `BadAddress`, the error of a run
+    /// that faults.
     ///
     /// # Errors
     ///

@@ -56,7 +56,7 @@ pub fn restored_is_alike()
 }
 
 /// A law: each test run whose context words and packet fit into a frame (`FitsFrame`) has a frame, which is parsed as this test run. So
-/// each run of a batch, which comes by a call and not as frames, is that of a frame.
+/// each run of a batch has a frame, too, although the batch comes by a call and not as frames.
 pub fn test_runs_have_frames()
     ensures { TestRunsHaveFrames }
 {

@@ -27,7 +27,8 @@ pub(crate) enum SavePart {
     Closing,
 }
 
-/// The number of keys that the object of a birth has: 0 for a program, and for a map that is not live, of which no birth is recorded.
+/// The number of keys that the object of a birth has; 0 for a program. The map of a recorded birth is live; for a map that is not live the
+/// result is 0.
 fn key_count(tenant: &Tenant, birth: Birth) -> usize
     ensures count { (part : List ℕ)
         → result ≡ length (key_commands (state_in part tenant.now) birth) }

@@ -154,7 +154,7 @@ fn folded_product(a: u64, b: u64) -> u64
     (product & 0xFFFF_FFFF_FFFF_FFFF) as u64 ^ (product >> 64) as u64
 }
 
-/// The four bytes from offset `at` on, as a little-endian number. Callers make sure that there are four.
+/// The four bytes from offset `at` on, half of a word of eight bytes, as a little-endian number. Callers make sure that there are four.
 #[inline(always)]
 fn half_at(bytes: &[u8], at: usize) -> u64
     requires { at + 4 ≤ length bytes.now }

@@ -41,9 +41,9 @@ widened size false n = n
 abbrev pub number_from : AccessSize → Bool → Option (List ℕ) → Option Tagged
 number_from size signed o = option_map (λ bs. Scalar (widened size signed (number_of bs))) o
 
--- the value of a load at byte j of a cell, a number sign-extended if `signed`. A double word of a
--- value kept whole is this value, since j is 0 in an aligned load. None for fewer bytes of such a
--- value, or if a byte is absent
+-- what a load of this size from byte j of a cell on gives: a number, sign-extended if `signed`, or,
+-- if the cell keeps a value whole and the size is a double word, this value (j is then 0, since
+-- loads are aligned). None for a smaller size from such a cell, or if a byte is absent
 abbrev pub read_cell : Cell → ℕ → AccessSize → Bool → Option Tagged
 read_cell (holds v) j Double signed = Some v
 read_cell (holds v) j _ signed = None

@@ -84,7 +84,7 @@ PermitsAfterCall s (Some t) = IsAfterCall s t
 
 -- ---- a state and its maps
 
--- a call may leave what a descriptor has, a map or none, unchanged
+-- a call may leave o, the map of a descriptor or no map (None), unchanged (`EntryAfterCall`)
 entry_same : (o : Option RunMap) → EntryAfterCall o o
 entry_same None = tt
 entry_same (Some t) = unchanged
@@ -94,8 +94,8 @@ state_same : (s : RunState) → IsAfterCall s s
 state_same s = record { words = refl; maps = λ m. entry_same (s.maps m) }
 
 -- if s has the map t at descriptor m, and a call may change t to u (`MapAfterCall`), then u may
--- replace t in s: each descriptor k then has a map that a call may make of the map that k has in s,
--- or no map if it has none in s (`EntryAfterCall`)
+-- replace t in s: after this change, each descriptor k has a map that a call may leave of the map
+-- at k in s, or has no map if s has none at k (`EntryAfterCall`)
 entry_set : (s : RunState) (m : ℕ) (t u : RunMap)
     → s.maps m ≡ Some t
     → MapAfterCall t u
@@ -133,8 +133,8 @@ replied s m t reply there change = record {
   maps = entry_set s m t reply.map there change;
 }
 
--- `PermitsAfterCall` permits a fault, and a state that can be that after a call that begins in s.
--- If it permits f x for the value x of the option o, it permits the result of the computation that
+-- `PermitsAfterCall` permits a fault, and each state to which a call that begins in s may lead. If
+-- it permits f x for the value x of the option o, it permits the result of the computation that
 -- takes the value of o and continues with f. If o is None, this result is a fault
 then_leaves : {A : Type 0} (s : RunState) (o : Option A) (f : A → Option RunState)
     → ((x : A) → o ≡ Some x → PermitsAfterCall s (f x))
@@ -142,9 +142,9 @@ then_leaves : {A : Type 0} (s : RunState) (o : Option A) (f : A → Option RunSt
 then_leaves s None f h = tt
 then_leaves s (Some x) f h = h x refl
 
--- o is the result of a computation in a call that begins in state s: a state, or None, a fault. If
--- `PermitsAfterCall` permits o, it also permits o with v in register 0 and registers 1 to 5 empty;
--- None stays None
+-- if `PermitsAfterCall` permits o, the result of a computation in a call that begins in state s, it
+-- also permits o with v in register 0 and registers 1 to 5 empty. If o is None, a fault, the result
+-- stays a fault
 return_leaves : (s : RunState) (o : Option RunState) (v : Tagged)
     → PermitsAfterCall s o
     → PermitsAfterCall s (and_then o (λ t. Some (returns t v)))
@@ -153,10 +153,10 @@ return_leaves s (Some t) v h = returned s t v h
 
 -- ---- arguments
 
--- `PermitsAfterCall` permits a fault, and a state that can be that after a call that begins in s.
--- If it permits what f gives for each map of s, with its descriptor, it permits the result of the
--- computation that reads the map in register r and continues with f. If register r has no map of
--- the run, this result is a fault
+-- a computation reads the map in register r of s, and continues with f. If f gives, for each map of
+-- s with its descriptor, a fault (None) or a state that can be the one after a call that begins in
+-- s (`PermitsAfterCall`), then so does the computation. If register r has no map of the run, the
+-- computation is a fault
 map_leaves : (s : RunState) (r : ℕ) (f : GivenMap → Option RunState)
     → ((m : ℕ) (t : RunMap)
     → s.maps m ≡ Some t

@@ -133,7 +133,8 @@ abbrev pub number_given : Tagged → Option ℕ
 number_given (Scalar n) = Some n
 number_given _ = None
 
--- the length that a value is, a number other than 0; None for 0, a map or a pointer
+-- the length that the value of a helper's argument is, a number other than 0; None if the value is
+-- 0, a map or a pointer
 abbrev pub length_given : Tagged → Option ℕ
 length_given (Scalar n) = if n == 0 then None else Some n
 length_given _ = None

@@ -5,7 +5,7 @@ use Rattle.tagged_model.specs.declared.shape.Target.{Target}
 use Rattle.tagged_model.specs.declared.shape.Target.TheVariants as target
 use Rattle.tagged_model.specs.declared.shape.Named.{Named}
 
--- the object that descriptor `fd` names, by the first in the list that has it; None if none has it
+-- the object of the first item in the list with descriptor `fd`; None if there is no such item
 unfoldable pub target_of : List Named → ℕ → Option Target
 target_of [] fd = None
 target_of (n ∷ ns) fd = if n.fd == fd then Some n.target else target_of ns fd

@@ -102,9 +102,9 @@ run_weight cost = cost.instructions + CALL_WEIGHT * cost.calls
 abbrev pub allowed : ℕ → ℕ → ℕ → ℕ
 allowed bound cost packets = min packets (max 1 (bound / cost))
 
--- a bound other than 0 allows n of the `packets` of a batch, by what its descriptor names: each run
--- of a program counts for its cost (`run_weight`); if the descriptor names no program all are
--- allowed, since such a batch is rejected as a whole
+-- a bound other than 0 on the work of a batch allows n of its `packets`. If the descriptor of the
+-- batch names a program, each run counts for the program's cost (`run_weight`); if it names no
+-- program, all are allowed, since such a batch is rejected as a whole
 abbrev pub IsAllowedBy : Option OpenObject → ℕ → ℕ → ℕ → Type 0
 IsAllowedBy None bound packets n = n ≡ packets
 IsAllowedBy (Some (object.Map handle)) bound packets n = n ≡ packets

@@ -7,8 +7,8 @@ use Rattle.tenant.specs.declared.object.OpenObject.{OpenObject}
 use Rattle.tenant.specs.declared.object.OpenObject.TheVariants as object
 use Rattle.tenant.specs.State.{TenantState}
 
--- the second argument is the cost of the object that a descriptor names, the first argument: for a
--- program the cost of its instructions, None for a map, and None if nothing is open (None)
+-- the cost is that of the object that a descriptor names (None if nothing is open): for a program
+-- the cost of its instructions (`IsCostOf`), None for a map, and None if nothing is open
 abbrev pub HasCost : Option OpenObject → Option Cost → Type 0
 HasCost None cost = cost ≡ None
 HasCost (Some (object.Map handle)) cost = cost ≡ None

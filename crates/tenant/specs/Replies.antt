@@ -12,7 +12,8 @@ use Rattle.tenant.specs.declared.reply.Reply.TheVariants as reply
 use Rattle.tenant.specs.State.{TenantState}
 use Rattle.tenant.specs.Machine.{Answer, gives, opens, refuses, refuses_load}
 
--- the machine's result that a reply or an error represents, with the state after the command
+-- the machine's result that a reply or an error of the code represents: the status, the payload,
+-- and s, the state after the command
 abbrev pub shown_reply : Result Reply Errno → TenantState → Answer
 shown_reply (Ok reply.Done) s = gives [] s
 shown_reply (Ok (reply.Opened fd)) s = opens fd s

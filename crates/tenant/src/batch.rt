@@ -31,8 +31,8 @@ pub struct Batch<'a> {
 /// bytes or add a key of 512, and take as long as some 128 instructions.
 pub const CALL_WEIGHT: u32 = 128;
 
-/// What a run counts for in the bound of a batch, in instructions, by the cost of its program: the most instructions that a run executes,
-/// and `CALL_WEIGHT` for each of the most calls of helpers that it makes.
+/// The weight of one run in the bound of a batch, in instructions, for a program of this cost: the most instructions that a run executes,
+/// plus `CALL_WEIGHT` times the most calls of helpers that a run makes.
 fn run_weight(cost: Cost) -> u64
     ensures { result ≡ run_weight cost }
 {

@@ -69,7 +69,7 @@ fn maps_named(
 }
 
 impl Tenant {
-    /// The loaded program that `program` becomes, with the handles of its maps. It was accepted with the objects that are open now
+    /// Makes a loaded program of `program` and the handles of its maps. `program` was accepted with the objects that are open now
     /// (`accepted`, `objects`), so each descriptor of its maps names a live map. `AllocError`: out of memory.
     pub(crate) fn with_maps(
         &self,

@@ -55,8 +55,8 @@ impl Tenant {
         self.maps.is_live(map)
     }
 
-    /// The shape of a map; `None` if it is not live. By `state`, the state that the tenant and its part represent has a map of this handle
-    /// exactly if there is a shape: the keys of the live map, each with its value in the part.
+    /// The shape of a map; `None` if the map is not live. By `state`, the state that the tenant and its part represent has a map of this
+    /// handle if and only if the result is a shape. That map has the keys of the live map, each with its value in the part.
     pub fn map_shape(&self, map: MapKey) -> Option<MapShape>
         ensures shape { IfSome result (λ shape. IsSome (live_at self.now.live map)
             × (shape ≡ shape_at self.now.live map)) }

@@ -217,10 +217,10 @@ impl Tenant {
     ///
     /// # Errors
     ///
-    /// `BadDescriptor` if the descriptor is not open; `Invalid` if it names no map, if there are not as many bytes as in a key and a value
-    /// of the map, or if `flags` is none of 0, 1 (the key must be absent) and 2 (it must be present); `Exists` if it is 1 and the key is
-    /// present; `TooBig` for an index out of range; for an absent key of a hash map `NoEntry` if `flags` is 2, else `TooBig` if the map is
-    /// full. Then nothing has changed.
+    /// `BadDescriptor` if the descriptor is not open; `Invalid` if the descriptor names no map, if `key_and_value` is not as long as a key
+    /// and a value of the map together, or if `flags` is none of 0, 1 (the key must be absent) and 2 (the key must be present); `Exists` if
+    /// `flags` is 1 and the key is present; `TooBig` for an index out of range; for an absent key of a hash map `NoEntry` if `flags` is 2,
+    /// else `TooBig` if the map is full. After an error nothing has changed.
     pub fn update(
         &mut self,
         fd: u32,

@@ -88,7 +88,8 @@ operation_layout wide dst operation.Neg =
 operation_layout wide dst (operation.End how bits) =
     sign (codes "=") ∷ space ∷ word (order_name how bits) ∷ space ∷ reg wide dst ∷ []
 
--- the value of a wide load, and then the rest, which begins with its `ll`
+-- the tokens and spaces of the value of a wide load, and after them those of `rest`, which has the
+-- space and the `ll` after the value
 abbrev pub value_layout : WideValue → TokenLayout → TokenLayout
 value_layout (value.Number n) rest = Some (number n) ∷ rest
 value_layout (value.MapFd fd) rest = word (codes "map_fd") ∷ space ∷ constant fd rest
@@ -140,8 +141,9 @@ IsOperation wide (operation.SignExtend from src) = (src ≤ 10) × IsTrue (wide 
 IsOperation wide operation.Neg = Unit {0}
 IsOperation wide (operation.End how bits) = IsTrue wide
 
--- the register besides the base of the address, if there is one, is 0 to 10, and no double word is
--- loaded with sign extension; the base is 0 to 10 by `IsForm`
+-- the register that is loaded, stored, or the operand of an atomic operation is 0 to 10; a stored
+-- constant has no requirement here. No double word is loaded with sign extension. That the base of
+-- the address is 0 to 10 is required by `IsForm`
 abbrev pub IsAccess : Access → Type 0
 IsAccess (access.Load size signed dst) = (dst ≤ 10) × IsTrue (not (signed && is_double size))
 IsAccess (access.Store size src) = IsSource src

@@ -11,7 +11,8 @@ pub data Line : Type 0 where
   label : List ℕ → Line
   code : Form → List ℕ → Line
 
--- the tokens of a line: of a label, its name and `:`
+-- the tokens of a line: none of a blank line; of a label, its name and `:`; of an instruction,
+-- those of the layout of its form, with the name n of the label to which it jumps
 abbrev pub spelled : Line → List Token
 spelled blank = []
 spelled (label n) = name n ∷ symbol (codes ":") ∷ []
@@ -23,9 +24,8 @@ abbrev pub NoLabel : Bool → List ℕ → Type 0
 NoLabel true n = Unit {0}
 NoLabel false n = n ≡ []
 
--- of an instruction: its form is one that a line can have, and the label's name `n` is empty if the
--- form names no label; if the form names one, `n` may be any. A blank line and the definition of a
--- label are always well formed
+-- the form of an instruction is one that a line can have, and the label's name n is empty unless
+-- the form names a label. A blank line and the definition of a label are always well formed
 abbrev pub IsWellFormed : Line → Type 0
 IsWellFormed (code form n) = IsForm form × NoLabel (names_label form) n
 IsWellFormed _ = Unit {0}

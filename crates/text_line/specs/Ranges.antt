@@ -80,8 +80,9 @@ normal_source (source.Reg r) = source.Reg r
 abbrev pub normal_address : Address → Address
 normal_address at = record { base = at.base; offset = normal at.offset }
 
--- the form with 0 for each number -0. A jump is not changed, as `resolved` has equations of its own
--- for jumps. Each other form that has no equation here has no number with a sign
+-- the form with 0 for each number -0. A jump and a conditional jump are unchanged: `resolved`
+-- changes them by equations of its own. Any other form without an equation here has no number with
+-- a sign
 abbrev pub normal_form : Form → Form
 normal_form (form.Operation wide dst (operation.Binary op src)) =
     form.Operation wide dst (operation.Binary op (normal_source src))

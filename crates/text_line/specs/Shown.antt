@@ -4,9 +4,9 @@ use Rattle.text_line.specs.declared.form.Line.{Line as CodeLine}
 use Rattle.text_line.specs.declared.form.Line.TheVariants as written
 use Rattle.text_line.specs.Line.{Line, blank, label, code as instruction}
 
--- the line of the definitions (`Line`) that a parsed line of the code (`CodeLine`) represents: n is
--- the name of the label that the line defines, or that the jump of the form f names; empty if it
--- names none
+-- the line of the definitions (`Line`) that a parsed line of the code (`CodeLine`) represents. n is
+-- the name of the label that the line defines, or of the label to which the form f jumps, empty if
+-- f names no label
 abbrev pub seen_line : CodeLine → Line
 seen_line written.Blank = blank
 seen_line (written.Label n) = label n.now

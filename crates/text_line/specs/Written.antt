@@ -34,8 +34,9 @@ abbrev pub address_of : ℕ → ℤ → Address
 address_of base off = record { base = base; offset = number_of off }
 
 -- the written form of an instruction: the target of a jump is a number, never a label. The Boolean
--- of an operation and of a branch is whether registers are written with the names of their 64 bits,
--- as they always are in a byte-order conversion; that of `form.Jump` is whether it is a `gotol`
+-- of an operation and of a branch is true if registers have their names of 64 bits, as `r1`, and
+-- false if they have those of 32, as `w1`; a byte-order conversion has only `r1`. The Boolean of
+-- `form.Jump` is true for `gotol`, false for `goto`
 abbrev pub written : Insn → Form
 written (Alu wide op dst src) = form.Operation wide dst (operation.Binary op (source_of src))
 written (Movsx m) = form.Operation m.wide m.dst (operation.SignExtend m.bits m.src)

@@ -67,7 +67,8 @@ fn next_imm(magnitude: Option<u64>) -> Option<u32>
 }
 
 impl SourceOperand {
-    /// A law: if the operand is a register, it is 0 to 10. The call of `number` gives the proof this; nothing is done when it runs.
+    /// A law: if the operand is a register, its number is 0 to 10. The proof has this from the contract of `number`; the function does
+    /// nothing when it runs.
     fn register_is_in_range(self)
         ensures { IsSource self }
     {
@@ -93,8 +94,8 @@ impl SourceOperand {
 }
 
 impl JumpTarget {
-    /// The offset in slots of a jump that is no long one (`false` in the contract): its number, or `distance` if its target is a label.
-    /// `None` if the number doesn't fit 16 bits.
+    /// The offset in slots of a jump to this target that is not long (`false` in the contract): the target's number, or, if the target is a
+    /// label, `distance`, the number of slots from the next slot to the label. `None` if the target's number doesn't fit 16 bits.
     fn offset(self, distance: i16) -> Option<i16>
         ensures found { IfSome result (λ n. target.Number (number_of n) ≡ placed distance self) }
         ensures fits { IfSome result (λ _. target_fits false self ≡ true) }
@@ -222,9 +223,9 @@ impl WideValue {
 }
 
 impl Form {
-    /// Whether a line can have this form: a sign extension is from fewer bits than the register has, a byte-order conversion is of an `r`
-    /// register, and no double word is loaded with sign extension. The calls of `number` and `register_is_in_range` only give the proof
-    /// that registers are 0 to 10.
+    /// Whether a line can have this form (`IsForm`): a sign extension is from fewer bits than the register has, a byte-order conversion is
+    /// of an `r` register, and no double word is loaded with sign extension. The calls of `number` and `register_is_in_range` only give the
+    /// proof that registers are 0 to 10.
     fn is_listed(&self) -> bool
         ensures yes { result ≡ true → IsForm self.now }
         ensures no { result ≡ false → IsForm self.now → ⊥ }

@@ -22,7 +22,7 @@ pub fn written_in_range()
 {}
 
 /// A law: the printed text of an instruction is one line, and that line is read as the instruction. So a program's text is read as
-/// its instructions. The call in it only gives its proof the law `written_in_range`.
+/// its instructions. The body only gives the proof the law `written_in_range`.
 pub fn printed_is_read()
     ensures { (insn : Insn) → IsInsn insn → IsPrinted insn }
 {

@@ -15,7 +15,7 @@ use insn_set::{AccessSize, Reg, size_by_name};
 
 // ---- one token, and the tokens after it
 
-/// The first token, if it is a symbol, and the tokens after it; `None` if it is none, or if there is no token.
+/// The first token, if it is a symbol, and the tokens after it; `None` if it is no symbol, or if there is no token.
 pub(crate) fn symbol<'t, 'a>(tokens: &'t [Token<'a>]) -> Option<(&'a str, &'t [Token<'a>])>
     ensures { seen_token result ≡ leading_symbol (shown_tokens tokens.now) }
 {

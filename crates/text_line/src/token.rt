@@ -69,7 +69,8 @@ enum ByteClass {
 impl ByteClass {
     ghost use Rattle.text_line.specs.inside.Class.{in_class};
 
-    /// Whether the byte is of this class. `Name` has the bytes of a name after its first, so digits too.
+    /// Whether the byte is of this class. The class `Name` has the bytes that a name may have after its first byte: letters, `_` and
+    /// digits.
     fn contains(self, byte: u8) -> bool
         ensures { result ≡ in_class self byte }
     {

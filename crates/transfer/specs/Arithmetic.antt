@@ -54,8 +54,8 @@ abbrev pub moved_offset : Direction → ℤ → ℤ → Option ℤ
 moved_offset Forwards x d = near_offset (x +ℤ d)
 moved_offset Backwards x d = near_offset (x -ℤ d)
 
--- the result of a move of a pointer; OffsetTooLarge if it has none (None): the offset would be too
--- far from 0, or the range of the number by which the pointer moves has numbers of both signs
+-- a moved offset or pointer as a result; OffsetTooLarge for None: the new offset would be too far
+-- from 0, or the range of the number by which the pointer moves has numbers of both signs
 abbrev pub near : {A : Type 0} → Option A → Result A Reason
 near None = Err OffsetTooLarge
 near (Some x) = Ok x

@@ -56,9 +56,8 @@ output_facts shapes f r (kind.Value p) =
 output_facts shapes f r (kind.MaybeValue m site) = Err MaybeNull
 output_facts shapes f r k = Err HelperArgument
 
--- for an argument that a helper requires to be a number: the range of the number, by the kind of
--- the argument; HelperArgument, the reason to reject the program, if that is not the kind of a
--- number
+-- the range of an argument that a helper requires to be a number, from the kind of the argument. If
+-- the kind is not that of a number, the error is HelperArgument, the reason to reject the program
 abbrev pub number_range : Kind → Result Range Reason
 number_range (kind.Scalar r) = Ok r
 number_range k = Err HelperArgument

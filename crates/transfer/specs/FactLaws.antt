@@ -10,7 +10,8 @@ use Rattle.reg_kinds.specs.declared.facts.Facts.{Facts}
 use Rattle.reg_kinds.specs.Kinds.{kind_at, slot_at}
 use Rattle.transfer.specs.Sound.{IsKindAt, IsSlotAt, AreWellFormedAt}
 
--- a kind that is well formed at a slot is well formed at each later one
+-- a kind that is well formed at a slot (`IsKindAt`: a look-up that it names was at a lower slot) is
+-- well formed at each later slot
 kind_raised : (at n : ℕ) (k : Kind) → at < n → IsKindAt at k → IsKindAt n k
 kind_raised at n (kind.Scalar r) lt h = h
 kind_raised at n (kind.MaybeValue m site) lt h = omega arith

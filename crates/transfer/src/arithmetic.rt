@@ -69,9 +69,9 @@ fn moved_backwards(offset: i32, by: i64) -> Option<i32>
     }
 }
 
-/// The kind of a stack pointer at `offset` after it is moved by the number of `range`, a constant, as the caller has tested.
-/// `OffsetTooLarge` if it is then farther than `FARTHEST_OFFSET` from 0. `distance` of a constant is never `None`, and its two ends are the
-/// same.
+/// The kind of a stack pointer at `offset` after a move forwards or backwards (`way`) by the one number of `range`, read as signed.
+/// `OffsetTooLarge` if the new offset is farther than `FARTHEST_OFFSET` from 0. The caller has tested that `range` has only one number, so
+/// `distance` is never `None`, and its least and its greatest distance are equal.
 fn stack_moved(way: Direction, offset: i32, range: Range) -> Result<Kind, Reason>
     ensures { result ≡ stack_moved way offset range }
 {

@@ -22,8 +22,8 @@ pub(crate) struct ShapedMap {
     shape: MapShape,
 }
 
-/// The descriptor and the shape of the map that a helper's argument is, by the argument's kind. `HelperArgument` if it is no map, or its
-/// descriptor names none.
+/// The descriptor and the shape of the map that a helper gets as an argument of this kind. `HelperArgument` if the kind is not that of a
+/// map, or if its descriptor names no map.
 fn map_kind(named: &[Named], kind: Kind) -> Result<ShapedMap, Reason>
     ensures { result ≡ map_kind (shapes_named named.now) kind }
 {
@@ -75,9 +75,9 @@ pub(crate) fn check_room(
     room_in(low, last, count, shape.value_size)
 }
 
-/// Checks that an argument of this kind points to `count` bytes that a helper may read. `named` has the maps by descriptor. The error is
-/// that of `check_read` for a pointer into the stack, `OutsideValue` for one into a value (`check_room`), `MaybeNull` for the result of a
-/// look-up that may be null, and `HelperArgument` for anything else.
+/// Checks that an argument of this kind points to `count` bytes that a helper may read. `named` lists the open descriptors and their
+/// objects. The error is that of `check_read` for a pointer into the stack, `OutsideValue` for one into a value (`check_room`), `MaybeNull`
+/// for the result of a look-up that may be null, and `HelperArgument` for anything else.
 fn input(named: &[Named], facts: &Facts, count: u32, kind: Kind) -> Result<(), Reason>
     ensures { result ≡ input_kind (shapes_named named.now) facts.now count kind }
 {
@@ -153,9 +153,9 @@ fn any_number() -> Kind
 }
 
 /// Updates the facts for a call of `helper` at `slot`. The result of a look-up has `slot` as its site; that of any other helper is any
-/// number. Or returns the reason of the first condition that fails, and the facts are unchanged. The arguments, in registers 1 to 4, are a
-/// map, a key, and for `Update` a value and flags; for `LoadBytes` the context, an offset in the packet, which may be any number, the
-/// target and the length.
+/// number. The error is the reason of the first condition that fails; then the facts are unchanged. The arguments, in registers 1 to 4, are
+/// a map, a key, and for `Update` a value and flags; for `LoadBytes` the context, an offset in the packet, which may be any number, a
+/// pointer to room for the bytes, and their number.
 pub(crate) fn call(
     facts: &mut Facts,
     named: &[Named],

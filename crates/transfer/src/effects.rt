@@ -67,8 +67,8 @@ fn first_operand(op: AluOp, kind: Kind) -> Result<Kind, Reason>
     }
 }
 
-/// The kind of a number that is loaded from the context. `ContextAccess` unless the load is of a whole word of it, at a multiple of four
-/// bytes, without sign extension (`signed`).
+/// The kind of a word that is loaded from byte `offset` of the context: any number of 32 bits. `ContextAccess` unless the load has four
+/// bytes (`size`), all in the context, at a multiple of four, and is without sign extension (`signed`).
 fn context_read(offset: i16, size: AccessSize, signed: bool) -> Result<Kind, Reason>
     ensures { result ≡ context_read offset size signed }
 {
@@ -125,8 +125,8 @@ fn load(
     }
 }
 
-/// Checks that a value may be stored in a map's value. `PointerStored` for a pointer or a map, which only the stack keeps whole. Unreadable
-/// values are accepted here, but the caller of `store` has rejected them.
+/// Checks that a value of this kind may be stored outside the stack, in the value of a map. `PointerStored` for a pointer or a map, which
+/// only the stack keeps whole. An unreadable value passes this check: the caller of `store` has rejected it.
 fn store_outside(value: Kind) -> Result<(), Reason>
     ensures { result ≡ (if is_pointer value then Err PointerStored else Ok tt) }
 {

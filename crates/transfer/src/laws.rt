@@ -55,8 +55,8 @@ pub fn effects_need_no_memory()
     transfer_reasons();
 }
 
-/// A law, soundness of calls: if facts have only sites below the slot of a state, describe this state (`Describes`) and allow a call of a
-/// helper, the call is no fault, and the facts after the call describe the state after the call.
+/// A law, soundness of calls: take facts that describe a state (`Describes`) and allow a call of a helper, and whose sites, the slots of
+/// look-ups, are all below the state's slot. Then the call is no fault, and the facts after the call describe the state after the call.
 pub fn calls_are_sound()
     ensures { CallsAreSound }
 {

@@ -19,8 +19,8 @@ use Rattle.verifier.specs.Verdict.{HasNoFault}
 no_reason : (reason : Reason) → Some reason ≡ None → ⊥
 no_reason reason e = cc
 
--- if a list of conditions with their reasons gives no reason, the first condition does not hold,
--- and the rest of the list gives no reason
+-- if no condition holds in a list of conditions with their reasons (`first_reason` is None), the
+-- first condition does not hold, and none holds in the rest of the list
 passed : (line : Bool × Reason) (lines : List (Bool × Reason))
     → first_reason (line ∷ lines) ≡ None
     → (line.0 ≡ false) × (first_reason lines ≡ None)

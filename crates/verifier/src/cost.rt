@@ -75,8 +75,8 @@ impl Counts {
     }
 }
 
-/// `jumping` has, by slot, the counts on the paths that end with a jump there. Joins `counts`, those on such paths to the slot `target`,
-/// into these: of each count the greater one is kept. `None`, a target below slot 0, changes nothing: its jump was rejected before.
+/// Joins `counts`, those of paths that end with a jump to the slot `target`, into the counts that `jumping` has for this slot: of each
+/// count the greater one is kept. `None`, a target below slot 0, changes nothing: its jump was rejected before.
 #[inline(always)]
 fn join_at_target(jumping: &mut [Counts], target: Option<usize>, counts: Counts)
     requires { IfSome target (λ to. to < length jumping.old) }
@@ -102,7 +102,7 @@ pub(crate) struct Paths {
 }
 
 impl Paths {
-    /// The paths when the pass is at slot 0: the one to slot 0 has no instruction and no call (`here`), and no path to an exit has been
+    /// The counts when the pass is at slot 0, all 0: the only path to slot 0 has no instruction (`here`), and no path to an exit has been
     /// found (`ended`).
     pub(crate) fn new() -> Paths
         ensures here { result.here ≡ no_counts }
@@ -137,8 +137,9 @@ impl Paths {
         self.have_instructions() || slot == 0
     }
 
-    /// Whether a path with at least one instruction leads to the slot at which the pass is; the instruction at that slot is not counted.
-    /// Before `join`, only the paths along the falling edge are known. `false` at slot 0: the only path there has no instruction.
+    /// Whether a path with at least one instruction leads to the slot at which the pass is; the instruction at that slot is not counted. A
+    /// path that ends with a jump to this slot counts only after the call of `join`. `false` at slot 0: the only path there has no
+    /// instruction.
     #[inline(always)]
     pub(crate) fn have_instructions(&self) -> bool
         ensures { result ≡ nat_lt 0 self.now.here.instructions }
@@ -158,11 +159,11 @@ impl Paths {
         self.here.instructions += 1;
     }
 
-    /// Adds the instruction at `slot`, whose properties are `row`, to the paths that lead there. If it may jump, the new counts are joined
-    /// into those of its target in `jumping`; if it is an exit, into those of the paths to the exits (`ended`). Then `here` has the counts
-    /// along the falling edge: the new ones, or none if it has no such edge. The target is a slot of the program, as the instruction has no
-    /// fault. By `few` the paths to `slot` have at most `MAX_SLOTS` instructions and at most as many calls, so no count overflows. Only the
-    /// contract needs `insn`.
+    /// Adds the instruction at `slot` to the paths on which control reaches this slot (`here`); `row` is the profile of the instruction.
+    /// The sums, the counts with this instruction, are joined into the counts at the jump's target in `jumping` if the instruction may
+    /// jump, and into the counts at the exits (`ended`) if the instruction is an exit. Then `here` has the counts along the falling edge:
+    /// the sums, or `NO_COUNTS` if there is no such edge. The target is a slot of the program, since the instruction has no fault. By `few`
+    /// neither count is above `MAX_SLOTS`, so no sum overflows. Only the contract needs `insn`.
     #[inline(always)]
     pub(crate) fn add(&mut self, jumping: &mut [Counts], insn: &Insn, row: &Profile, slot: usize)
         requires room { slot ≤ MAX_SLOTS }

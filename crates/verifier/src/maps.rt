@@ -46,8 +46,9 @@ fn names_map(insn: &Insn) -> bool
     insn.profile().reference.descriptor().is_some()
 }
 
-/// The descriptors by which a program loads maps, or values of maps, each once, in the order of their first loads. If `named`, the list of
-/// open descriptors, is empty, the program loads none, as its shape has no fault, and is not searched. The error is out of memory.
+/// The descriptors by which a program loads maps, or values of maps, each once, in the order of their first loads. The shape of the program
+/// has no fault, so each of these descriptors is in `named`, the list of open descriptors; if `named` is empty, the result is empty without
+/// a search. The error is out of memory.
 pub(crate) fn loaded_maps(
     alloc: Global,
     program: &Program,

@@ -22,8 +22,8 @@ pub(crate) struct NumberedFacts {
 }
 
 impl NumberedFacts {
-    /// The facts at program entry. All groups of stack slots have number 1. No later change of a group gives this number, so groups of one
-    /// index that have it are equal. `includes` is 0 for each group: no group has been joined into it.
+    /// The facts at program entry. Each group of eight stack slots has number 1, which no later change of a group gives: so groups with one
+    /// index and number 1 are equal in all facts of a pass. `includes` is 0 for each group, since no group has been joined into it.
     pub(crate) fn at_entry() -> NumberedFacts
         ensures { result ≡ at_entry }
     {
@@ -34,8 +34,8 @@ impl NumberedFacts {
         }
     }
 
-    /// Gives all groups of eight stack slots the new number `fresh`, since any may have changed. Then no group counts as joined into any of
-    /// them (`includes` is 0, which is no group's number).
+    /// Gives all groups of eight stack slots the new number `fresh`, since any may have changed: groups with one index and one number have
+    /// to be equal in all facts of a pass. Also records that since then no group has been joined into any of them (`includes` is 0).
     pub(crate) fn renumber(&mut self, fresh: usize)
         ensures { self.new ≡ renumbered self.old fresh }
     {
@@ -56,9 +56,9 @@ impl NumberedFacts {
     }
 
     /// Gives the new number `fresh` to each group of eight stack slots into which an instruction with this flow may have written, since
-    /// groups with one index and one number have to be equal in all facts of a pass. These are the group with the slot that the flow names,
-    /// which is one of the stack's, as `apply` promises, or all groups for `Writes`. Other flows change nothing; a null test changes the
-    /// stack only on its edges (`leave_null_test`).
+    /// groups with one index and one number have to be equal in all facts of a pass. For `WritesSlot` this is the group of that slot, which
+    /// is a slot of the stack (`IsInStack`); for `Writes` these are all groups. Other flows change nothing; a null test changes the stack
+    /// only on its edges (`leave_null_test`).
     #[inline(always)]
     pub(crate) fn note(&mut self, flow: &Flow, fresh: usize)
         requires { IsInStack flow.now }
@@ -104,8 +104,8 @@ impl NumberedFacts {
         }
     }
 
-    /// Joins `edge`, the facts on another edge to the same instruction, into these. Each group of eight stack slots that the join changes
-    /// gets the new number `fresh`, since groups with one index and one number are the same in all facts of a pass.
+    /// Joins `edge`, the facts on another edge to this instruction, into these. Each group of eight stack slots that the join changes gets
+    /// the new number `fresh`, since two groups with one index and one number have to be equal in all facts of a pass.
     pub(crate) fn join(&mut self, edge: &NumberedFacts, fresh: usize)
         ensures { IsJoin fresh self.old edge.now self.new }
     {

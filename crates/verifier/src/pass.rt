@@ -42,11 +42,11 @@ pub(crate) struct Pass {
     taken: NumberedFacts,
 }
 
-/// Joins the facts on the jumping edge of a comparison of `dst` with `src` into those that `entries` has for `target`. This is a slot of
-/// the program, since the program's shape has no fault; for `None`, a jump to below slot 0, nothing is joined. `jumps` has the
-/// operands' ranges on this edge; if `jumps` is `None`, the edge can't be taken, and nothing is done. `hand` has the facts before the jump.
-/// Only the operands' ranges in `hand` change, to `jumps`; the caller then sets those of the falling edge. Each group of eight stack slots
-/// at the target that the join changes gets the new number `fresh`. The error is out of memory.
+/// Joins the facts on the jumping edge of a comparison of `dst` with `src` into those that `entries` has for `target`, a slot of the
+/// program, since the program's shape has no fault. For `None`, a jump to below slot 0, nothing is joined. `hand` has the facts before the
+/// jump; only the operands' ranges in `hand` change, to `jumps`, their ranges on the jumping edge, and the caller then sets those of the
+/// falling edge. If `jumps` is `None`, the edge can't be taken, and nothing is done. Each group of eight stack slots at the target that the
+/// join changes gets the new number `fresh`. The error is out of memory.
 #[inline(always)]
 fn send_compared(
     hand: &mut NumberedFacts,
@@ -79,11 +79,11 @@ struct Compared {
     src: Operand,
 }
 
-/// Passes the facts in `hand`, those before a jump by a comparison, along its two edges. `falls` and `jumps` have the operands' ranges on
-/// the falling and on the jumping edge; they are `None` if the edge can't be taken. The facts on the jumping edge are joined into those
-/// that `entries` has for `target`, a slot of the program; a `target` of `None` gets none. Each group of eight stack slots there that the
-/// join changes gets the new number `fresh`. Then `hand` has the facts on the falling edge. Returns whether this edge can be taken; if not,
-/// nothing is promised of `hand`. The error is out of memory.
+/// Passes the facts in `hand`, those before a jump that compares the operands `compared`, along its two edges. `falls` and `jumps` have the
+/// ranges of the operands on the falling and on the jumping edge, each `None` if this edge can't be taken. The facts on the jumping edge
+/// are joined into those that `entries` has for `target`, a slot of the program; nothing is joined if `target` is `None`. Each group of
+/// eight stack slots that the join changes gets the new number `fresh`. Then `hand` has the facts on the falling edge. Returns whether the
+/// falling edge can be taken; if not, nothing is promised of `hand`. The error is out of memory.
 #[inline(always)]
 fn leave_comparison(
     hand: &mut NumberedFacts,
@@ -141,7 +141,8 @@ fn leave_null_test(
 /// Joins the facts on the jumping edge of `flow` into those that `entries` has for `target`, or nothing if `target` is `None` or the edge
 /// is never taken. `target` is a slot of the program, as the program's shape has no fault. Changes `hand` from the facts after the
 /// instruction at `slot` to those on the falling edge. Returns whether this edge can be taken: `false` after an exit, a jump that is always
-/// taken, and a comparison that always holds; `hand` means nothing then. `taken` is space for a null test. The error is out of memory.
+/// taken, and a comparison that always holds; `hand` means nothing then. `taken` is space for a null test. Groups of eight stack slots get
+/// new numbers: `8 * slot + 4` and `+ 5` on the edges of a null test, `+ 6` by a join at `target`. The error is out of memory.
 #[inline(always)]
 fn leave_by(
     hand: &mut NumberedFacts,
@@ -190,11 +191,11 @@ fn leave_by(
     }
 }
 
-/// Passes the facts after the instruction at `slot`, which are in `hand`, along the edges of its `flow`: those on the jumping edge are
-/// joined into those that `entries` has for the jump's target, those on the falling edge are then in `hand`. Returns whether the falling
-/// edge can be taken; if not, `hand` means nothing afterwards. `taken` is space for the facts on the jumping edge of a null test. The
-/// target is not computed for a flow that has only the falling edge; it is a slot of the program, as its shape has no fault. The error is
-/// out of memory.
+/// Passes the facts after the instruction at `slot`, which are in `hand`, along the edges of its `flow`. The facts on the jumping edge are
+/// joined into those that `entries` has for the jump's target, a slot of the program, as the program's shape has no fault; then `hand` has
+/// the facts on the falling edge. Returns whether the falling edge can be taken; if not, `hand` means nothing afterwards. `taken` is space
+/// for the facts on the jumping edge of a null test. A flow that has only the falling edge needs no target, so none is computed. The error
+/// is out of memory.
 #[inline(always)]
 fn leave(
     hand: &mut NumberedFacts,
@@ -226,11 +227,11 @@ fn leave(
     }
 }
 
-/// Passes the facts before the instruction at `slot`, which are in `hand`, to the watcher, and then changes `hand` to the facts on the
-/// falling edge. Returns whether this edge can be taken; if not, `hand` means nothing then. If the instruction may jump, the facts on
-/// the jumping edge are joined into those that `entries` has for the jump's target. The target is a slot of the program (`lands`), since
-/// the program's shape has no fault. The error is why the instruction may not be run with the facts before it, or out of memory. `named`
-/// has the program's maps, and `taken` is space for a null test.
+/// Passes the facts before the instruction at `slot`, which are in `hand`, to the watcher, and then changes `hand`, by the transfer
+/// function (`apply`), to the facts on the falling edge. The facts on the jumping edge, if there is one, are joined into those that
+/// `entries` has for the jump's target, a slot of the program (`lands`). Returns whether the falling edge can be taken; if not, nothing is
+/// promised of `hand`. The error is why the instruction may not be run with the facts before it, or out of memory. `named` lists the
+/// objects that descriptors name, and `taken` is space for the facts on the jumping edge of a null test.
 #[inline(always)]
 fn run_past<W: Watcher>(
     hand: &mut NumberedFacts,
@@ -294,11 +295,11 @@ impl Pass {
         self.entries.clear();
     }
 
-    /// Passes the facts before the instruction at `slot` to the watcher; they are in `falling` at the call. Afterwards `falling` has those
-    /// on the falling edge, or none if this edge can't be taken. If the instruction may jump, the facts on its jumping edge are joined into
-    /// those that `entries` has for the target, which is a slot of the program, as the shape has no fault. If `falling` has no facts at the
-    /// call, no run reaches the instruction, and nothing is done. The error is why the instruction may not be run with these facts, or out
-    /// of memory. `named` has the program's maps.
+    /// The step of the pass at the instruction at `slot`. At the call `falling` has the facts before the instruction, which the watcher
+    /// gets. Afterwards `falling` has those on the falling edge, or none if this edge can't be taken. If the instruction may jump, the
+    /// facts on its jumping edge are joined into those that `entries` has for the target, which is a slot of the program, as the shape has
+    /// no fault. If `falling` has no facts at the call, no run reaches the instruction, and nothing is done. The error is why the
+    /// instruction may not be run with these facts, or out of memory. `named` has the program's maps.
     #[inline(always)]
     fn go_past<W: Watcher>(
         &mut self,
@@ -334,11 +335,12 @@ impl Pass {
         Ok(())
     }
 
-    /// Joins the facts on jumps to `slot` into `falling`, which has those on the falling edge to it, and calls `go_past` for `insn`, the
-    /// instruction there. `go_past` passes the joined facts to the watcher, changes them to those on the falling edge out of `insn`, and
-    /// joins those on its jumping edge into the ones that `entries` has for the jump's target, a slot of the program. The error is why the
-    /// instruction may not be run with the joined facts, or out of memory. `named` has the program's maps. The proof needs `absorb` and
-    /// `numbered`: by them, a join of `NumberedFacts` leaves out only joins of stack slots that would change nothing.
+    /// Takes the pass past `insn`, the instruction at `slot`. First the facts on jumps to `slot` are joined into `falling`, which has the
+    /// facts on the falling edge to `slot`. Then `go_past` passes the joined facts to the watcher, leaves the facts on the falling edge out
+    /// of `insn` in `falling`, and joins the facts on the jumping edge out of `insn` into those that `entries` has for the jump's target, a
+    /// slot of the program. The error is why the instruction may not be run with the joined facts, or out of memory. `named` has the
+    /// program's maps. The proof needs `absorb` and `numbered`: by them, a join of `NumberedFacts` leaves out only joins of stack slots
+    /// that would change nothing.
     fn step<W: Watcher>(
         &mut self,
         named: &[Named],

@@ -45,8 +45,8 @@ fn is_unknown_helper(reference: Reference) -> bool
     }
 }
 
-/// Whether an instruction loads the address of a map's value without a call, and may not, by `has_direct_value` of the map and the offset.
-/// `false` also if the descriptor names no map, which is another fault.
+/// Whether an instruction directly loads the address of a byte in a map's value, and may not: the map is no array of one element, or the
+/// offset is outside its value (`has_direct_value`). `false` also if the descriptor names no map, which is another fault.
 fn is_no_value(named: &[Named], reference: Reference) -> bool
     ensures { result ≡ is_no_value named.now reference }
 {
@@ -118,8 +118,8 @@ fn is_simple(row: &Profile, next: usize, slots: usize, paths: &Paths) -> bool
     }
 }
 
-/// The first fault of shape of the instruction at `slot`, by all checks; `None` if there is none. `row` has its properties, and
-/// `is_reached` is whether the slot can be reached.
+/// The first fault of shape of `insn`, the instruction at `slot`, by all checks; `None` if there is none. `row` has the properties of
+/// `insn`, and `is_reached` is whether `slot` can be reached from slot 0.
 #[inline(always)]
 fn reason_against(
     program: &Program,
@@ -149,9 +149,9 @@ fn reason_against(
     }
 }
 
-/// Makes all checks of shape of the instruction at `slot`. The error is its first fault. An instruction without a fault is added to
-/// `paths`, the counts on the paths that lead to it; if it may jump, the counts with it are joined into those of its target in `jumping`.
-/// `jumping` has, by slot, the most instructions and calls on the paths that end with a jump there.
+/// Checks the instruction at `slot` by all rules of shape. The error is the first fault. Without a fault, the instruction is added to the
+/// counts in `paths`, the most instructions and calls on the paths that lead to `slot`. If the instruction may jump, the new counts are
+/// joined into those of its target in `jumping`, which has, by slot, the counts on the paths that end with a jump there.
 #[inline(always)]
 fn pass_checked(
     program: &Program,
@@ -181,10 +181,10 @@ fn pass_checked(
     }
 }
 
-/// Adds the instruction at `slot`, with the properties `row`, to `paths`, the counts on the paths that lead to this slot, or returns its
-/// first fault of shape. A simple instruction (`is_simple`) has no such fault, and is not checked. `jumping` has, by slot, the most
-/// instructions and calls on the paths that end with a jump to this slot. If the instruction may jump, the counts with it are joined into
-/// those of its target in `jumping`.
+/// Checks the shape of the instruction at `slot`, whose profile is `row`. The error is the instruction's first fault of shape. An
+/// instruction without a fault is added to `paths`, the counts on the paths that lead to `slot`; a simple instruction (`is_simple`) is
+/// added unchecked, since no such instruction has a fault. `jumping` has, for each slot, the most instructions and calls on the paths that
+/// end with a jump to that slot; if the instruction may jump, the counts with the instruction are joined into those for its target.
 #[inline(always)]
 fn pass(
     program: &Program,

@@ -98,7 +98,7 @@ fn keep_all(facts: &mut [Option<Box<NumberedFacts>>], spare: &mut Vec<Box<Number
 }
 
 impl TargetFacts {
-    /// No facts on jumps.
+    /// An empty list: no jump has led to a slot yet, and there is no spare box. Allocates nothing.
     pub(crate) fn new(alloc: Global) -> TargetFacts
         ensures { result ≡ [] }
     {
@@ -116,9 +116,9 @@ impl TargetFacts {
         self.facts.clear();
     }
 
-    /// Joins the facts on the jumps to `slot` into `known`, those on the falling edge to it, and empties the entry of the slot; its box
-    /// becomes a spare one. Nothing is done if the slot has no facts. Each group of eight stack slots that a join changes gets the new
-    /// number `fresh`. The error is out of memory for the list of spare boxes.
+    /// Joins the facts on the jumps to `slot` into `known`, the facts on the falling edge to `slot`. Nothing is done if no facts are stored
+    /// for the slot. Each group of eight stack slots that the join changes gets the new number `fresh`. Then the entry of the slot is
+    /// empty, and its box is kept for reuse. The error is out of memory for the list of spare boxes.
     pub(crate) fn join_at(
         &mut self,
         slot: usize,

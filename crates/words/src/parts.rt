@@ -11,7 +11,7 @@ pub(crate) fn low_byte(a: u64) -> u8
     (a % 0x100) as u8
 }
 
-/// The low 16 bits of a word, a half word as in `AccessSize::Half`. The low half of 64 bits is `low_word`.
+/// The low 16 bits of a word. In `words32` the low half of a word is not these, but its low 32 bits (`low_word`).
 #[inline(always)]
 pub(crate) fn low_16_bits(a: u64) -> u16
     ensures { result ≡ low 16 a }

@@ -82,8 +82,8 @@ pub fn signed_divide(a: u64, b: u64) -> u64
     }
 }
 
-/// The remainder of the signed quotient of the low halves, with the sign of the dividend; the low half of `a` if the divisor is 0. -2^31
-/// divided by -1 leaves 0.
+/// The remainder of the signed quotient of the low halves, with the sign of the dividend, in two's complement of 32 bits; the low half of
+/// `a` if the divisor is 0. -2^31 divided by -1 leaves 0. The upper half of the result is 0.
 #[inline(always)]
 pub fn signed_remainder(a: u64, b: u64) -> u64
     ensures { result ≡ signed_remainder 32 (low 32 a) (low 32 b) }

@@ -91,7 +91,8 @@ UpdatesNamed site (Some pair) flags answer = Updates site pair flags answer
 
 -- ---- a deletion
 
--- what a deletion returns for its outcome: 0, or the number of the fault's error, negated
+-- the word that a call for a deletion returns for its outcome: 0, or for a fault the number of its
+-- error, negated modulo 2 ^ 64
 abbrev pub removal_word : Result (Unit {0}) MapFault → ℕ
 removal_word (Ok done) = 0
 removal_word (Err fault) = negative (errno fault)

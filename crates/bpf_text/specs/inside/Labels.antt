@@ -42,8 +42,9 @@ FindsLabels lines labels n =
 
 -- ---- a line's fault and instruction, given the definitions that are kept
 
--- the index of the line with the definition that is kept for a label. If none is kept, `line`, the
--- index of the line that is checked, so that `label_fault` finds no earlier definition
+-- the index of the line that defines a label, by the definition that is kept for the label. Without
+-- one the result is `line`, the index of the line that is checked, so that `label_fault` finds no
+-- earlier definition
 abbrev pub kept_line : Option LineStart → ℕ → ℕ
 kept_line None line = line
 kept_line (Some definition) line = definition.line

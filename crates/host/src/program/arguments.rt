@@ -38,7 +38,8 @@ enum Task<'m, 'a> {
     Verify { maps: Option<&'m [&'a str]> },
 }
 
-/// The number of tenants in decimal digits. `None` if `digits` is no decimal number, or this number is not from 1 to `MOST_TENANTS`.
+/// The number of tenants that `digits` gives in decimal. `None` if `digits` is no decimal number, or the number is not from 1 to
+/// `MOST_TENANTS`.
 fn tenant_count(digits: &str) -> Option<usize>
     ensures { result ≡ tenant_number digits.now }
 {
@@ -128,9 +129,9 @@ fn chosen_task<'m, 'a>(matches: &'m ArgMatches<'a>) -> Option<Task<'m, 'a>>
     task_named(name, options)
 }
 
-/// Serves the input's frames and writes the replies. `Seed` if there is no seed, before anything is read; `Memory` if out of memory; else
-/// it fails like `serve_frames`. No failure has status 2, that of wrong arguments. It consumes the streams, so what was read and written,
-/// and which fault came, is only in the contract of `serve_frames`.
+/// Serves the input's frames and writes the replies. Fails with `Seed` if there is no seed, before anything is read, with `Memory` if out
+/// of memory, or as `serve_frames` fails. No failure has status 2, that of wrong arguments. The streams are consumed, so only the contract
+/// of `serve_frames` has what is read and written, and which fault occurs.
 fn serve_streams<I: Read + Drop, O: Write + Drop>(
     alloc: Global,
     seed: Option<HashSeed>,
@@ -181,9 +182,9 @@ fn maps_given(alloc: Global, arguments: Option<&[&str]>) -> Result<Vec<Named>, F
 }
 
 /// Reads the map arguments (`None`: no argument) and the input, and writes the verdict on the input's program. Returns the exit status: 0
-/// if the program is accepted with these maps, else 1. It fails like `maps_given` or `judge`. A failure has status 2 only if a map argument
-/// is wrong; for a wrong one the failure is of status 2 or out of memory. It consumes the streams, so only the contract of `judge` says
-/// what is read and written, and how `judge` fails.
+/// if the program is accepted with these maps, else 1. The function fails like `maps_given` or `judge`. If a map argument is wrong, the
+/// failure has status 2 or is out of memory; no other failure has status 2. The function consumes the streams, so only the contract of
+/// `judge` states what is read and written, and how `judge` fails.
 fn judge_streams<I: Read + Drop, O: Write + Drop>(
     alloc: Global,
     arguments: Option<&[&str]>,
@@ -206,9 +207,9 @@ fn judge_streams<I: Read + Drop, O: Write + Drop>(
 }
 
 /// Runs the subcommand that the arguments name, and returns the exit status: 1 if `verify` rejects a program, else 0. Every other end is a
-/// `Failure`; its exit status is 2 only if the arguments name no task or a map argument is wrong (`wrong`). Such arguments give a failure
-/// of this status, or `Memory` (`refused`). The arguments are those after the name of the program. Only `serve` needs `seed`: it fails with
-/// `Seed` if that is `None`.
+/// `Failure`. If the arguments name no task, or a map argument is wrong, the failure has exit status 2 or is `Memory` (`refused`); no other
+/// failure has status 2 (`wrong`). The arguments are those after the name of the program. Only `serve` needs a seed: it fails with `Seed`
+/// if `seed` is `None`.
 fn run<I: Read + Drop, O: Write + Drop>(
     alloc: Global,
     seed: Option<HashSeed>,
@@ -238,11 +239,11 @@ fn run<I: Read + Drop, O: Write + Drop>(
     }
 }
 
-/// Runs the program on its arguments, those after its name, and returns its exit status: 1 if the input or its program is
-/// rejected, 2 if arguments are wrong, 3 if input or output failed, or if there is no seed for the maps of `serve`, 4 if out of
-/// memory, else 0. A fault is one line on `faults`; if that line can't be written, the status is still the fault's. `seed` is
-/// `None` if none could be drawn; only `serve` needs it. With status 0 for `verify` the input has a program that is accepted with
-/// the maps of the arguments, if contracts know the bytes of the input (`accepted`).
+/// Runs bpfhost on its arguments, those after its name, and returns its exit status: 1 if the input or the program in it is rejected, 2 if
+/// arguments are wrong, 3 if input or output failed, or if there is no seed for the maps of `serve`, 4 if out of memory, else 0. A fault is
+/// one line on `faults`; if that line can't be written, the status is still the fault's. `seed` is `None` if none could be drawn; only
+/// `serve` needs it. `accepted`: after status 0 for `verify`, the input has a program that is accepted with the maps of the arguments;
+/// nothing is promised of a reader whose bytes contracts do not know.
 pub fn run_words<I: Read + Drop, O: Write + Drop, F: Write + Drop>(
     alloc: Global,
     seed: Option<HashSeed>,

@@ -5,7 +5,7 @@ ghost use Rattle.std.specs.Char.{is_ascii_digit};
 ghost use Rattle.std.specs.List.{list_all};
 ghost use Rattle.host.specs.program.Decimal.{decimal_number};
 
-/// Whether each byte of a text is a decimal digit. It is so in the empty text, which `parse` rejects.
+/// Whether each byte of a text is a decimal digit; true for the empty text, for which `decimal` gets an error from `parse`.
 fn is_digits(text: &str) -> bool
     ensures { result ≡ list_all is_ascii_digit text.now }
 {

@@ -113,7 +113,7 @@ impl From<clap::Error> for Failure {
     fn from(error: clap::Error) -> Failure {
         match error.kind() {
             ErrorKind::OutOfMemory => Failure::Memory,
-            // Clap reports a request for help or the version as an error, too. It is wrong here: `bpfhost` has no such options.
+            // A request for help or for the version is an error of clap, too, and counts as wrong arguments: `bpfhost` has no such options.
             _ => Failure::WrongArguments,
         }
     }

@@ -50,7 +50,7 @@ fn verdict_line(alloc: Global, refusal: Option<Refusal>) -> Result<String, Alloc
     }
 }
 
-/// The exit status of a run that wrote a verdict: 0 if the program is accepted, which has no refusal, else 1.
+/// The exit status of `verify` after a verdict is written: 0 if the program is accepted (`refusal` is `None`), 1 if the slots are rejected.
 pub(crate) fn verdict_status(refusal: Option<Refusal>) -> u8
     ensures { result ≡ judgement_status refusal }
 {

@@ -43,8 +43,9 @@ fault_in_form f s rest =
 abbrev pub IsFaultOf : OpcodeForm → SlotFields → FaultKind → Type 0
 IsFaultOf f s kind = (rest : List ℕ) → fault_in_form f s rest ≡ Some kind
 
--- the fault of a first slot whose opcode has this form, with the bytes after it; Opcode if the
--- form is None, since the opcode has none. The result is None if an instruction begins there
+-- the fault of an instruction's first slot s, if its opcode has this form and the bytes `rest`
+-- follow the slot. It is Opcode if the opcode has no form (None). The result is None if an
+-- instruction begins at s
 abbrev pub fault_by_form : Option OpcodeForm → SlotFields → List ℕ → Option FaultKind
 fault_by_form None s rest = Some Opcode
 fault_by_form (Some f) s rest = fault_in_form f s rest

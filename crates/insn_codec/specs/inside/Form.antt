@@ -124,10 +124,11 @@ offset_listed wide Mov Reg offset =
     offset == 0 || offset == 8 || offset == 16 || (wide && offset == 32)
 offset_listed wide op source offset = offset == 0
 
--- whether each field of a first slot has a value that its form lists; otherwise the fault is
--- `Reserved`. An unused field is 0 (section 3.1). A register that is used may have any number, as
--- one above 10 is another fault, `Register`. This project's own choice: of calls only helpers by
--- their numbers (src 0), of wide loads only numbers, maps and values of maps (src 0 to 2)
+-- whether each field of a first slot has a value that its form allows; otherwise the fault is
+-- `Reserved`. An unused field is 0 (section 3.1). The number of a used register is not tested here,
+-- since one above 10 has a fault of its own, `Register`. This project's own choice: of calls only
+-- those of helpers by their numbers (src 0), of wide loads only those of numbers, maps and values
+-- of maps (src 0 to 2)
 abbrev pub listed : OpcodeForm → SlotFields → Bool
 listed (form.Alu wide op source) s = one_operand source s && offset_listed wide op source s.offset
 listed (form.Neg wide) s = s.src == 0 && s.offset == 0 && s.imm == 0

@@ -136,7 +136,8 @@ fn write_touched(text: &mut String, verb: &str, first: i64, last: i64) -> Result
     write_byte_range(text, first, last)
 }
 
-/// Writes which bytes the instruction reads, writes or changes (`verb`), not all of which lie in the stack.
+/// Writes that the instruction reads, writes or changes (`verb`) the bytes from `first` to `last`, both included, by their offsets from the
+/// stack's upper end; and which bytes the stack has, since not all bytes from `first` to `last` lie in the stack.
 pub(crate) fn write_outside_stack(
     text: &mut String,
     verb: &str,
@@ -147,8 +148,9 @@ pub(crate) fn write_outside_stack(
     write!(text, " of the stack, whose bytes are -{STACK_SIZE} to -1")
 }
 
-/// The first and the last of the stack bytes from `first` to `last` that may be unwritten; bytes between these two may be written. With the
-/// reason `UnwrittenStack` at least one byte may be unwritten. If none may be, both arguments are returned.
+/// The first and the last of the stack bytes from `first` to `last` that may be unwritten, as offsets from the stack's upper end (-1 is the
+/// highest byte). Bytes between the two results may be written. If no byte may be unwritten, which the reason `UnwrittenStack` excludes,
+/// both arguments are returned.
 fn unwritten(facts: &Facts, first: i64, last: i64) -> (i64, i64) {
     let mut lowest = None;
     let mut highest = last;
@@ -163,8 +165,8 @@ fn unwritten(facts: &Facts, first: i64, last: i64) -> (i64, i64) {
     (lowest.unwrap_or(first), highest)
 }
 
-/// Writes which of the stack bytes from `first` to `last` may be unwritten, as the range from the first such byte to the last
-/// (`unwritten`), and why the bytes of this range are missing (`write_way`).
+/// Writes which of the stack bytes from `first` to `last`, offsets from the stack's upper end, may be unwritten, as the range from the
+/// first such byte to the last (`unwritten`). Then writes why bytes of this range are missing (`write_way`).
 pub(crate) fn write_unwritten(
     text: &mut String,
     refusal: &RefusedProgram<'_>,
@@ -292,8 +294,9 @@ fn write_given(
     }
 }
 
-/// Writes the wrong offset of an atomic operation in a map's value: it is no multiple of the operation's size, or it is not known, and then
-/// its range is written. `pointer` is what is known of the operation's base register.
+/// Writes why the offset of `access`, an atomic operation in a map's value, is rejected. If the offset is known, it is no multiple of the
+/// operation's size; otherwise the range of the offset is written, and that one offset has to be known. `pointer` is what is known of the
+/// operation's base register.
 fn write_unaligned_atomic(
     text: &mut String,
     access: Access,
@@ -313,8 +316,9 @@ fn write_unaligned_atomic(
     }
 }
 
-/// Writes what is known of an access to the stack bytes from `first` to `last`, against what it needs. The reason of the last two arms is
-/// `PartOfSpill`: a store breaks that rule by the pointer that it stores, a load or an atomic operation by the spill that it reads.
+/// Writes why an access to the stack bytes from `first` to `last`, offsets from the stack's upper end, is rejected: what the access does,
+/// and which rule forbids it. The reason of the last two arms is `PartOfSpill`: a store breaks that rule by the pointer that it stores, a
+/// load or an atomic operation by the spill that it reads.
 fn write_stack_need(
     text: &mut String,
     refusal: &RefusedProgram<'_>,

@@ -46,8 +46,8 @@ fn write_backward(
     write!(text, "it leads to slot {target}, and jumps go forward only")
 }
 
-/// The descriptor by which an instruction names a map; 0 if it has none. Callers write about a rejection for what a descriptor names, so
-/// the instruction has one.
+/// The descriptor by which an instruction names a map; 0 if it names none. It always names one, since callers write about a fault of its
+/// descriptor: not open, no map, or no direct value.
 fn fd_of(insn: &Insn) -> u32 {
     insn.profile().reference.descriptor().unwrap_or(0)
 }
@@ -108,7 +108,8 @@ fn write_no_value(text: &mut String, named: &[Named], insn: &Insn) -> Result<(),
     }
 }
 
-/// Writes what is wrong with an instruction, whatever the registers hold. The reason of the last arm is `NoDirectValue`.
+/// Writes what is wrong with the rejected instruction `insn`. The reason is one of shape, as the caller has tested (`is_of_shape`), so it
+/// does not depend on what the registers hold. The arm `_` is for the reason `NoDirectValue`.
 pub(crate) fn write_need(
     text: &mut String,
     refusal: &RefusedProgram<'_>,

@@ -100,8 +100,8 @@ leading_name (name n ∷ ts) = Some (n, ts)
 leading_name (number v ∷ ts) = None
 leading_name (symbol t ∷ ts) = None
 
--- the value of the first token, if it is a number (the value is `None` from 2 ^ 64 on), and the
--- tokens after it; `None` if it is no number
+-- the value of the first token, if it is a number, and the tokens after it; the value is `None`
+-- from 2 ^ 64 on. The result is `None` if the list is empty or begins with another token
 abbrev pub leading_number : List Token → Option (Option ℕ × List Token)
 leading_number [] = None
 leading_number (name n ∷ ts) = None

@@ -5,7 +5,7 @@ use Rattle.text_line.specs.declared.token.Token.{Token as CodeToken}
 use Rattle.text_line.specs.declared.token.Token.TheVariants as code
 use Rattle.text_line.specs.Token.{Token, name, number, symbol}
 
--- the token that one of the code represents
+-- the token of the specifications that a token of the code (`CodeToken`) represents
 abbrev pub shown : CodeToken → Token
 shown (code.Name n) = name n.now
 shown (code.Number v) = number v

@@ -191,10 +191,10 @@ falls_settled site jumps_on_null n x = settled site (not jumps_on_null) (8 * n +
 abbrev pub jumps_settled : ℕ → Bool → ℕ → NumberedFacts → NumberedFacts
 jumps_settled site jumps_on_null n x = settled site jumps_on_null (8 * n + 4) x
 
--- the facts on the falling edge out of an instruction, None if this edge is never taken. The flow
--- is the edges that control may take after the instruction, with what holds on only one of them; x
--- are the facts that the verifier has after the instruction, which hold on both. `fresh` is the new
--- number that a null test gives all groups of eight stack slots
+-- the facts on the falling edge out of an instruction; None if control never takes this edge. The
+-- flow, which the transfer function returns, is the edges out of the instruction, with what holds
+-- on only one of them. x has the facts after the instruction that hold on each of its edges. After
+-- a null test all groups of eight stack slots have the new number `fresh`
 abbrev pub on_falling_edge : Flow → ℕ → NumberedFacts → Option NumberedFacts
 on_falling_edge Ends fresh x = None
 on_falling_edge Falls fresh x = Some x
@@ -206,10 +206,10 @@ on_falling_edge (Compares dst src falls jumps) fresh x = option_map (with_ranges
 on_falling_edge (Settles site jumps_on_null) fresh x =
     Some (settled site (not jumps_on_null) fresh x)
 
--- the facts on the jumping edge out of an instruction, None if this edge is never taken. The flow
--- is the edges that control may take after the instruction, with what holds on only one of them; x
--- are the facts that the verifier has after the instruction, which hold on both. `fresh` is the new
--- number that a null test gives all groups of eight stack slots
+-- the facts on the jumping edge out of an instruction, None if this edge is never taken. x are the
+-- facts after the instruction, as far as they hold on both edges. The flow adds what holds on one
+-- edge only: ranges after a comparison (`Compares`), or whether the result of a look-up is null
+-- (`Settles`). `fresh` is the new number that a null test gives all groups of eight stack slots
 abbrev pub on_jumping_edge : Flow → ℕ → NumberedFacts → Option NumberedFacts
 on_jumping_edge Ends fresh x = None
 on_jumping_edge Falls fresh x = None

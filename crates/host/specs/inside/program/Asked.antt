@@ -13,7 +13,8 @@ abbrev pub texts_given : Option (Bor (List (Bor Text))) → List Text
 texts_given None = []
 texts_given (Some arguments) = texts arguments.now
 
--- the `Asked` of the definitions that a `Task` of the code represents
+-- the task that the arguments name, as the definitions have it (`Asked`), from the task of the code
+-- (`Task`): to serve tenants, to assemble or disassemble, or to verify with the map arguments
 abbrev pub asked_by : Task → Asked
 asked_by (task.Serve tenants) = Serves tenants
 asked_by (task.Rewrite made) = Rewrites made

@@ -31,7 +31,7 @@ pub(crate) fn bound(bind: &[MapKey], word: u64) -> Option<MapKey>
 /// The handle of the bound map that a word names: 1 names the first of `bind`. The caller knows that the word names one (`named`), so there
 /// is no test.
 #[inline(always)]
-pub(crate) fn bound_inside(bind: &[MapKey], word: u64) -> MapKey
+pub(crate) fn bound_named(bind: &[MapKey], word: u64) -> MapKey
     requires named { IsSome (bound_map bind.now word) }
     ensures value { bound_map bind.now word ≡ Some result }
     ensures listed { (word - 1 < length bind.now) × (result ≡ slice_index bind.now (word - 1)) }

@@ -11,7 +11,7 @@ ghost use Rattle.bpf_helpers.specs.Parts.{IsPartOf, AsksInside};
 ghost use Rattle.bpf_helpers.specs.inside.Flat.{site_of, pair_there, Updates, UpdatesNamed};
 
 use crate::caller::Caller;
-use crate::look_up::{bound, bound_inside, traced_offset, traced_offset_inside};
+use crate::look_up::{bound, bound_named, traced_offset, traced_offset_inside};
 use arena::{Arena, Trace};
 use bpf_maps::{MapKey, Maps, laws};
 use tagged_model::MapFault;
@@ -145,7 +145,7 @@ pub(crate) fn update_inside(
         (answers result arena.new maps.new) }
     ensures asks { AsksInside arena.old caller.entry.tenant trace.old trace.new }
 {
-    let map = bound_inside(caller.bind, map);
+    let map = bound_named(caller.bind, map);
     let shape = maps.shape(map);
     let size = shape.key_size as usize;
     let key = traced_offset_inside(arena, caller.tenant, size, at.key, trace);

@@ -56,13 +56,13 @@ record IsWithout {A : Type 0} (k : ℕ) (xs : List (Option A)) : Type 0 where
 
 -- a list that has None at index k, at which xs has Some, and otherwise equals xs; so it has one
 -- Some less (`IsWithout`). For the induction of `enough_present`
-without_position : {A : Type 0} (k : ℕ) (xs : List (Option A))
+without_option_at : {A : Type 0} (k : ℕ) (xs : List (Option A))
     → IsSome (get_or xs k None)
     → IsWithout k xs
 unfolding total
-without_position k [] some = absurd (false≢true some)
-without_position zero (None ∷ xs) some = absurd (false≢true some)
-without_position zero (Some x ∷ xs) some = record {
+without_option_at k [] some = absurd (false≢true some)
+without_option_at zero (None ∷ xs) some = absurd (false≢true some)
+without_option_at zero (Some x ∷ xs) some = record {
   slots = None ∷ xs;
   fewer = omega arith;
   others = λ j. none_else j;
@@ -71,8 +71,8 @@ without_position zero (Some x ∷ xs) some = record {
     none_else : (j : ℕ) → j ≢ 0 → get_or (None ∷ xs) j None ≡ get_or (Some x ∷ xs) j None
     none_else zero h = absurd (h refl)
     none_else (suc j) h = refl
-without_position (suc k) (x ∷ xs) some =
-    let rest = without_position k xs some in
+without_option_at (suc k) (x ∷ xs) some =
+    let rest = without_option_at k xs some in
     record {
       slots = x ∷ rest.slots;
       fewer = let one = rest.fewer in omega arith;
@@ -93,7 +93,7 @@ enough_present : {A : Type 0} (n : ℕ) (at : ℕ → ℕ) (xs : List (Option A)
     → n ≤ total (λ x. 1) xs
 enough_present zero at xs used apart = omega arith
 enough_present (suc m) at xs used apart =
-    let rest = without_position (at m) xs (used m (omega arith)) in
+    let rest = without_option_at (at m) xs (used m (omega arith)) in
     let fewer = rest.fewer in
     let most = enough_present m at rest.slots
     (λ i lt.
@@ -138,18 +138,18 @@ live_within k tenant live = some_within k tenant.maps live
 
 -- if two lists of options have equal lengths, and None at equal indices, the first index with None,
 -- or the length if no index has None (`position_or_len`), is equal in both. For `same_lowest`
-same_front : {A B : Type 0} (xs : List (Option A)) (ys : List (Option B))
+same_first_none : {A B : Type 0} (xs : List (Option A)) (ys : List (Option B))
     → length xs ≡ length ys
     → ((k : ℕ) → is_some (get_or xs k None) ≡ is_some (get_or ys k None))
     → position_or_len is_none xs ≡ position_or_len is_none ys
-same_front [] [] long same = refl
-same_front [] (y ∷ ys) long same = absurd (omega arith)
-same_front (x ∷ xs) [] long same = absurd (omega arith)
-same_front (None ∷ xs) (None ∷ ys) long same = refl
-same_front (None ∷ xs) (Some y ∷ ys) long same = absurd (false≢true (same 0))
-same_front (Some x ∷ xs) (None ∷ ys) long same = absurd (true≢false (same 0))
-same_front (Some x ∷ xs) (Some y ∷ ys) long same =
-    ap (λ (n : ℕ). 1 + n) (same_front xs ys (omega arith) (λ k. same (suc k)))
+same_first_none [] [] long same = refl
+same_first_none [] (y ∷ ys) long same = absurd (omega arith)
+same_first_none (x ∷ xs) [] long same = absurd (omega arith)
+same_first_none (None ∷ xs) (None ∷ ys) long same = refl
+same_first_none (None ∷ xs) (Some y ∷ ys) long same = absurd (false≢true (same 0))
+same_first_none (Some x ∷ xs) (None ∷ ys) long same = absurd (true≢false (same 0))
+same_first_none (Some x ∷ xs) (Some y ∷ ys) long same =
+    ap (λ (n : ℕ). 1 + n) (same_first_none xs ys (omega arith) (λ k. same (suc k)))
 
 -- if two lists of options have one length, and Some at the same indices, the lowest index with None
 -- is equal in both; `position` is None if there is no such index
@@ -158,7 +158,7 @@ pub same_lowest : {A B : Type 0} (xs : List (Option A)) (ys : List (Option B))
     → ((k : ℕ) → is_some (get_or xs k None) ≡ is_some (get_or ys k None))
     → position is_none xs ≡ position is_none ys
 same_lowest xs ys long same =
-    ap₂ (λ (n len : ℕ). cond (nat_lt n len) (Some n) None) (same_front xs ys long same) long
+    ap₂ (λ (n len : ℕ). cond (nat_lt n len) (Some n) None) (same_first_none xs ys long same) long
 
 -- the lowest free handle is the same if the same handles have a map
 pub same_free_handle : (old new : LiveMaps)

@@ -114,7 +114,7 @@ impl SpareMaps {
     }
 
     /// The sum of the `max_entries` of the spare maps, which `has_room` and `excess` compare with `MOST_ENTRIES_TOGETHER`.
-    fn entries(&self) -> usize {
+    fn max_entries_sum(&self) -> usize {
         let mut sum: usize = 0;
         for at in 0..self.maps.len() {
             sum = sum.saturating_add(self.maps[at].shape().max_entries as usize);
@@ -126,12 +126,12 @@ impl SpareMaps {
     /// most `MOST_ENTRIES_TOGETHER`. Within these bounds a tenant takes no more memory than one whose hash maps are all live.
     fn has_room(&self, live: LiveHashMaps) -> bool {
         self.maps.len().saturating_add(live.maps) <= MAPS
-            && self.entries().saturating_add(live.entries) <= MOST_ENTRIES_TOGETHER
+            && self.max_entries_sum().saturating_add(live.entries) <= MOST_ENTRIES_TOGETHER
     }
 
     /// By how much the sum of the `max_entries` of the spare maps and of these live ones exceeds `MOST_ENTRIES_TOGETHER`; 0 if it does not.
     fn excess(&self, live: LiveHashMaps) -> usize {
-        let entries = self.entries().saturating_add(live.entries);
+        let entries = self.max_entries_sum().saturating_add(live.entries);
         entries.saturating_sub(MOST_ENTRIES_TOGETHER)
     }
 

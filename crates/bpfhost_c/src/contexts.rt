@@ -6,7 +6,7 @@
 ghost use Rattle.std.specs.Prelude.{◌≡◌, ◌≢◌, ◌*◌, ◌/◌, ◌%◌, ◌≤◌, length, true, is_some, nat_eq, IfOk, IfErr, IfSome};
 ghost use Rattle.std.specs.Cow.{cow_slice_items};
 ghost use Rattle.words.specs.Context.{given_words};
-ghost use Rattle.bpfhost_c.specs.Contexts.{fitted, fitted_all, has_known_words, have_known_words, contexts_of, contexts_code};
+ghost use Rattle.bpfhost_c.specs.Contexts.{fitted, fitted_all, is_zero_after_given, have_known_words, contexts_of, contexts_code};
 ghost use Rattle.bpfhost_c.specs.declared.codes.TheConstants.{DONE, ERR_NO_MEMORY};
 
 use crate::codes::{ERR_NO_MEMORY, ERR_SIZE, ERR_TOO_BIG};
@@ -66,8 +66,8 @@ fn fit_all(
 
 /// Whether all words of a context after the first `GIVEN_WORDS`, which are all that a run is given, are 0; true for a context with no more
 /// words.
-fn has_known_words(words: &[u32]) -> bool
-    ensures { result ≡ has_known_words words.now }
+fn is_zero_after_given(words: &[u32]) -> bool
+    ensures { result ≡ is_zero_after_given words.now }
 {
     if words.len() <= GIVEN_WORDS {
         return true;
@@ -91,7 +91,7 @@ fn are_known(words: &[u32], size: usize, count: usize) -> bool
     let mut rest = words;
     for _ in 0..count {
         let (context, after) = rest.split_at(size);
-        if !has_known_words(context) {
+        if !is_zero_after_given(context) {
             return false;
         }
         rest = after;

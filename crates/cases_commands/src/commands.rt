@@ -30,7 +30,12 @@ fn words_text(alloc: Global, words: [u32; GIVEN_WORDS]) -> Result<String, AllocE
 
 /// The text of a command whose fields are a number (`fd`: a descriptor, or the program type of a load) and bytes: the command's name, the
 /// number, and the bytes (`shown`) in brackets.
-fn fd_and_bytes(alloc: Global, name: &str, fd: u32, bytes: &[u8]) -> Result<String, AllocError> {
+fn number_and_bytes(
+    alloc: Global,
+    name: &str,
+    fd: u32,
+    bytes: &[u8],
+) -> Result<String, AllocError> {
     let bytes = shown(alloc, bytes)?;
     format!(in alloc; "{name} {fd} [{bytes}]")
 }
@@ -45,7 +50,7 @@ fn command_text(alloc: Global, command: Command<'_>) -> Result<String, AllocErro
             max_entries,
             flags,
         } => { format!(in alloc; "create {kind} {key_size} {value_size} {max_entries} {flags}") }
-        Command::MapLookup { fd, key } => fd_and_bytes(alloc, "lookup", fd, key),
+        Command::MapLookup { fd, key } => number_and_bytes(alloc, "lookup", fd, key),
         Command::MapUpdate {
             fd,
             flags,
@@ -54,9 +59,9 @@ fn command_text(alloc: Global, command: Command<'_>) -> Result<String, AllocErro
             let bytes = shown(alloc, key_and_value)?;
             format!(in alloc; "update {fd} {flags} [{bytes}]")
         }
-        Command::MapDelete { fd, key } => fd_and_bytes(alloc, "delete", fd, key),
-        Command::MapNextKey { fd, key } => fd_and_bytes(alloc, "next key", fd, key),
-        Command::ProgLoad { kind, slots } => fd_and_bytes(alloc, "load", kind, slots),
+        Command::MapDelete { fd, key } => number_and_bytes(alloc, "delete", fd, key),
+        Command::MapNextKey { fd, key } => number_and_bytes(alloc, "next key", fd, key),
+        Command::ProgLoad { kind, slots } => number_and_bytes(alloc, "load", kind, slots),
         Command::ProgTestRun { fd, words, packet } => {
             let words = words_text(alloc, words)?;
             let packet = shown(alloc, packet)?;

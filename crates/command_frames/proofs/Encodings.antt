@@ -15,7 +15,7 @@ use Rattle.command_frames.specs.declared.command.BadFrame.{BadFrame}
 use Rattle.command_frames.specs.declared.command.BadFrame.TheVariants.{TooLong, Unknown, Body}
 use Rattle.command_frames.specs.Command.{Command, map_create, map_lookup, map_update, map_delete, map_next_key, prog_load, prog_test_run, close}
 use Rattle.command_frames.specs.Command.{parsed, command_in, exactly, at_least, longest_frame, before_key_and_value, word_length, before_packet}
-use Rattle.command_frames.specs.Command.{word_at, long_at, words}
+use Rattle.command_frames.specs.Command.{word_at, long_at, words_in}
 use Rattle.command_frames.specs.Encoded.{command_code, body_of, frame_of, FitsFields}
 use Rattle.command_frames.specs.Frame.{head_length, owner}
 use Rattle.command_frames.specs.Laws.{EncodingInvertsParsing, FramesHaveOwners}
@@ -71,8 +71,8 @@ same_run a b ws vs packet other p q r = cc
 -- words are read from their bytes
 words_read : (n : ℕ) (ws packet : List ℕ)
     → length ws ≡ n → AllByRecursion (λ w. w < 2 ^ 32) ws
-    → words n (flat_map (little_bytes 4) ws ++ packet) ≡ ws
-unfolding words
+    → words_in n (flat_map (little_bytes 4) ws ++ packet) ≡ ws
+unfolding words_in
 words_read zero [] packet e small = refl
 words_read zero (w ∷ ws) packet e small = absurd (omega (arith, e))
 words_read (suc n) [] packet e small = absurd (omega (arith, e))
@@ -120,7 +120,7 @@ in_body (prog_test_run fd ws packet) (a, ten, small) =
     let size : length body ≡ 4 + length rest = omega arith in
     let later : drop 40 rest ≡ packet =
     ap (λ (k : ℕ). drop k rest) (let forty : 40 ≡ 4 * length ws = omega (arith, ten) in forty) ∙ after_words ws packet in
-    ap (λ (b : Bool). at_least_if b (prog_test_run (little_number 4 body) (words given_words rest) (drop 40 rest)))
+    ap (λ (b : Bool). at_least_if b (prog_test_run (little_number 4 body) (words_in given_words rest) (drop 40 rest)))
     (le-leb before_packet (length body) (omega (arith, words_long ws packet, ten, size)))
     ∙ ap (λ (c : Command). Ok c)
     (same_run _ fd _ ws _ packet (number_of_bytes fd rest a) (words_read given_words ws packet ten small) later)
@@ -221,30 +221,30 @@ long_small at bytes fits =
 
 -- ---- words of a context
 
-words_count : (n : ℕ) (bytes : List ℕ) → length (words n bytes) ≡ n
-unfolding words
+words_count : (n : ℕ) (bytes : List ℕ) → length (words_in n bytes) ≡ n
+unfolding words_in
 words_count zero bytes = refl
 words_count (suc n) bytes = ap suc (words_count n (drop 4 bytes))
 
-words_small : (n : ℕ) (bytes : List ℕ) → AreBytes bytes → AllByRecursion (λ w. w < 2 ^ 32) (words n bytes)
-unfolding words
+words_small : (n : ℕ) (bytes : List ℕ) → AreBytes bytes → AllByRecursion (λ w. w < 2 ^ 32) (words_in n bytes)
+unfolding words_in
 words_small zero bytes fits = tt
 words_small (suc n) bytes fits = (word_small 0 bytes fits, words_small n (drop 4 bytes) (dropped_are 4 bytes fits))
 
 words_encoded : (n : ℕ) (bytes : List ℕ)
     → AreBytes bytes → 4 * n ≤ length bytes
-    → bytes ≡ flat_map (little_bytes 4) (words n bytes) ++ drop (4 * n) bytes
-unfolding words
+    → bytes ≡ flat_map (little_bytes 4) (words_in n bytes) ++ drop (4 * n) bytes
+unfolding words_in
 words_encoded zero bytes fits long = refl
 words_encoded (suc n) bytes fits long =
     let four : 4 * suc n ≡ 4 + 4 * n = omega arith in
     let first : bytes ≡ little_bytes 4 (word_at 0 bytes) ++ drop 4 bytes = word_encoded_at 0 bytes fits (omega arith) in
-    let rest : drop 4 bytes ≡ flat_map (little_bytes 4) (words n (drop 4 bytes)) ++ drop (4 * n) (drop 4 bytes) =
+    let rest : drop 4 bytes ≡ flat_map (little_bytes 4) (words_in n (drop 4 bytes)) ++ drop (4 * n) (drop 4 bytes) =
     words_encoded n (drop 4 bytes) (dropped_are 4 bytes fits) (omega (arith, length-drop 4 bytes)) in
     first
     ∙ ap (λ (l : List ℕ). little_bytes 4 (word_at 0 bytes) ++ l)
     (rest
-    ∙ ap (λ (l : List ℕ). flat_map (little_bytes 4) (words n (drop 4 bytes)) ++ l)
+    ∙ ap (λ (l : List ℕ). flat_map (little_bytes 4) (words_in n (drop 4 bytes)) ++ l)
     (drop-drop (4 * n) 4 bytes ∙ ap (λ (k : ℕ). drop k bytes) (sym four)))
 
 -- ---- a frame that is parsed as a command has the bytes of this command
@@ -297,11 +297,11 @@ module _ (n : ℕ) (body : List ℕ) (fits : AreBytes body) where
     (word_small 0 body fits, long_small 4 body fits),
   )
 
-  run_is : n ≡ 10 → 44 ≤ length body → IsOf n body (Ok (prog_test_run (word_at 0 body) (words 10 (drop 4 body)) (drop 44 body)))
+  run_is : n ≡ 10 → 44 ≤ length body → IsOf n body (Ok (prog_test_run (word_at 0 body) (words_in 10 (drop 4 body)) (drop 44 body)))
   run_is number long =
-      let rest : drop 4 body ≡ flat_map (little_bytes 4) (words 10 (drop 4 body)) ++ drop 44 body =
+      let rest : drop 4 body ≡ flat_map (little_bytes 4) (words_in 10 (drop 4 body)) ++ drop 44 body =
       words_encoded 10 (drop 4 body) (dropped_are 4 body fits) (omega (arith, length-drop 4 body))
-      ∙ ap (λ (l : List ℕ). flat_map (little_bytes 4) (words 10 (drop 4 body)) ++ l) (drop-drop 40 4 body) in (
+      ∙ ap (λ (l : List ℕ). flat_map (little_bytes 4) (words_in 10 (drop 4 body)) ++ l) (drop-drop 40 4 body) in (
         number,
         word_encoded_at 0 body fits (omega arith) ∙ ap (λ (l : List ℕ). little_bytes 4 (word_at 0 body) ++ l) rest,
         (

@@ -2,7 +2,7 @@
 use Rattle.std.proofs.Common.{◌≡◌, ℕ, zero, suc, ◌+◌, ◌*◌, ◌<◌, List, [], ◌∷◌, length, take, drop, get_or, refl, sym, ap, ap₂, ◌∙◌, arith}
 use Rattle.std.proofs.lemmas.List.{get_or-take, get_or-drop, drop-drop}
 use Rattle.byteorder.specs.Endian.{little_number, IsRead}
-use Rattle.command_frames.specs.Command.{words}
+use Rattle.command_frames.specs.Command.{words_in}
 
 later : (k : ℕ) (bytes : List ℕ) → drop (4 * suc k) bytes ≡ drop (4 * k) (drop 4 bytes)
 later k bytes =
@@ -13,14 +13,14 @@ later k bytes =
 words_read : (n : ℕ) (bytes found : List ℕ)
     → length found ≡ n
     → ((k : ℕ) → k < n → get_or found k 0 ≡ little_number 4 (drop (4 * k) bytes))
-    → found ≡ words n bytes
-unfolding words
+    → found ≡ words_in n bytes
+unfolding words_in
 words_read zero bytes [] len each = refl
 words_read zero bytes (w ∷ ws) len each = absurd (omega arith)
 words_read (suc n) bytes [] len each = absurd (omega arith)
 words_read (suc n) bytes (w ∷ ws) len each =
     let first : w ≡ little_number 4 bytes = each 0 (omega arith) in
-    let rest : ws ≡ words n (drop 4 bytes) =
+    let rest : ws ≡ words_in n (drop 4 bytes) =
     words_read n (drop 4 bytes) ws (omega arith)
     (λ k lt. each (suc k) (omega arith) ∙ ap (little_number 4) (later k bytes)) in
     ap₂ (λ (x : ℕ) (xs : List ℕ). x ∷ xs) first rest
@@ -44,6 +44,6 @@ word_of_front bytes n at lt =
 pub words_in_front : (bytes found : List ℕ)
     → length found ≡ 10
     → IsRead little_number 4 (take 40 bytes) found
-    → found ≡ words 10 bytes
+    → found ≡ words_in 10 bytes
 words_in_front bytes found len read =
     words_read 10 bytes found len (λ k lt. read k (omega arith) ∙ word_of_front bytes 40 (4 * k) (omega arith))

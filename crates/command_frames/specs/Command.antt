@@ -74,9 +74,9 @@ long_at at body = little_number 8 (drop at body)
 
 -- the first n words of these bytes, each the little-endian number of four bytes; a body that does
 -- not have the words of a test run makes no command (`at_least`)
-unfoldable pub words : ℕ → List ℕ → List ℕ
-words zero bytes = []
-words (suc n) bytes = little_number 4 bytes ∷ words n (drop 4 bytes)
+unfoldable pub words_in : ℕ → List ℕ → List ℕ
+words_in zero bytes = []
+words_in (suc n) bytes = little_number 4 bytes ∷ words_in n (drop 4 bytes)
 
 -- the command if its body has exactly n bytes; Body if not
 abbrev pub exactly : ℕ → List ℕ → Command → Result Command BadFrame
@@ -108,7 +108,7 @@ command_in n body =
     at_least word_length body (prog_load (word_at 0 body) (drop word_length body)) else
     (if n == 10 then
     at_least before_packet body
-    (prog_test_run (word_at 0 body) (words given_words (drop word_length body))
+    (prog_test_run (word_at 0 body) (words_in given_words (drop word_length body))
     (drop before_packet body)) else
     (if n == 256 then exactly word_length body (close (word_at 0 body)) else Err Unknown)))))))
 

@@ -2,7 +2,7 @@
 
 ghost use Rattle.std.specs.Prelude.{◌≡◌, ◌≤◌, ◌+◌, length, drop};
 ghost use Rattle.byteorder.specs.Endian.{little_number};
-ghost use Rattle.command_frames.specs.Command.{command_in, context_length, word_length, words};
+ghost use Rattle.command_frames.specs.Command.{command_in, context_length, word_length, words_in};
 ghost use Rattle.command_frames.specs.Shown.{shown_result};
 ghost use Rattle.words.specs.Context.{given_words};
 
@@ -124,7 +124,7 @@ fn prog_load(body: &[u8]) -> Result<Command<'_>, BadFrame>
 /// length. The caller has tested that `bytes` is long enough.
 fn read_words(bytes: &[u8]) -> [u32; GIVEN_WORDS]
     requires { context_length ≤ length bytes.now }
-    ensures { result ≡ words given_words bytes.now }
+    ensures { result ≡ words_in given_words bytes.now }
 {
     let mut words = [0; GIVEN_WORDS];
     LittleEndian::read_u32_into(&bytes[..CONTEXT_LENGTH], &mut words);

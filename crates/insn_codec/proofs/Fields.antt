@@ -23,7 +23,7 @@ use Rattle.words.specs.Operate.{is_short}
 use Rattle.insn_set.specs.Numbers.{opcode, alu_class, jump_class, end_opcode, memory_opcode, offset_bits, imm_bits}
 use Rattle.insn_set.specs.Condition.{condition_number}
 use Rattle.words.specs.Operate.{extended_bits, kept_bits}
-use Rattle.insn_codec.specs.inside.Form.{listed, one_operand, offset_listed}
+use Rattle.insn_codec.specs.inside.Form.{fields_allowed, one_operand, offset_listed}
 use Rattle.insn_set.specs.Slot.{slot}
 use Rattle.insn_codec.proofs.Slots.{IsSlot}
 use Rattle.insn_set.specs.Spelling.{first, source_bit, src_field, imm_field, IsOperandUpTo, IsInsnUpTo}
@@ -49,12 +49,12 @@ one_operand-fields : (o : Operand) (op dst offset : ℕ) → one_operand (source
 one_operand-fields (operand.Imm n) op dst offset = refl
 one_operand-fields (operand.Reg r) op dst offset = refl
 
-bits_listed : (b : KeptBits) (op dst : ℕ) (how : ByteOrder) → listed (form.End how) (slot op dst 0 0 (kept_bits b)) ≡ true
+bits_listed : (b : KeptBits) (op dst : ℕ) (how : ByteOrder) → fields_allowed (form.End how) (slot op dst 0 0 (kept_bits b)) ≡ true
 bits_listed bits.Bits16 op dst how = refl
 bits_listed _ op dst how = refl
 
 -- each field of an instruction's first slot has a value that the instruction's form lists
-pub listed-first : (i : Insn) → listed (form_of i) (first i) ≡ true
+pub listed-first : (i : Insn) → fields_allowed (form_of i) (first i) ≡ true
 listed-first (Alu wide o dst src) =
     rw (one_operand-fields src (opcode (alu_number o) (source_bit src) (alu_class wide)) dst (alu_offset o)) (offset_listed-alu wide o src)
 listed-first (Movsx m) = offset_listed-movsx m.wide m.bits m.listed

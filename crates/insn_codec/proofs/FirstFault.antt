@@ -10,7 +10,7 @@ use Rattle.insn_codec.specs.declared.fault.FaultKind.{FaultKind}
 use Rattle.insn_codec.specs.declared.fault.FaultKind.TheVariants.{Opcode, Reserved, Register, SecondSlot, Ragged}
 use Rattle.insn_codec.specs.inside.OpcodeForm.{OpcodeForm}
 use Rattle.insn_codec.specs.inside.OpcodeForm as form
-use Rattle.insn_codec.specs.inside.Form.{form_at, listed}
+use Rattle.insn_codec.specs.inside.Form.{form_at, fields_allowed}
 use Rattle.insn_codec.specs.inside.FirstFault.{second_fault, fault_in_form, fault_by_form, first_fault}
 use Rattle.insn_set.specs.Slot.{slot_bytes}
 use Rattle.insn_set.specs.Slot.{slot_of}
@@ -36,17 +36,18 @@ record IsRead (bytes : List ℕ) (f : OpcodeForm) : Type 0 where
   long : 8 ≤ length bytes
   form : form_at (slot_of bytes).opcode ≡ Some f
 
-not_listed : {bytes : List ℕ} {f : OpcodeForm} → IsRead bytes f → listed f (slot_of bytes) ≡ false → HasFirstSlot 15 bytes → ⊥
+not_listed : {bytes : List ℕ} {f : OpcodeForm} → IsRead bytes f → fields_allowed f (slot_of bytes) ≡ false → HasFirstSlot 15 bytes → ⊥
 not_listed {bytes} {f} r unlisted h =
     let s = read_slot 15 bytes (lit≤ tt) (lit≤ tt) h in
     let f-is : f ≡ form_of h.0 = same_Some f (form_of h.0) (sym r.form ∙ ap (λ (x : SlotFields). form_at x.opcode) s ∙ form_at-first h.0) in
-    both_ways (listed f (slot_of bytes)) unlisted (ap (λ (g : OpcodeForm). listed g (slot_of bytes)) f-is ∙ ap (listed (form_of h.0)) s ∙ listed-first h.0)
+    both_ways (fields_allowed f (slot_of bytes)) unlisted
+    (ap (λ (g : OpcodeForm). fields_allowed g (slot_of bytes)) f-is ∙ ap (fields_allowed (form_of h.0)) s ∙ listed-first h.0)
 
 byte_opcode : (bytes : List ℕ) → IsBytes bytes → (slot_of bytes).opcode < 256
 byte_opcode bytes fits = omega (arith, fits 0, opcode-slot_of bytes)
 
 has_first_slot : {bytes : List ℕ} {f : OpcodeForm} (top : ℕ)
-    → IsRead bytes f → listed f (slot_of bytes) ≡ true
+    → IsRead bytes f → fields_allowed f (slot_of bytes) ≡ true
     → (slot_of bytes).dst ≤ top → (slot_of bytes).src ≤ top
     → HasFirstSlot top bytes
 has_first_slot {bytes} {f} top r ok dst src =
@@ -78,7 +79,7 @@ seen : (bytes : List ℕ) (found : FaultKind) → HasFault bytes found → IsRig
 seen bytes found h kind e = subst (HasFault bytes) (same_Some found kind e) h
 
 by_register : {bytes : List ℕ} {f : OpcodeForm}
-    → IsRead bytes f → listed f (slot_of bytes) ≡ true
+    → IsRead bytes f → fields_allowed f (slot_of bytes) ≡ true
     → (HasInsn bytes → ⊥)
     → IsRight bytes (cond (leb (slot_of bytes).dst 10 && leb (slot_of bytes).src 10) (second_fault f (slot_of bytes).src (drop 8 bytes)) (Some Register))
 by_register {bytes} {f} r ok none =
@@ -94,7 +95,7 @@ by_form : {bytes : List ℕ} {f : OpcodeForm} → IsRead bytes f → (HasInsn by
 unfolding fault_in_form
 by_form {bytes} {f} r none =
     let s = slot_of bytes in
-    cond_both (listed f s) (cond (leb s.dst 10 && leb s.src 10) (second_fault f s.src (drop 8 bytes)) (Some Register)) (Some Reserved) (IsRight bytes)
+    cond_both (fields_allowed f s) (cond (leb s.dst 10 && leb s.src 10) (second_fault f s.src (drop 8 bytes)) (Some Register)) (Some Reserved) (IsRight bytes)
     (λ ok. by_register r ok none) (λ unlisted. seen bytes Reserved (r.long, known bytes f (r.fits 0) r.form, not_listed r unlisted))
 
 by_opcode : (bytes : List ℕ)
@@ -115,13 +116,13 @@ has_fault bytes kind fits e =
 
 -- if the first slot has valid fields, the fault is that of the second slot
 pub fault_by_second : (f : OpcodeForm) (s t : SlotFields) (rest : List ℕ) (kind : FaultKind)
-    → s ≡ t → listed f s ≡ true
+    → s ≡ t → fields_allowed f s ≡ true
     → s.dst ≤ 10 → s.src ≤ 10
     → second_fault f t.src rest ≡ Some kind
     → fault_in_form f t rest ≡ Some kind
 unfolding fault_in_form
 fault_by_second f s t rest kind same ok dst src second =
-    let ok-t : listed f t ≡ true = ap (listed f) (sym same) ∙ ok in
+    let ok-t : fields_allowed f t ≡ true = ap (fields_allowed f) (sym same) ∙ ok in
     let dst-t : leb t.dst 10 ≡ true = ap (λ (x : SlotFields). leb x.dst 10) (sym same) ∙ le-leb _ _ dst in
     let src-t : leb t.src 10 ≡ true = ap (λ (x : SlotFields). leb x.src 10) (sym same) ∙ le-leb _ _ src in
     rw (ok-t, dst-t, src-t) second

@@ -30,7 +30,7 @@ use Rattle.insn_set.specs.RowLaws.{atomic_number_is}
 use Rattle.insn_set.specs.AtomicRows.{atomic_by_number}
 use Rattle.words.specs.Operate.{extended_bits, kept_bits}
 use Rattle.insn_codec.specs.inside.Opcodes.{opcode_of}
-use Rattle.insn_codec.specs.inside.Form.{listed, is_form, one_operand, offset_listed}
+use Rattle.insn_codec.specs.inside.Form.{fields_allowed, is_form, one_operand, offset_listed}
 use Rattle.insn_set.specs.Slot.{slot}
 use Rattle.insn_set.specs.Spelling.{first, source_bit, src_field, imm_field, IsOperandUpTo, IsInsnUpTo}
 use Rattle.insn_codec.proofs.ReadBack.{op_at, narrow_at, bits_at, movsx_at, load_insn, atomic_insn, wide_insn, insn_at}
@@ -123,7 +123,7 @@ pub record IsOf (f : OpcodeForm) (s : SlotFields) : Type 0 where
   -- the slot has the opcode of the form
   pub opcode : s.opcode ≡ opcode_of f
   -- each field has a value that the form lists
-  pub listed : listed f s ≡ true
+  pub listed : fields_allowed f s ≡ true
   -- the offset fits 16 bits
   pub offset : s.offset < 2 ^ 16
   -- the immediate fits 32 bits

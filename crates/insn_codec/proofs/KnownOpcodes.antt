@@ -15,7 +15,7 @@ use Rattle.insn_set.specs.Slot.{slot_of}
 use Rattle.insn_set.specs.Spelling.{first, spelling, IsInsn}
 use Rattle.insn_codec.specs.Fault.{HasOpcode}
 use Rattle.insn_codec.specs.inside.Opcodes.{opcode_of}
-use Rattle.insn_codec.specs.inside.Form.{form_at, listed, is_form}
+use Rattle.insn_codec.specs.inside.Form.{form_at, fields_allowed, is_form}
 use Rattle.insn_codec.proofs.Opcodes.{form_of, form_at-first, opcode_of-form_of, is_form-form_of}
 use Rattle.insn_codec.proofs.ReadBack.{insn_at}
 use Rattle.insn_codec.proofs.FromSlot.{IsOf, first-insn_at, insn_at_up_to}
@@ -34,7 +34,7 @@ plain_imm_lt _ = lit< tt
 abbrev plain_slot : OpcodeForm → SlotFields
 plain_slot f = slot (opcode_of f) 0 0 0 (plain_imm f)
 
-plain_listed : (f : OpcodeForm) → listed f (plain_slot f) ≡ true
+plain_listed : (f : OpcodeForm) → fields_allowed f (plain_slot f) ≡ true
 plain_listed (form.Alu wide op.Add source.Imm) = refl
 plain_listed (form.Alu wide _ source.Imm) = refl
 plain_listed (form.Jump wide condition source.Imm) = refl

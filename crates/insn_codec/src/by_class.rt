@@ -15,7 +15,7 @@ ghost use Rattle.insn_codec.specs.Spelled.{source_number};
 ghost use Rattle.insn_codec.specs.inside.Opcodes.{opcode_of};
 ghost use Rattle.insn_codec.specs.inside.OpcodeForm.{OpcodeForm};
 ghost use Rattle.insn_codec.specs.inside.OpcodeForm as form;
-ghost use Rattle.insn_codec.specs.inside.Form.{listed, is_form, alu_at, jump_at, load_at, store_at, register_store_at, source_at};
+ghost use Rattle.insn_codec.specs.inside.Form.{fields_allowed, is_form, alu_at, jump_at, load_at, store_at, register_store_at, source_at};
 ghost use Rattle.insn_codec.specs.inside.FirstFault.{fault_in_form, IsFaultOf, IsFaultAt};
 
 use crate::fault::FaultKind;
@@ -34,8 +34,8 @@ pub(crate) fn check_fields(is_listed: bool, slot: &RawSlot) -> Result<(), FaultK
     ensures listed { OnOk result (IsTrue is_listed) }
     ensures dst { OnOk result ((fields slot.now).dst ≤ 10) }
     ensures src { OnOk result ((fields slot.now).src ≤ 10) }
-    ensures fault { IfErr result (λ kind. (f : OpcodeForm) → listed f (fields slot.now) ≡ is_listed
-        → IsFaultOf f (fields slot.now) kind) }
+    ensures fault { IfErr result (λ kind. (f : OpcodeForm)
+        → fields_allowed f (fields slot.now) ≡ is_listed → IsFaultOf f (fields slot.now) kind) }
 {
     if !is_listed {
         return Err(FaultKind::Reserved);

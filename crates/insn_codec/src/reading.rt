@@ -4,7 +4,7 @@ ghost use Rattle.std.specs.Prelude.{List, ℕ, ◌≡◌, ◌≢◌, ◌≤◌, 
 ghost use Rattle.std.specs.Option.{option_to_list};
 ghost use Rattle.insn_set.specs.Slot.{fields, slot_of};
 ghost use Rattle.insn_codec.specs.inside.Code.{IsSecond};
-ghost use Rattle.insn_codec.specs.inside.Form.{listed, form_at};
+ghost use Rattle.insn_codec.specs.inside.Form.{fields_allowed, form_at};
 ghost use Rattle.insn_set.specs.Spelling.{slots, has_two_slots, IsInsn, Begins};
 ghost use Rattle.insn_codec.specs.Fault.{HasFault};
 ghost use Rattle.insn_codec.specs.inside.FirstFault.{fault_in_form, fault_by_form, IsFaultAt, first_fault, second_fault};
@@ -25,7 +25,7 @@ use insn_set::{Insn, RawSlot, Reg};
 /// precondition `listed` it is no other, so `_` is 2.
 fn read_wide(entry: &mut Insn, slot: &RawSlot, dst: Reg, rest: &[u8]) -> Result<RawSlot, FaultKind>
     requires opcode { slot.now.opcode ≡ 0x18 }
-    requires listed { IsTrue (listed Wide (fields slot.now)) }
+    requires listed { IsTrue (fields_allowed Wide (fields slot.now)) }
     requires dst { (fields slot.now).dst ≡ dst }
     requires dst_bound { dst ≤ 10 }
     ensures value { OnOk result (IsInsn entry.new) }

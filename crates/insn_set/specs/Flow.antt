@@ -11,9 +11,9 @@ use Rattle.insn_set.specs.Profile.{profile}
 use Rattle.insn_set.specs.Spelling.{slots}
 
 -- an integer as the number of a slot; None if the integer is negative
-abbrev pub natural : ℤ → Option ℕ
-natural (pos n) = Some n
-natural (negsuc n) = None
+abbrev pub slot_of_integer : ℤ → Option ℕ
+slot_of_integer (pos n) = Some n
+slot_of_integer (negsuc n) = None
 
 -- ---- the targets of the edges
 
@@ -36,7 +36,7 @@ jump_offset i = offset_by (profile i).successors
 -- the slot to which an instruction at this slot jumps: at its distance from the slot after this
 -- one; None below slot 0. It is meant for jumps: of any other instruction the distance is 0
 abbrev pub jumps_to : Insn → ℕ → Option ℕ
-jumps_to i at = natural (pos (at + 1) +ℤ jump_offset i)
+jumps_to i at = slot_of_integer (pos (at + 1) +ℤ jump_offset i)
 
 -- whether control may pass to the next instruction, by an instruction's successors
 abbrev pub falls_by : Successors → Bool
@@ -63,7 +63,7 @@ jumps i = jumps_by (profile i).successors
 -- the slot to which an instruction at this slot jumps; None if there is no jump, or the target is
 -- below slot 0
 abbrev pub target_by : Successors → ℕ → Option ℕ
-target_by next at = if jumps_by next then natural (pos (at + 1) +ℤ offset_by next) else None
+target_by next at = if jumps_by next then slot_of_integer (pos (at + 1) +ℤ offset_by next) else None
 
 -- the slot to which this instruction jumps from this slot; None if it has no jump, or the target is
 -- below slot 0

@@ -16,5 +16,5 @@ load_by_opcode n = by_number load_rows n
 
 -- by a size's name in a line of text: whether the access extends the sign, and the size; None if no
 -- load has the name
-abbrev pub size_by_name : List ℕ → Option (Bool × AccessSize)
-size_by_name s = by_symbol load_rows s
+abbrev pub load_by_name : List ℕ → Option (Bool × AccessSize)
+load_by_name s = by_symbol load_rows s

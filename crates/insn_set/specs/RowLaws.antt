@@ -26,7 +26,7 @@ use Rattle.insn_set.specs.ConditionRows.{condition_rows, condition_by_number, co
 use Rattle.insn_set.specs.Operator.{alu_number, alu_symbol}
 use Rattle.insn_set.specs.OperatorRows.{alu_rows, alu_by_number, alu_by_symbol}
 use Rattle.insn_set.specs.Load.{load_opcode, size_name}
-use Rattle.insn_set.specs.LoadRows.{load_rows, load_by_opcode, size_by_name}
+use Rattle.insn_set.specs.LoadRows.{load_rows, load_by_opcode, load_by_name}
 use Rattle.insn_set.specs.Conversion.{order_name, extension_name}
 use Rattle.insn_set.specs.ConversionRows.{orders, order_by_name, extensions, extension_by_name}
 use Rattle.insn_set.specs.TableLaws.{found_number, found_symbol, number_of, symbol_of, name_of}
@@ -118,7 +118,7 @@ load_opcode_again _ _ h = refl
 -- word with sign extension
 pub size_name_again : (signed : Bool) (s : AccessSize)
     → IsTrue (not (signed && is_double s))
-    → size_by_name (size_name signed s) ≡ Some (signed, s)
+    → load_by_name (size_name signed s) ≡ Some (signed, s)
 size_name_again true Double h = absurd (false≢true h)
 size_name_again false Byte h = refl
 size_name_again _ _ h = refl
@@ -137,13 +137,13 @@ load_listed n l e = found_number (λ l _. not (l.0 && is_double l.1)) load_rows 
 
 -- a size that is found by a name is no double word with sign extension
 pub size_listed : (s : List ℕ) (l : Bool × AccessSize)
-    → size_by_name s ≡ Some l
+    → load_by_name s ≡ Some l
     → IsTrue (not (l.0 && is_double l.1))
 size_listed s l e = found_symbol (λ l _. not (l.0 && is_double l.1)) load_rows s l refl e
 
 -- the size that is found by a name has this name
 pub size_name_is : (s : List ℕ) (l : Bool × AccessSize)
-    → size_by_name s ≡ Some l
+    → load_by_name s ≡ Some l
     → size_name l.0 l.1 ≡ s
 size_name_is s l e = symbol_of (λ l. size_name l.0 l.1) load_rows s l refl e
 

@@ -57,7 +57,7 @@ pub use atomic::{AtomicOp, AtomicSize};
 pub use condition::{condition_by_number, condition_by_symbol, condition_number, condition_symbol};
 pub use conversion::{extension_by_name, extension_name, order_by_name, order_name};
 pub use insn::{Insn, Load, Movsx, Operand, Reg};
-pub use load::{load_by_opcode, size_by_name, size_name};
+pub use load::{load_by_name, load_by_opcode, size_name};
 pub use operator::{alu_by_number, alu_by_symbol, alu_number, alu_offset, alu_symbol};
 pub use profile::{Profile, Reference, Successors};
 pub use slot::{RawSlot, SlotFields};

@@ -3,7 +3,7 @@
 ghost use Rattle.std.specs.Prelude.{◌≡◌, IfSome, IsTrue, not, ◌&&◌};
 ghost use Rattle.words.specs.Stack.{is_double};
 ghost use Rattle.insn_set.specs.Load.{load_opcode, size_name};
-ghost use Rattle.insn_set.specs.LoadRows.{load_by_opcode, size_by_name};
+ghost use Rattle.insn_set.specs.LoadRows.{load_by_opcode, load_by_name};
 
 use crate::table::{by_number, by_symbol};
 use words::AccessSize;
@@ -32,8 +32,8 @@ pub fn load_by_opcode(opcode: u8) -> Option<(bool, AccessSize)>
 
 /// The load for whose size a line of text has this name (`u8` to `u64`, `s8` to `s32`): whether the load extends the sign, and its access
 /// size. `None` if no load has the name.
-pub fn size_by_name(name: &str) -> Option<(bool, AccessSize)>
-    ensures value { result ≡ size_by_name name.now }
+pub fn load_by_name(name: &str) -> Option<(bool, AccessSize)>
+    ensures value { result ≡ load_by_name name.now }
     ensures inverse { IfSome result (λ l. size_name l.0 l.1 ≡ name.now) }
 {
     by_symbol(&LOADS, name)

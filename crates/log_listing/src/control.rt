@@ -48,7 +48,7 @@ fn ends_block(insn: &Insn) -> bool {
 
 /// Records in `flags`, which has a flag for each slot of a program, that a basic block begins at `slot`. Does nothing if `slot` is past the
 /// end of the program: the one after the last instruction, or the target of a jump that leads there.
-fn mark(flags: &mut [bool], slot: usize) {
+fn mark_start(flags: &mut [bool], slot: usize) {
     if let Some(flag) = flags.get_mut(slot) {
         *flag = true;
     }
@@ -59,14 +59,14 @@ fn mark(flags: &mut [bool], slot: usize) {
 pub(crate) fn block_starts(alloc: Global, program: &Program) -> Result<Vec<bool>, AllocError> {
     let slots = program.slots();
     let mut starts = vec![in alloc; false; slots]?;
-    mark(&mut starts, 0);
+    mark_start(&mut starts, 0);
     for slot in 0..slots {
         if let Some(insn) = program.get(slot) {
             if let Some(to) = target_at(program, slot) {
-                mark(&mut starts, to);
+                mark_start(&mut starts, to);
             }
             if ends_block(insn) {
-                mark(&mut starts, slot.saturating_add(insn.slots()));
+                mark_start(&mut starts, slot.saturating_add(insn.slots()));
             }
         }
     }

@@ -13,7 +13,7 @@ use words::{REGISTERS, STACK_SLOTS};
 
 /// Separates a note from the notes before it by a semicolon and a space. Writes nothing before the first note, that is, if the text ends at
 /// the offset `start`, at which notes begin.
-pub(crate) fn part(text: &mut String, start: usize) -> Result<(), AllocError> {
+pub(crate) fn separate_note(text: &mut String, start: usize) -> Result<(), AllocError> {
     if text.len() > start {
         text.push_str("; ")
     } else {
@@ -32,7 +32,7 @@ fn write_registers(
     for number in 0..REGISTERS {
         let kind = new.registers[number];
         if kind != Kind::Unreadable && kind != old.registers[number] {
-            part(text, start)?;
+            separate_note(text, start)?;
             write!(text, "r{number} = ")?;
             write_kind(text, kind)?;
         }
@@ -53,7 +53,7 @@ fn write_lost_registers(
             if are_more {
                 text.push_str(", ")?;
             } else {
-                part(text, start)?;
+                separate_note(text, start)?;
             }
             write!(text, "r{number}")?;
             are_more = true;
@@ -112,7 +112,7 @@ impl Row {
             return Ok(());
         }
         let (first, last) = (self.first, self.end.saturating_sub(1));
-        part(text, self.start)?;
+        separate_note(text, self.start)?;
         if first == last {
             write!(text, "stack {first} {what}")
         } else {
@@ -123,7 +123,7 @@ impl Row {
     /// Adds the stack byte at `byte`, an offset from the stack's upper end, to this `Row`. If `byte` does not follow the last byte that the
     /// `Row` has, those bytes are first written into `text`, as a note with the word `what` (`written` or `lost`), and the `Row` begins
     /// anew at `byte`.
-    fn take(&mut self, text: &mut String, what: &str, byte: i64) -> Result<(), AllocError> {
+    fn add_byte(&mut self, text: &mut String, what: &str, byte: i64) -> Result<(), AllocError> {
         if byte != self.end {
             self.write(text, what)?;
             self.first = byte;
@@ -134,7 +134,7 @@ impl Row {
 
     /// Adds to the row each byte of stack slot `index` whose bit in `mask` is 1; bit 0 is that of the lowest byte. Before a byte that does
     /// not follow the last byte of the row, the row is written as a note with the word `what`, `written` or `lost`, and a new row begins
-    /// (`take`).
+    /// (`add_byte`).
     fn take_slot(
         &mut self,
         text: &mut String,
@@ -147,7 +147,7 @@ impl Row {
         let lowest = lowest_byte(index);
         for bit in 0..8_u8 {
             if mask & (1 << bit) != 0 {
-                self.take(text, what, lowest.saturating_add(i64::from(bit)))?;
+                self.add_byte(text, what, lowest.saturating_add(i64::from(bit)))?;
             }
         }
         Ok(())
@@ -187,7 +187,7 @@ fn write_stack_bytes(
 
 /// Appends a note for each stack slot that has a spill in `new`, unless it has the same spill in `old`: the offsets of the slot's first and
 /// last byte from the stack's upper end, and the kind of what is spilled. `start` is the offset in the text at which the first note begins;
-/// each other note has a semicolon before it (`part`).
+/// each other note has a semicolon before it (`separate_note`).
 fn write_spills(
     text: &mut String,
     start: usize,
@@ -201,7 +201,7 @@ fn write_spills(
         {
             let first = lowest_byte(index);
             let last = first.saturating_add(7);
-            part(text, start)?;
+            separate_note(text, start)?;
             write!(text, "stack {first} to {last} = ")?;
             write_kind(text, kind)?;
         }
@@ -210,7 +210,7 @@ fn write_spills(
 }
 
 /// Appends what is known in `new` and was not in `old`, and what is not known any more, as notes. `start` is the offset in the text at
-/// which the first note begins; each other note has a semicolon before it (`part`).
+/// which the first note begins; each other note has a semicolon before it (`separate_note`).
 pub(crate) fn write_known(
     text: &mut String,
     start: usize,

@@ -35,7 +35,7 @@ fn write_need(
     insn: &Insn,
 ) -> Result<(), AllocError> {
     if is_of_shape(refusal.fault.reason) {
-        return shape::write_need(text, refusal, insn);
+        return shape::write_shape_fault(text, refusal, insn);
     }
     if refusal.fault.reason == Reason::UnreadableRegister {
         return registers::write_unreadable(text, refusal, insn);

@@ -118,22 +118,22 @@ module _ (after before : ℕ → ℕ) where
 
   -- ---- the element that follows, in a list of elements
 
-  abbrev pub unless_end : ℕ → ℕ → Option ℕ
-  unless_end b p = if nat_eq p b then None else Some p
+  abbrev pub element_or_none : ℕ → ℕ → Option ℕ
+  element_or_none b p = if nat_eq p b then None else Some p
 
-  same_element : (b p q : ℕ) → p ≡ q → unless_end b p ≡ unless_end b q
-  same_element b p q e = ap (unless_end b) e
+  same_element : (b p q : ℕ) → p ≡ q → element_or_none b p ≡ element_or_none b q
+  same_element b p q e = ap (element_or_none b) e
 
-  at_end : (b : ℕ) → unless_end b b ≡ None
+  at_end : (b : ℕ) → element_or_none b b ≡ None
   at_end b = ap (λ (t : Bool). if t then None else Some b) (eq-eqb b b refl)
 
-  elsewhere : (b p : ℕ) → p < b → unless_end b p ≡ Some p
+  elsewhere : (b p : ℕ) → p < b → element_or_none b p ≡ Some p
   elsewhere b p l = ap (λ (t : Bool). if t then None else Some p) (unequal p b (λ e. absurd (omega arith)))
 
   -- the element after the start of a path, unless it is the end, is the first of the path
   pub first_is : (a : ℕ) (xs : List ℕ) (b : ℕ)
       → IsPath after before a xs b → AreWithin b xs
-      → unless_end b (after a) ≡ first_element xs
+      → element_or_none b (after a) ≡ first_element xs
   first_is a [] b h w = same_element b (after a) b h.0 ∙ at_end b
   first_is a (x ∷ xs) b h w = same_element b (after a) x h.0 ∙ elsewhere b x w.0
 
@@ -141,7 +141,7 @@ module _ (after before : ℕ → ℕ) where
   pub following_is : (a : ℕ) (xs : List ℕ) (b p : ℕ)
       → IsPath after before a xs b → AreWithin b xs
       → 0 < occurrences p xs
-      → unless_end b (after p) ≡ following p xs
+      → element_or_none b (after p) ≡ following p xs
   following_is a [] b p h w m = absurd (omega arith)
   following_is a (x ∷ xs) b p h w m = elim (here_or_later p x xs m) [
     | inl e ↦ same_element b (after p) (after x) (ap after e)

@@ -58,7 +58,7 @@ impl ElementOrder {
     }
 
     /// `element`, or `None` if `element` is the bound, at which the order begins and ends.
-    fn unless_end(&self, element: u32) -> Option<u32>
+    fn element_or_none(&self, element: u32) -> Option<u32>
         ensures { result ≡ (if nat_eq element self.now.bound then None else Some element) }
     {
         if element == self.bound {
@@ -74,7 +74,7 @@ impl ElementOrder {
     {
         // In the ring the first element comes after the bound; without elements the bound comes after itself.
         let end = self.bound as usize;
-        self.unless_end(self.links[end].after)
+        self.element_or_none(self.links[end].after)
     }
 
     /// The element that follows `element`, which is in the order; `None` if it is the last.
@@ -82,7 +82,7 @@ impl ElementOrder {
         requires { 0 < occurrences element self.now.elements }
         ensures { result ≡ following element self.now.elements }
     {
-        self.unless_end(self.links[element as usize].after)
+        self.element_or_none(self.links[element as usize].after)
     }
 
     /// Puts an element last. The element is less than the bound and not yet in the order. So the number of elements is below

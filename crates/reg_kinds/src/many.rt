@@ -106,7 +106,7 @@ fn touch_a_spill(facts: &Facts, start: usize, count: usize) -> bool
 
 /// Whether at least one of the `count` stack bytes from byte index `start` on may be unwritten. The loop leaves out only stack slots that
 /// have none of these bytes.
-fn are_missing(facts: &Facts, start: usize, count: usize) -> bool
+fn is_any_unwritten(facts: &Facts, start: usize, count: usize) -> bool
     requires { start + count ≤ stack_size }
     ensures { result ≡ any_below stack_slots
         (λ i. lacks (slot_at facts.now i) (bits_in start count i)) }
@@ -129,7 +129,7 @@ pub fn check_read(facts: &Facts, offset: i32, count: u32) -> Result<(), Reason>
     };
     if touch_a_spill(facts, start, count as usize) {
         Err(Reason::PartOfSpill)
-    } else if are_missing(facts, start, count as usize) {
+    } else if is_any_unwritten(facts, start, count as usize) {
         Err(Reason::UnwrittenStack)
     } else {
         Ok(())

@@ -31,7 +31,7 @@ use Rattle.tenant.specs.Machine.{room_for, created_at, created_as, created_under
 use Rattle.tenant.specs.Machine.{loaded_program, result_of_judgement, LoadsAs, LoadsUnder, Loads, closed, on_map, of_object}
 use Rattle.tenant.specs.Machine.{of_handle, gives_or_no_entry, element_put, element_taken_out, outcome_result, run_of, longest_packet, maps_given}
 use Rattle.saving.specs.Alike.{HoldsItsMaps}
-use Rattle.saving.specs.Births.{Birth, OfMap, OfProgram, number, birth_of, latest_at, is_of_map, is_of_program, IsBorn}
+use Rattle.saving.specs.Births.{Birth, OfMap, OfProgram, descriptor_of, birth_of, latest_at, is_of_map, is_of_program, IsBorn}
 use Rattle.saving.specs.Births.{AreInOrder, AreBirths, is_open_program, lives, with_birth, with_opened, births_after}
 use Rattle.saving.specs.Laws.{MapsAreHeld, BirthsAreKept}
 use Rattle.saving.proofs.Lists.{there_is, not_none, set_by_index}
@@ -234,7 +234,7 @@ module _ {s : TenantState} (h : HoldsItsMaps s) (bs : List Birth) (are : AreBirt
     opened_births : (ms : List (Option Map)) → let t : TenantState =
         record s { objects = table.with_open s.objects fd o; maps = ms } in
         ((handle : ℕ) → IsSome (live s handle) → IsSome (get_or ms handle None))
-        → number (birth_of fd o) ≡ fd
+        → descriptor_of (birth_of fd o) ≡ fd
         → IsBorn t bs (birth_of fd o)
         → AreBirths t (birth_of fd o ∷ bs)
     opened_births ms maps numbered born_so = record {
@@ -260,12 +260,12 @@ module _ {s : TenantState} (h : HoldsItsMaps s) (bs : List Birth) (are : AreBirt
             → latest_at (birth_of fd o ∷ bs) other ≡ Some (birth_of other x)
         latest other x there (inl same) =
             ap (λ (b : Bool). if b then Some (birth_of fd o) else latest_at bs other)
-            (eq-eqb (number (birth_of fd o)) other (numbered ∙ sym same))
+            (eq-eqb (descriptor_of (birth_of fd o)) other (numbered ∙ sym same))
             ∙ ap₂ (λ (n : ℕ) (y : OpenObject). Some (birth_of n y)) (sym same)
             (same_Some o x (sym here ∙ ap (table.named (table.with_open s.objects fd o)) (sym same) ∙ there))
         latest other x there (inr apart) =
             ap (λ (b : Bool). if b then Some (birth_of fd o) else latest_at bs other)
-            (ne_eqb (number (birth_of fd o)) other (λ e. apart (sym (sym numbered ∙ e))))
+            (ne_eqb (descriptor_of (birth_of fd o)) other (λ e. apart (sym (sym numbered ∙ e))))
             ∙ are.latest other x
             (sym (opened_there s.objects fd other o (lowest_low s.objects fd low)
             (named_low (table.with_open s.objects fd o) other x there)
@@ -417,10 +417,10 @@ all_live s (b ∷ older) order =
 latest_filter : (p : Birth → Bool) (bs : List Birth) (fd : ℕ) (b : Birth)
     → latest_at bs fd ≡ Some b → p b ≡ true → latest_at (filter p bs) fd ≡ Some b
 latest_filter p [] fd b e is = absurd (none-some b e)
-latest_filter p (x ∷ older) fd b e is = by (p x) (number x == fd) refl refl e (λ f. latest_filter p older fd b f is)
+latest_filter p (x ∷ older) fd b e is = by (p x) (descriptor_of x == fd) refl refl e (λ f. latest_filter p older fd b f is)
   where
     by : (kept here : Bool)
-        → p x ≡ kept → (number x == fd) ≡ here
+        → p x ≡ kept → (descriptor_of x == fd) ≡ here
         → (if here then Some x else latest_at older fd) ≡ Some b
         → (latest_at older fd ≡ Some b → latest_at (filter p older) fd ≡ Some b)
         → latest_at (if kept then x ∷ filter p older else filter p older) fd ≡ Some b
@@ -561,7 +561,7 @@ module _ (s : TenantState) (h : HoldsItsMaps s) (fd : ℕ) where
       by true e rest = (
         low,
         high,
-        any_filter (lives (left_by s fd)) (is_of_program (number b)) older apart,
+        any_filter (lives (left_by s fd)) (is_of_program (descriptor_of b)) older apart,
         born_left older b e is,
         rest,
       )

@@ -16,7 +16,7 @@ use Rattle.tagged_model.specs.declared.shape.MapShape.{MapShape}
 use Rattle.tenant.specs.declared.object.OpenObject.{OpenObject}
 use Rattle.tenant.specs.State.{Map, TenantState, new_tenant, live}
 use Rattle.tenant.specs.Alone.{IsFrameResult, IsServedAlone}
-use Rattle.saving.specs.Births.{Birth, OfMap, OfProgram, number, AreInOrder, IsBorn}
+use Rattle.saving.specs.Births.{Birth, OfMap, OfProgram, descriptor_of, AreInOrder, IsBorn}
 use Rattle.saving.specs.Filler.{filler}
 use Rattle.tenant.specs.Described.{type_number}
 use Rattle.saving.specs.Restored.{load_of, create_of, put_of, made_map, made_program, made, filled, born, closings, restored, Leads}
@@ -87,7 +87,7 @@ module _ (law : EncodingInvertsParsing) (tenant : ℕ) where
 
   made_carried : (s : TenantState)
       → IsRestorable s
-      → (older : List Birth) (b : Birth) → number b < first_descriptor + most
+      → (older : List Birth) (b : Birth) → descriptor_of b < first_descriptor + most
       → IsBorn s older b
       → AreCarried (made s b)
   made_carried s whole older (OfMap handle fd) lt (live_so, new) =
@@ -102,8 +102,8 @@ module _ (law : EncodingInvertsParsing) (tenant : ℕ) where
   born_carried : (s : TenantState) → IsRestorable s → (bs : List Birth) → AreInOrder s bs → AreCarried (born s bs)
   born_carried s whole [] order = tt
   born_carried s whole (b ∷ older) (low, high, apart, is, order) =
-      both_carried (born s older) (close (number b) ∷ made s b) (born_carried s whole older order)
-      (close_carried (number b) high, made_carried s whole older b high is)
+      both_carried (born s older) (close (descriptor_of b) ∷ made s b) (born_carried s whole older order)
+      (close_carried (descriptor_of b) high, made_carried s whole older b high is)
 
   filled_carried : IsProgram filler → (n : ℕ) → AreCarried (filled n)
   unfolding filled

@@ -10,7 +10,7 @@ use Rattle.fd_table.specs.Table.{first_descriptor, most}
 use Rattle.bpf_maps.specs.Limits.{most_maps}
 use Rattle.tenant.specs.State.{TenantState}
 use Rattle.saving.specs.Alike.{HoldsItsMaps}
-use Rattle.saving.specs.Births.{Birth, OfMap, OfProgram, number, is_of_map, is_of_program, IsBorn, AreInOrder}
+use Rattle.saving.specs.Births.{Birth, OfMap, OfProgram, descriptor_of, is_of_map, is_of_program, IsBorn, AreInOrder}
 use Rattle.saving.proofs.Lists.{total_out, there_within}
 use Rattle.saving.proofs.Wholes.{none_of}
 
@@ -165,8 +165,8 @@ module _ {s : TenantState} (h : HoldsItsMaps s) where
       test n k same lt (OfProgram fd) e = eq-eqb fd n (one_slot fd k (same_some (slot_of fd) k e) lt ∙ sym same)
 
       by : (x : Birth)
-          → first_descriptor ≤ number x → number x < first_descriptor + most
-          → list_any (is_of_program (number x)) older ≡ false
+          → first_descriptor ≤ descriptor_of x → descriptor_of x < first_descriptor + most
+          → list_any (is_of_program (descriptor_of x)) older ≡ false
           → (k : ℕ) → program_mark x ≡ Some k
           → get_or (marks_of program_mark most older) k None ≡ marked
       by (OfMap handle fd) low high apart k e =

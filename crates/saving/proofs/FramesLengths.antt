@@ -7,7 +7,7 @@ use Rattle.byteorder.specs.Endian.{little_number}
 use Rattle.command_frames.specs.declared.command.BadFrame.{BadFrame}
 use Rattle.command_frames.specs.declared.command.BadFrame.TheVariants.{TooLong, Body}
 use Rattle.command_frames.specs.Command.{Command, map_create, map_lookup, map_update, map_delete, map_next_key, prog_load, prog_test_run}
-use Rattle.command_frames.specs.Command.{close, tail_length, exactly, at_least, command_in, parsed, longest_frame, word_at, long_at, words}
+use Rattle.command_frames.specs.Command.{close, tail_length, exactly, at_least, command_in, parsed, longest_frame, word_at, long_at, words_in}
 
 abbrev IsWithin : ℕ → Result Command BadFrame → Type 0
 IsWithin n (Ok command) = tail_length command ≤ n
@@ -48,7 +48,7 @@ body_within n body =
     (at_least_within 4 body (prog_load (word_at 0 body) (drop 4 body)) (behind 4 body))
     (if_within (length body) (n == 10) _ _
     (at_least_within 44 body
-    (prog_test_run (word_at 0 body) (words 10 (drop 4 body)) (drop 44 body))
+    (prog_test_run (word_at 0 body) (words_in 10 (drop 4 body)) (drop 44 body))
     (behind 44 body))
     (if_within (length body) (n == 256) _ _ (exactly_within 4 body (close (word_at 0 body)) (omega arith)) tt)))))))
 

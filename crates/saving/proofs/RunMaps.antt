@@ -29,7 +29,7 @@ use Rattle.tagged_model.specs.Values.{of_numbers, first_operand, compared}
 use Rattle.insn_set.specs.declared.atomic.AtomicSize.{AtomicSize}
 use Rattle.insn_set.specs.declared.atomic.AtomicOp.{AtomicOp}
 use Rattle.insn_set.specs.Atomic.{atomic_operator, is_wide_atomic, access_size}
-use Rattle.insn_set.specs.Flow.{natural}
+use Rattle.insn_set.specs.Flow.{slot_of_integer}
 use Rattle.tagged_model.specs.State.{RunState, RunMap, at_slot, with_cell, with_map, access_start, stack_store}
 use Rattle.tagged_model.specs.State.{object_written, object_stored, value_written, with_value, store, load, is_aligned_at}
 use Rattle.tagged_model.specs.Helpers.{called, helper_of, put, taken_out}
@@ -262,7 +262,7 @@ slot_same : (s : RunState) (n : ℕ) → StepHasSame s (goes (at_slot n s))
 slot_same s n m = same_self (s.maps m)
 
 jumped_same : (s : RunState) (off : ℤ) → StepHasSame s (jumped s off)
-jumped_same s off = or_fault_same s (natural (pos (s.at + 1) +ℤ off)) _ (λ n. slot_same s n)
+jumped_same s off = or_fault_same s (slot_of_integer (pos (s.at + 1) +ℤ off)) _ (λ n. slot_same s n)
 
 branched_same : (s : RunState) (off : ℤ) (yes : Bool) → StepHasSame s (branched s off yes)
 branched_same s off true = jumped_same s off

@@ -14,7 +14,7 @@ use Rattle.ordered_keys.specs.Orders.{occurrences, first_entry, entry_after_elem
 use Rattle.tenant.specs.declared.object.OpenObject.{OpenObject}
 use Rattle.tenant.specs.State.{Map, TenantState, live}
 use Rattle.saving.specs.declared.save_parts.TheConstants.{KEYS_PER_SAVE_PART}
-use Rattle.saving.specs.Births.{Birth, OfMap, OfProgram, number}
+use Rattle.saving.specs.Births.{Birth, OfMap, OfProgram, descriptor_of}
 use Rattle.saving.specs.Filler.{filler}
 use Rattle.saving.specs.Restored.{load_of, made_map, made_program, made, filled, born, closings}
 use Rattle.saving.specs.SaveParts.{made_empty, puts_of, creation, key_commands, birth_parts, PartsAreWhole}
@@ -24,7 +24,7 @@ use Rattle.saving.proofs.Pieces.{joined}
 -- ---- all parts
 
 abbrev birth_commands : TenantState → Birth → List Command
-birth_commands s b = close (number b) ∷ made s b
+birth_commands s b = close (descriptor_of b) ∷ made s b
 
 born_in_order : (s : TenantState) (births : List Birth) → born s births ≡ flat_map (birth_commands s) (reverse births)
 born_in_order s [] = refl

@@ -28,7 +28,7 @@ use Rattle.transfer.specs.Effects.{effect}
 use Rattle.verifier.specs.Before.{facts_before, facts_from_below}
 use Rattle.verifier.specs.Laws.{MapsAreListed}
 use Rattle.verifier.specs.Maps.{maps_of, is_among, objects_at, shapes_of}
-use Rattle.verifier.specs.Shape.{is_map, is_not_open, is_not_map, is_no_value, calls_unknown, is_number, leads_outside}
+use Rattle.verifier.specs.Shape.{is_map, is_not_open, is_not_map, lacks_direct_value, calls_unknown, is_number, leads_outside}
 use Rattle.verifier.specs.Shape.{leads_backward, is_reachable, reached_from, first_reason, shape_reason, shape_reason_at, structure_fault}
 use Rattle.verifier.specs.Verdict.{HasNoFault, IsAccepted, reason_of, safety_fault}
 use Rattle.saving.specs.Filler.{filler}
@@ -77,7 +77,7 @@ module _ (a b : List Named) where
   same_map None h = refl
   same_map (Some fd) h = ap (λ (t : Option Target). not (option_map_or is_map t true)) (h fd refl)
 
-  same_value : (r : Reference) → SameTarget r → is_no_value a r ≡ is_no_value b r
+  same_value : (r : Reference) → SameTarget r → lacks_direct_value a r ≡ lacks_direct_value b r
   same_value names.Nothing h = refl
   same_value (names.Helper id) h = refl
   same_value (names.Map fd) h = refl
@@ -88,7 +88,7 @@ module _ (a b : List Named) where
   same_reason : (code : List Insn) (i : Insn) (at : ℕ)
       → SameTarget (profile i).reference → shape_reason code a i at ≡ shape_reason code b i at
   same_reason code i at h =
-      ap₂ (λ (x y : Bool). reasons x y (is_no_value a (profile i).reference))
+      ap₂ (λ (x y : Bool). reasons x y (lacks_direct_value a (profile i).reference))
       (same_open (descriptor i) h) (same_map (descriptor i) h)
       ∙ ap (reasons (is_not_open b (descriptor i)) (is_not_map b (descriptor i))) (same_value (profile i).reference h)
     where

@@ -14,7 +14,7 @@ use Rattle.tenant.specs.declared.object.OpenObject.TheVariants as object
 use Rattle.tenant.specs.Loaded.{LoadedProgram}
 use Rattle.tenant.specs.State.{Map, TenantState, live, names, is_named}
 use Rattle.tenant.specs.Machine.{Answers, gives, opens}
-use Rattle.saving.specs.Births.{Birth, OfMap, OfProgram, number, latest_at, is_of_map, IsBorn, AreInOrder}
+use Rattle.saving.specs.Births.{Birth, OfMap, OfProgram, descriptor_of, latest_at, is_of_map, IsBorn, AreInOrder}
 use Rattle.saving.specs.Filler.{filler}
 use Rattle.saving.specs.Restored.{load_of, made_map, made_program, made, born}
 use Rattle.saving.specs.Restorable.{IsRestorable}
@@ -45,39 +45,39 @@ abbrev pub at_births : TenantState → List Birth → Opened
 at_births s births fd = Some (object_of s (latest_at births fd))
 
 next_birth : (s : TenantState) (b : Birth) (older : List Birth)
-    → set_at (set_at (at_births s older) (number b) None) (number b) (Some (object_of s (Some b)))
+    → set_at (set_at (at_births s older) (descriptor_of b) None) (descriptor_of b) (Some (object_of s (Some b)))
     ≡ at_births s (b ∷ older)
-next_birth s b older = fun_ext (λ fd. by fd (cases_eq fd (number b)))
+next_birth s b older = fun_ext (λ fd. by fd (cases_eq fd (descriptor_of b)))
   where
     by : (fd : ℕ)
-        → (fd ≡ number b) ⊎ (fd ≡ number b → ⊥)
-        → set_at (set_at (at_births s older) (number b) None) (number b) (Some (object_of s (Some b))) fd
+        → (fd ≡ descriptor_of b) ⊎ (fd ≡ descriptor_of b → ⊥)
+        → set_at (set_at (at_births s older) (descriptor_of b) None) (descriptor_of b) (Some (object_of s (Some b))) fd
         ≡ at_births s (b ∷ older) fd
     by fd (inl same) =
-        ap (λ (x : Bool). if x then Some (object_of s (Some b)) else set_at (at_births s older) (number b) None fd)
-        (eq-eqb fd (number b) same)
+        ap (λ (x : Bool). if x then Some (object_of s (Some b)) else set_at (at_births s older) (descriptor_of b) None fd)
+        (eq-eqb fd (descriptor_of b) same)
         ∙ sym (ap (λ (x : Bool). Some (object_of s (if x then Some b else latest_at older fd)))
-        (eq-eqb (number b) fd (sym same)))
+        (eq-eqb (descriptor_of b) fd (sym same)))
     by fd (inr other) =
-        set_other (set_at (at_births s older) (number b) None) (number b) (Some (object_of s (Some b))) fd other
-        ∙ set_other (at_births s older) (number b) None fd other
+        set_other (set_at (at_births s older) (descriptor_of b) None) (descriptor_of b) (Some (object_of s (Some b))) fd other
+        ∙ set_other (at_births s older) (descriptor_of b) None fd other
         ∙ sym (ap (λ (x : Bool). Some (object_of s (if x then Some b else latest_at older fd)))
-        (ne_eqb (number b) fd (λ e. other (sym e))))
+        (ne_eqb (descriptor_of b) fd (λ e. other (sym e))))
 
 -- ---- births in order
 
 latest_descriptor : (s : TenantState) (bs : List Birth) (fd : ℕ) (b : Birth)
     → AreInOrder s bs → latest_at bs fd ≡ Some b → IsDescriptor fd
 latest_descriptor s [] fd b order e = absurd (none-some b e)
-latest_descriptor s (x ∷ older) fd b order e = by (number x == fd) refl (latest_descriptor s older fd b order.4) e
+latest_descriptor s (x ∷ older) fd b order e = by (descriptor_of x == fd) refl (latest_descriptor s older fd b order.4) e
   where
     by : (here : Bool)
-        → (number x == fd) ≡ here
+        → (descriptor_of x == fd) ≡ here
         → (latest_at older fd ≡ Some b → IsDescriptor fd)
         → (if here then Some x else latest_at older fd) ≡ Some b
         → IsDescriptor fd
     by true is rest e =
-        let same = eqb-true (number x) fd is in
+        let same = eqb-true (descriptor_of x) fd is in
         let low = order.0 in
         let high = order.1 in
         record { low = omega arith; high = omega arith }
@@ -86,7 +86,7 @@ latest_descriptor s (x ∷ older) fd b order e = by (number x == fd) refl (lates
 latest_map : (bs : List Birth) (fd handle n : ℕ)
     → latest_at bs fd ≡ Some (OfMap handle n) → list_any (is_of_map handle) bs ≡ true
 latest_map [] fd handle n e = absurd (none-some (OfMap handle n) e)
-latest_map (x ∷ older) fd handle n e = by (number x == fd) (latest_map older fd handle n) e
+latest_map (x ∷ older) fd handle n e = by (descriptor_of x == fd) (latest_map older fd handle n) e
   where
     by : (here : Bool)
         → (latest_at older fd ≡ Some (OfMap handle n) → list_any (is_of_map handle) older ≡ true)
@@ -119,7 +119,7 @@ program_maps : (s : TenantState) (bs : List Birth) (fd n handle : ℕ)
     → list_any (is_of_map handle) bs ≡ true
 program_maps s [] fd n handle order e named_so = absurd (none-some (OfProgram n) e)
 program_maps s (x ∷ older) fd n handle order e named_so =
-    by (number x == fd) (λ f. program_maps s older fd n handle order.4 f named_so) e
+    by (descriptor_of x == fd) (λ f. program_maps s older fd n handle order.4 f named_so) e
   where
     of_birth : (b : Birth) → b ≡ OfProgram n → IsBorn s older b → list_any (is_of_map handle) older ≡ true
     of_birth (OfMap p k) is h = absurd (let wrong : OfMap p k ≡ OfProgram n = is in cc wrong)
@@ -158,14 +158,14 @@ named_born s bs handle order h =
 module _ (held : MapsAreHeld) (bisimulation : AlikeIsBisimulation)
     (same_verdict : SameObjectsSameVerdict) (s : TenantState) (whole : IsRestorable s) where
   without : Birth → List Birth → Opened
-  without b older = set_at (at_births s older) (number b) None
+  without b older = set_at (at_births s older) (descriptor_of b) None
 
-  only_free : (b : Birth) (older : List Birth) → IsDescriptor (number b) → IsOnlyFree (without b older) (number b)
+  only_free : (b : Birth) (older : List Birth) → IsDescriptor (descriptor_of b) → IsOnlyFree (without b older) (descriptor_of b)
   unfolding without
   only_free b older is = record {
     descriptor = is;
-    free = set_same (at_births s older) (number b) None;
-    others = λ other _ apart. ap is_some (set_other (at_births s older) (number b) None other apart);
+    free = set_same (at_births s older) (descriptor_of b) None;
+    others = λ other _ apart. ap is_some (set_other (at_births s older) (descriptor_of b) None other apart);
   }
 
   -- no object names a map before the map is born
@@ -176,17 +176,17 @@ module _ (held : MapsAreHeld) (bisimulation : AlikeIsBisimulation)
   unnamed b older handle order none = by (is_named (table (without b older)) handle) refl
     where
       older_at : NamesAt (without b older) handle → NamesAt (at_births s older) handle
-      older_at h = by_handle (cases_eq h.fd (number b))
+      older_at h = by_handle (cases_eq h.fd (descriptor_of b))
         where
-          by_handle : (h.fd ≡ number b) ⊎ (h.fd ≡ number b → ⊥) → NamesAt (at_births s older) handle
+          by_handle : (h.fd ≡ descriptor_of b) ⊎ (h.fd ≡ descriptor_of b → ⊥) → NamesAt (at_births s older) handle
           by_handle (inl same) =
               absurd (none-some h.o
-              (sym (ap (without b older) same ∙ set_same (at_births s older) (number b) None) ∙ h.at))
+              (sym (ap (without b older) same ∙ set_same (at_births s older) (descriptor_of b) None) ∙ h.at))
           by_handle (inr other) = record {
             fd = h.fd;
             descriptor = h.descriptor;
             o = h.o;
-            at = sym (set_other (at_births s older) (number b) None h.fd other) ∙ h.at;
+            at = sym (set_other (at_births s older) (descriptor_of b) None h.fd other) ∙ h.at;
             named = h.named;
           }
 
@@ -214,9 +214,9 @@ module _ (held : MapsAreHeld) (bisimulation : AlikeIsBisimulation)
   )
 
   making : (b : Birth) (older : List Birth) (t : TenantState)
-      → IsDescriptor (number b) → AreInOrder s older
+      → IsDescriptor (descriptor_of b) → AreInOrder s older
       → IsBorn s older b → Follows (state_of s (without b older)) t
-      → LeadsTo t (made s b) (state_of s (set_at (without b older) (number b) (Some (object_of s (Some b)))))
+      → LeadsTo t (made s b) (state_of s (set_at (without b older) (descriptor_of b) (Some (object_of s (Some b)))))
   making (OfMap handle fd) older t is order (live_so, none) h =
       let (m, there) = is_there (live s handle) live_so in
       subst (λ (o : Option Map).
@@ -240,14 +240,14 @@ module _ (held : MapsAreHeld) (bisimulation : AlikeIsBisimulation)
       (record { end = one.b.after; leads = (one.b, one.answers, (fd, one.status), refl); after = one.after })
 
   close_here : (b : Birth) (older : List Birth)
-      → IsDescriptor (number b)
-      → Answers false (state_of s (at_births s older)) (close (number b)) (gives [] (state_of s (without b older)))
+      → IsDescriptor (descriptor_of b)
+      → Answers false (state_of s (at_births s older)) (close (descriptor_of b)) (gives [] (state_of s (without b older)))
   unfolding without
   close_here b older is =
-      close_answer s (at_births s older) (number b) (object_of s (latest_at older (number b))) is refl
+      close_answer s (at_births s older) (descriptor_of b) (object_of s (latest_at older (descriptor_of b))) is refl
 
   next_here : (b : Birth) (older : List Birth)
-      → set_at (without b older) (number b) (Some (object_of s (Some b))) ≡ at_births s (b ∷ older)
+      → set_at (without b older) (descriptor_of b) (Some (object_of s (Some b))) ≡ at_births s (b ∷ older)
   unfolding without
   next_here b older = next_birth s b older
 
@@ -258,16 +258,16 @@ module _ (held : MapsAreHeld) (bisimulation : AlikeIsBisimulation)
   walk [] t order h = record { end = t; leads = refl; after = h }
   walk (b ∷ older) t (low, high, apart, is, order) h =
       let before = walk older t order h in
-      let descriptor : IsDescriptor (number b) = record { low = low; high = high } in
+      let descriptor : IsDescriptor (descriptor_of b) = record { low = low; high = high } in
       let closes =
-      follows held bisimulation (state_of s (at_births s older)) before.end (close (number b))
+      follows held bisimulation (state_of s (at_births s older)) before.end (close (descriptor_of b))
       (gives [] (state_of s (without b older))) before.after
       (close_here b older descriptor) in
       let makes = making b older closes.b.after descriptor order is closes.after in
       record {
         end = makes.end;
         leads =
-            leads_then (born s older) (close (number b) ∷ made s b) t before.end makes.end
+            leads_then (born s older) (close (descriptor_of b) ∷ made s b) t before.end makes.end
             before.leads
             (closes.b, closes.answers, (0, closes.status), makes.leads);
         after = subst (λ (f : Opened). Follows (state_of s f) makes.end) (next_here b older) makes.after;

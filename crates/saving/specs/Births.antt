@@ -15,9 +15,9 @@ pub use Rattle.saving.specs.declared.birth.Birth.{Birth}
 pub use Rattle.saving.specs.declared.birth.Birth.TheVariants.{OfMap, OfProgram}
 
 -- the descriptor at which the object of a birth was opened
-abbrev pub number : Birth → ℕ
-number (OfMap handle fd) = fd
-number (OfProgram fd) = fd
+abbrev pub descriptor_of : Birth → ℕ
+descriptor_of (OfMap handle fd) = fd
+descriptor_of (OfProgram fd) = fd
 
 -- the birth of an object that is opened at descriptor fd
 abbrev pub birth_of : ℕ → OpenObject → Birth
@@ -29,7 +29,7 @@ birth_of fd (object.Program l) = OfProgram fd
 -- the latest birth at a descriptor; None if the list has none there
 abbrev pub latest_at : List Birth → ℕ → Option Birth
 latest_at [] fd = None
-latest_at (b ∷ older) fd = if number b == fd then Some b else latest_at older fd
+latest_at (b ∷ older) fd = if descriptor_of b == fd then Some b else latest_at older fd
 
 -- whether a birth is that of the map with this handle
 abbrev pub is_of_map : ℕ → Birth → Bool
@@ -64,9 +64,9 @@ IsBorn s older (OfProgram fd) = IsProgramBorn s older fd
 abbrev pub AreInOrder : TenantState → List Birth → Type 0
 AreInOrder s [] = Unit {0}
 AreInOrder s (b ∷ older) =
-    (first_descriptor ≤ number b)
-    × (number b < first_descriptor + most)
-    × (list_any (is_of_program (number b)) older ≡ false)
+    (first_descriptor ≤ descriptor_of b)
+    × (descriptor_of b < first_descriptor + most)
+    × (list_any (is_of_program (descriptor_of b)) older ≡ false)
     × IsBorn s older b
     × AreInOrder s older
 

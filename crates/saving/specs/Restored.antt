@@ -13,7 +13,7 @@ use Rattle.tenant.specs.declared.object.OpenObject.TheVariants as object
 use Rattle.tenant.specs.State.{Map, TenantState, live}
 use Rattle.tenant.specs.Machine.{Answer, Answers}
 use Rattle.saving.specs.Filler.{filler}
-use Rattle.saving.specs.Births.{Birth, OfMap, OfProgram, number}
+use Rattle.saving.specs.Births.{Birth, OfMap, OfProgram, descriptor_of}
 
 -- ---- the commands that create an object
 
@@ -61,7 +61,7 @@ filled (suc n) = load_of filler ∷ filled n
 -- the latest first. Before each object its descriptor is closed, so that it is the only free one
 abbrev pub born : TenantState → List Birth → List Command
 born s [] = []
-born s (b ∷ older) = born s older ++ (close (number b) ∷ made s b)
+born s (b ∷ older) = born s older ++ (close (descriptor_of b) ∷ made s b)
 
 -- the commands that close, of the n descriptors from fd on, those that are not open in the state
 -- with these objects; the commands before them leave all descriptors open

@@ -22,8 +22,8 @@ unfoldable pub folded_product : ℕ → ℕ → ℕ
 folded_product a b = bit_xor (bit_and (a * b) (2 ^ 64 - 1)) (a * b / 2 ^ 64)
 
 -- the number of the four bytes from i on, little-endian
-unfoldable pub half_at : List ℕ → ℕ → ℕ
-half_at bs i =
+unfoldable pub half_word_at : List ℕ → ℕ → ℕ
+half_word_at bs i =
     slice_index bs i + slice_index bs (i + 1) * 256 + slice_index bs (i + 2) * 65536
     + slice_index bs (i + 3) * 16777216
 
@@ -33,14 +33,14 @@ shifted x by = (x * 2 ^ by) % 2 ^ 64
 
 -- the number of the eight bytes from i on, little-endian
 unfoldable pub word_at : List ℕ → ℕ → ℕ
-word_at bs i = bit_or (half_at bs i) (shifted (half_at bs (i + 4)) 32)
+word_at bs i = bit_or (half_word_at bs i) (shifted (half_word_at bs (i + 4)) 32)
 
 -- at most eight bytes as one number: the first four and the last four, or of one to three bytes the
 -- first, the middle and the last; 0 for no bytes
 unfoldable pub short_word : List ℕ → ℕ
 short_word bs =
     let n = length bs in
-    if nat_le 4 n then bit_or (half_at bs 0) (shifted (half_at bs (n - 4)) 32)
+    if nat_le 4 n then bit_or (half_word_at bs 0) (shifted (half_word_at bs (n - 4)) 32)
     else
     (if nat_lt 0 n
     then bit_or (bit_or (slice_index bs 0) (shifted (slice_index bs (n / 2)) 8))

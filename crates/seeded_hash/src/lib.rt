@@ -6,7 +6,7 @@
 //!   `build_hasher` of `HashSeed`; `write` and `finish` of `SeededHasher`.
 //! - The words of a seed are the two halves of its sixteen bytes as numbers, little-endian: `from_bytes` of `HashSeed`.
 //! - The two halves of a product are combined, and four, eight or at most eight bytes are read as a number, by their equations:
-//!   the private `folded_product`, `half_at`, `word_at`, `short_word`.
+//!   the private `folded_product`, `half_word_at`, `word_at`, `short_word`.
 //!
 //! That `HashSeed::random` makes a seed of sixteen bytes of its source is read in the code, since std promises nothing of these
 //! bytes, and tested: each of their 128 bits changes what the built program does (tests/seed_bits.py). That the source is random,
@@ -156,9 +156,9 @@ fn folded_product(a: u64, b: u64) -> u64
 
 /// The four bytes from offset `at` on, half of a word of eight bytes, as a little-endian number. Callers make sure that there are four.
 #[inline(always)]
-fn half_at(bytes: &[u8], at: usize) -> u64
+fn half_word_at(bytes: &[u8], at: usize) -> u64
     requires { at + 4 ≤ length bytes.now }
-    ensures { result ≡ hashing.half_at bytes.now at }
+    ensures { result ≡ hashing.half_word_at bytes.now at }
 {
     u32::from_le_bytes([bytes[at], bytes[at + 1], bytes[at + 2], bytes[at + 3]]) as u64
 }
@@ -169,7 +169,7 @@ fn word_at(bytes: &[u8], at: usize) -> u64
     requires { at + 8 ≤ length bytes.now }
     ensures { result ≡ hashing.word_at bytes.now at }
 {
-    half_at(bytes, at) | half_at(bytes, at + 4) << 32
+    half_word_at(bytes, at) | half_word_at(bytes, at + 4) << 32
 }
 
 /// At most eight bytes as one number, by reads that may overlap: the first four and the last four, or of one to three bytes the first, the
@@ -180,7 +180,7 @@ fn short_word(bytes: &[u8]) -> u64
 {
     let len = bytes.len();
     if len >= 4 {
-        half_at(bytes, 0) | half_at(bytes, len - 4) << 32
+        half_word_at(bytes, 0) | half_word_at(bytes, len - 4) << 32
     } else if len > 0 {
         bytes[0] as u64 | (bytes[len / 2] as u64) << 8 | (bytes[len - 1] as u64) << 16
     } else {

@@ -85,13 +85,13 @@ PermitsAfterCall s (Some t) = IsAfterCall s t
 -- ---- a state and its maps
 
 -- a call may leave o, the map of a descriptor or no map (None), unchanged (`EntryAfterCall`)
-entry_same : (o : Option RunMap) → EntryAfterCall o o
-entry_same None = tt
-entry_same (Some t) = unchanged
+unchanged_entry : (o : Option RunMap) → EntryAfterCall o o
+unchanged_entry None = tt
+unchanged_entry (Some t) = unchanged
 
 -- s itself can be the state after a call that begins in s: a call may change nothing
 state_same : (s : RunState) → IsAfterCall s s
-state_same s = record { words = refl; maps = λ m. entry_same (s.maps m) }
+state_same s = record { words = refl; maps = λ m. unchanged_entry (s.maps m) }
 
 -- if s has the map t at descriptor m, and a call may change t to u (`MapAfterCall`), then u may
 -- replace t in s: after this change, each descriptor k has a map that a call may leave of the map
@@ -106,7 +106,7 @@ entry_set s m t u there change k =
     (λ b.
     subst (λ (o : Option RunMap). EntryAfterCall o (Some u))
     (sym (ap s.maps (eqb-true k m b) ∙ there)) change)
-    (λ _. entry_same (s.maps k))
+    (λ _. unchanged_entry (s.maps k))
 
 -- if s has the map t at descriptor m, and a call may change t to u (`MapAfterCall`), then s with u
 -- at m can be the state after a call that begins in s
@@ -157,12 +157,12 @@ return_leaves s (Some t) v h = returned s t v h
 -- s with its descriptor, a fault (None) or a state that can be the one after a call that begins in
 -- s (`PermitsAfterCall`), then so does the computation. If register r has no map of the run, the
 -- computation is a fault
-map_leaves : (s : RunState) (r : ℕ) (f : GivenMap → Option RunState)
+map_argument_permits : (s : RunState) (r : ℕ) (f : GivenMap → Option RunState)
     → ((m : ℕ) (t : RunMap)
     → s.maps m ≡ Some t
     → PermitsAfterCall s (f (record { descriptor = m; map = t })))
     → PermitsAfterCall s (and_then (map_argument s r) f)
-map_leaves s r f h = by (argument s r map_given)
+map_argument_permits s r f h = by (argument s r map_given)
   where
     at : (m : ℕ) (o : Option RunMap)
         → s.maps m ≡ o
@@ -243,7 +243,7 @@ output_leaves s (Pointer object.Stack x) bs =
     cond_both (is_in_stack x (length bs))
     (Some (with_cells s (λ i. cell_over i (s.cells i) (byte_index x) bs))) None
     (PermitsAfterCall s)
-    (λ _. record { words = refl; maps = λ m. entry_same (s.maps m) })
+    (λ _. record { words = refl; maps = λ m. unchanged_entry (s.maps m) })
     (λ _. tt)
 output_leaves s (Pointer (object.Value m number) x) bs =
     then_leaves s (s.maps m) _
@@ -259,12 +259,12 @@ output_leaves s p bs = tt
 -- the maps of s as a call may change them (`IsAfterCall`)
 pub call_leaves : (helper : Helper) (s : RunState) → PermitsAfterCall s (called helper s)
 call_leaves LookUp s =
-    map_leaves s 1 _
+    map_argument_permits s 1 _
     (λ m t _.
     bytes_leave s 2 t.table.shape.key_size _
     (λ key _. returned s s (looked_up m (look_up t.table key)) (state_same s)))
 call_leaves Update s =
-    map_leaves s 1 _ (λ m t there.
+    map_argument_permits s 1 _ (λ m t there.
     bytes_leave s 2 t.table.shape.key_size _ (λ key key_size.
     bytes_leave s 3 t.table.shape.value_size _ (λ value value_size.
     then_leaves s (argument s 4 number_given) _
@@ -272,7 +272,7 @@ call_leaves Update s =
     replied s m t (updated t key value flags) there
     (after_update key value flags key_size value_size)))))
 call_leaves Delete s =
-    map_leaves s 1 _
+    map_argument_permits s 1 _
     (λ m t there.
     bytes_leave s 2 t.table.shape.key_size _
     (λ key _. replied s m t (removed t key) there (after_delete key)))

@@ -67,7 +67,7 @@ impl Tenant {
     {
         let descriptors = self.targets(alloc)?;
         match program.replace_objects(alloc, &descriptors) {
-            Ok(()) => self.with_maps(alloc, program),
+            Ok(()) => self.loaded(alloc, program),
             Err(ReplaceFault::Memory) => Err(AllocError),
             Err(ReplaceFault::OtherShapes) => unreachable!(),
         }

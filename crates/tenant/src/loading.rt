@@ -71,7 +71,7 @@ fn maps_named(
 impl Tenant {
     /// Makes a loaded program of `program` and the handles of its maps. `program` was accepted with the objects that are open now
     /// (`accepted`, `objects`), so each descriptor of its maps names a live map. `AllocError`: out of memory.
-    pub(crate) fn with_maps(
+    pub(crate) fn loaded(
         &self,
         alloc: Global,
         program: Verified,
@@ -115,7 +115,7 @@ impl Tenant {
         let alloc = working.alloc();
         let descriptors = self.targets(alloc)?;
         match verify_slots(alloc, slots, &descriptors, working)? {
-            Ok(program) => Ok(Ok(self.with_maps(alloc, program)?)),
+            Ok(program) => Ok(Ok(self.loaded(alloc, program)?)),
             Err(refusal) => Ok(Err(refusal)),
         }
     }

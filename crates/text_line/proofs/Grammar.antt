@@ -21,7 +21,7 @@ use Rattle.insn_set.specs.Table.{named}
 use Rattle.insn_set.specs.TableLaws.{found_named, name_of}
 use Rattle.insn_set.specs.OperatorRows.{alu_by_symbol}
 use Rattle.insn_set.specs.ConversionRows.{order_by_name, extension_by_name}
-use Rattle.insn_set.specs.LoadRows.{size_by_name}
+use Rattle.insn_set.specs.LoadRows.{load_by_name}
 use Rattle.insn_set.specs.ConditionRows.{condition_by_symbol}
 use Rattle.insn_set.specs.AtomicRows.{atomic_by_symbol}
 use Rattle.words.specs.Stack.{is_double}
@@ -38,7 +38,7 @@ use Rattle.text_line.specs.Token.{Token, name, number, symbol}
 use Rattle.text_line.specs.Names.{register_name, sign_name, jump_name}
 use Rattle.text_line.specs.Form.{TokenLayout, layout, operation_layout, value_layout, sign, word, space, tokens_of, reg}
 use Rattle.text_line.specs.Form.{to_label, constant, operand_layout, destination, address, IsForm, IsOperation, IsSource, names_label}
-use Rattle.text_line.specs.Line.{Line, blank, label, spelled, IsWellFormed, NoLabel}
+use Rattle.text_line.specs.Line.{Line, blank, label, line_tokens, IsWellFormed, NoLabel}
 use Rattle.text_line.specs.inside.Reading.{registers, leading_symbol, leading_name, leading_number, after_symbol, after_word}
 use Rattle.text_line.specs.inside.Reading.{leading_register, number_from, leading_constant, leading_signed_number, leading_operand}
 use Rattle.text_line.specs.inside.Reading.{parsed_destination, leading_address, leading_wide_value, atomic_size_of, at_end, match_option}
@@ -255,7 +255,7 @@ address_read ts p e =
     after_symbol_then (codes "*") ts _ p e (λ a is_a e.
     after_symbol_then (codes "(") a _ p e (λ b is_b e.
     name_then b _ p e (λ n c is_n e.
-    option_and_then_some _ (size_by_name n) p e (λ s found e.
+    option_and_then_some _ (load_by_name n) p e (λ s found e.
     after_symbol_then (codes "*") c _ p e (λ d is_c e.
     after_symbol_then (codes ")") d _ p e (λ f is_d e.
     after_symbol_then (codes "(") f _ p e (λ g is_f e.
@@ -550,24 +550,24 @@ form_is ts f e =
         let (end, same) = end_is rest _ f e in
         subst (Whole (name (codes "exit") ∷ rest)) same (ap (λ l. name (codes "exit") ∷ l) end, tt, refl)
 
-label_is : (ts : List Token) (n : List ℕ) → parsed_label ts ≡ Some n → ts ≡ spelled (label n)
+label_is : (ts : List Token) (n : List ℕ) → parsed_label ts ≡ Some n → ts ≡ line_tokens (label n)
 unfolding parsed_label
 label_is ts n e =
     name_then ts _ n e (λ m a is_m e.
     after_symbol_then (codes ":") a _ n e (λ b is_a e.
     let (end, same) = end_is b _ n e in
-    subst (λ n. ts ≡ spelled (label n)) same cc))
+    subst (λ n. ts ≡ line_tokens (label n)) same cc))
 
 -- the tokens of a line that is read are its spelling, and the line is well formed
-pub line_is : (ts : List Token) (line : Line) → line_of ts ≡ Some line → (ts ≡ spelled line) × IsWellFormed line
+pub line_is : (ts : List Token) (line : Line) → line_of ts ≡ Some line → (ts ≡ line_tokens line) × IsWellFormed line
 unfolding line_of
-line_is [] line e = subst (λ line. ([] ≡ spelled line) × IsWellFormed line) (same_Some blank line e) (refl, tt)
+line_is [] line e = subst (λ line. ([] ≡ line_tokens line) × IsWellFormed line) (same_Some blank line e) (refl, tt)
 line_is (t ∷ ts) line e = elim (either (parsed_label (t ∷ ts)) _ _ line e) [
   | inr (n, found, e) ↦ subst
-      (λ line. (t ∷ ts ≡ spelled line) × IsWellFormed line)
+      (λ line. (t ∷ ts ≡ line_tokens line) × IsWellFormed line)
       (same_Some (label n) line e) (label_is (t ∷ ts) n found, tt)
   | inl e ↦
       let (f, found, same) = map_some (parsed_form (t ∷ ts)) _ line e in
       let (is, form, labelled) = form_is (t ∷ ts) f found in
-      subst (λ line. (t ∷ ts ≡ spelled line) × IsWellFormed line) same (is, (form, labelled))
+      subst (λ line. (t ∷ ts ≡ line_tokens line) × IsWellFormed line) same (is, (form, labelled))
 ]

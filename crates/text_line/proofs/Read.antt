@@ -9,7 +9,7 @@ use Rattle.std.proofs.lemmas.Slice.Eq.{bytes_eq-Decides}
 use Rattle.text_line.specs.Blanks.{skip_blanks}
 use Rattle.text_line.specs.Token.{Token, HasTokens, IsTokens, is_over}
 use Rattle.text_line.specs.inside.Tokens.{token_at, symbol_at, name_at, number_at}
-use Rattle.text_line.specs.Line.{Line, spelled, ReadAs}
+use Rattle.text_line.specs.Line.{Line, line_tokens, ReadAs}
 use Rattle.text_line.specs.inside.Reading.{line_of}
 use Rattle.text_line.proofs.Grammar.{line_is}
 use Rattle.text_line.proofs.Spelled.{line_read}
@@ -62,7 +62,7 @@ read_as bytes ts (Some line) h e =
     let is = line_is ts line (sym e) in
     (is.1, subst (λ (us : List Token). IsTokens bytes us) is.0 h)
 read_as bytes ts None h e = λ line read.
-    let same = same_tokens bytes (spelled line) ts read.1.1 h.1 in
+    let same = same_tokens bytes (line_tokens line) ts read.1.1 h.1 in
     let some : None ≡ Some line = e ∙ ap line_of (sym same) ∙ line_read line read.0 in
     cc some
 
@@ -72,5 +72,5 @@ same_line bytes None None h k = refl
 same_line bytes None (Some b) h k = absurd (h b k)
 same_line bytes (Some a) None h k = absurd (k a h)
 same_line bytes (Some a) (Some b) h k =
-    let same = same_tokens bytes (spelled a) (spelled b) h.1.1 k.1.1 in
+    let same = same_tokens bytes (line_tokens a) (line_tokens b) h.1.1 k.1.1 in
     sym (line_read a h.0) ∙ ap line_of same ∙ line_read b k.0

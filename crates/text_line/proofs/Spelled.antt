@@ -38,7 +38,7 @@ use Rattle.text_line.specs.Token.{Token, name, number, symbol}
 use Rattle.text_line.specs.Names.{register_name, sign_name}
 use Rattle.text_line.specs.Form.{TokenLayout, layout, operation_layout, value_layout, sign, word, space, tokens_of, reg, minus}
 use Rattle.text_line.specs.Form.{to_label, operand_layout, destination, address, IsForm, IsOperation, IsSource, names_label}
-use Rattle.text_line.specs.Line.{Line, blank, label, code, spelled, IsWellFormed, NoLabel}
+use Rattle.text_line.specs.Line.{Line, blank, label, code, line_tokens, IsWellFormed, NoLabel}
 use Rattle.text_line.specs.inside.Reading.{registers, after_symbol, after_word, leading_register, leading_constant, leading_signed_number}
 use Rattle.text_line.specs.inside.Reading.{leading_operand, parsed_destination, leading_address, leading_wide_value, atomic_size_of, parsed_binary}
 use Rattle.text_line.specs.inside.Reading.{parsed_sign_extension, parsed_in_place, parsed_unary, parsed_operation, parsed_load, parsed_store}
@@ -333,7 +333,7 @@ code_read (form.Call id) n fits none =
 code_read form.Exit n fits none = rw none refl
 
 -- the spelling of a well-formed line is read as this line
-pub line_read : (line : Line) → IsWellFormed line → line_of (spelled line) ≡ Some line
+pub line_read : (line : Line) → IsWellFormed line → line_of (line_tokens line) ≡ Some line
 unfolding line_of parsed_label after_symbol
 line_read blank h = refl
 line_read (label n) h = refl

@@ -13,10 +13,10 @@ pub data Line : Type 0 where
 
 -- the tokens of a line: none of a blank line; of a label, its name and `:`; of an instruction,
 -- those of the layout of its form, with the name n of the label to which it jumps
-abbrev pub spelled : Line → List Token
-spelled blank = []
-spelled (label n) = name n ∷ symbol (codes ":") ∷ []
-spelled (code form n) = tokens_of (layout form n)
+abbrev pub line_tokens : Line → List Token
+line_tokens blank = []
+line_tokens (label n) = name n ∷ symbol (codes ":") ∷ []
+line_tokens (code form n) = tokens_of (layout form n)
 
 -- if the form names no label (`false`), the label's name `n` is empty; if it names one (`true`),
 -- `n` may be any
@@ -32,7 +32,7 @@ IsWellFormed _ = Unit {0}
 
 -- the bytes are read as this line: it is well formed, and its tokens are those of the bytes
 abbrev pub IsLine : List ℕ → Line → Type 0
-IsLine bytes line = IsWellFormed line × IsTokens bytes (spelled line)
+IsLine bytes line = IsWellFormed line × IsTokens bytes (line_tokens line)
 
 -- the bytes are read as this line; or they are read as no line, and the reading is `None`
 abbrev pub ReadAs : List ℕ → Option Line → Type 0

@@ -226,7 +226,7 @@ impl Form {
     /// Whether a line can have this form (`IsForm`): a sign extension is from fewer bits than the register has, a byte-order conversion is
     /// of an `r` register, and no double word is loaded with sign extension. The calls of `number` and `register_is_in_range` only give the
     /// proof that registers are 0 to 10.
-    fn is_listed(&self) -> bool
+    fn is_possible(&self) -> bool
         ensures yes { result ≡ true → IsForm self.now }
         ensures no { result ≡ false → IsForm self.now → ⊥ }
     {
@@ -278,14 +278,14 @@ impl Form {
 
     /// The instruction of this form. A label that its jump names is taken to be `distance` slots from the next slot.
     ///
-    /// `None` if a number is out of its field's range, or if no line can have this form (`is_listed`), as a byte-order conversion of a `w`
-    /// register.
+    /// `None` if a number is out of its field's range, or if no line can have this form (`is_possible`), as a byte-order conversion of a
+    /// `w` register.
     pub fn insn(self, distance: i16) -> Option<Insn>
         ensures found { IfSome result (λ insn. written insn ≡ resolved distance self) }
         ensures fits { IfSome result (λ _. form_fits self ≡ true) }
         ensures none { IfNone result (IsForm self → form_fits self ≡ false) }
     {
-        if self.is_listed() {
+        if self.is_possible() {
             self.listed_insn(distance)
         } else {
             None

@@ -12,8 +12,8 @@ ghost use Rattle.text_line.specs.inside.Reading.{parsed_assigned, parsed_branch,
 use crate::form::{Access, Form, Line, Operation};
 use crate::names::{atomic_size, register_named};
 use crate::parts::{
-    address, after_symbol, after_word, at_end, constant, destination, ended, name, operand,
-    register, symbol, wide_value,
+    address, after_symbol, after_word, at_end, constant, destination, ended, leading_symbol, name,
+    operand, register, wide_value,
 };
 use crate::token::Token;
 use insn_set::{
@@ -149,7 +149,7 @@ fn atomic(tokens: &[Token<'_>]) -> Option<Form>
         return None;
     };
     let size = atomic_size(signed, size)?;
-    let (symbol, rest) = symbol(rest)?;
+    let (symbol, rest) = leading_symbol(rest)?;
     let op = AtomicOp::from_symbol(symbol)?;
     let Some((src, rest)) = register(true, rest) else {
         return None;
@@ -176,7 +176,7 @@ fn assigned(tokens: &[Token<'_>]) -> Option<Form>
 {
     let (name, rest) = name(tokens)?;
     let (wide, dst) = register_named(name)?;
-    let (symbol, rest) = symbol(rest)?;
+    let (symbol, rest) = leading_symbol(rest)?;
     let op = alu_by_symbol(symbol)?;
     if let Some(op) = operation(wide, op, dst, rest) {
         return Some(Form::Operation { wide, dst, op });
@@ -198,7 +198,7 @@ fn branch<'a>(tokens: &[Token<'a>]) -> Option<(Form, &'a str)>
 {
     let (name, rest) = name(tokens)?;
     let (wide, dst) = register_named(name)?;
-    let (symbol, rest) = symbol(rest)?;
+    let (symbol, rest) = leading_symbol(rest)?;
     let cond = condition_by_symbol(symbol)?;
     let Some((src, rest)) = operand(wide, rest) else {
         return None;

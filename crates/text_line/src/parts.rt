@@ -11,12 +11,12 @@ ghost use Rattle.text_line.specs.inside.Reading.{leading_wide_value, is_ended, a
 use crate::form::{Address, JumpTarget, Number, SourceOperand, WideValue};
 use crate::names::register_named;
 use crate::token::Token;
-use insn_set::{AccessSize, Reg, size_by_name};
+use insn_set::{AccessSize, Reg, load_by_name};
 
 // ---- one token, and the tokens after it
 
 /// The first token, if it is a symbol, and the tokens after it; `None` if it is no symbol, or if there is no token.
-pub(crate) fn symbol<'t, 'a>(tokens: &'t [Token<'a>]) -> Option<(&'a str, &'t [Token<'a>])>
+pub(crate) fn leading_symbol<'t, 'a>(tokens: &'t [Token<'a>]) -> Option<(&'a str, &'t [Token<'a>])>
     ensures { seen_token result ≡ leading_symbol (shown_tokens tokens.now) }
 {
     match tokens.split_first() {
@@ -54,7 +54,7 @@ pub(crate) fn after_symbol<'t, 'a>(
 ) -> Option<&'t [Token<'a>]>
     ensures { seen result ≡ after_symbol expected.now (shown_tokens tokens.now) }
 {
-    let (found, rest) = symbol(tokens)?;
+    let (found, rest) = leading_symbol(tokens)?;
     if found == expected { Some(rest) } else { None }
 }
 
@@ -184,7 +184,7 @@ pub(crate) fn address<'t, 'a>(
     let rest = after_symbol(tokens, "*")?;
     let rest = after_symbol(rest, "(")?;
     let (name, rest) = name(rest)?;
-    let size = size_by_name(name)?;
+    let size = load_by_name(name)?;
     let rest = after_symbol(rest, "*")?;
     let rest = after_symbol(rest, ")")?;
     let rest = after_symbol(rest, "(")?;

@@ -39,7 +39,7 @@ use Rattle.abstraction.specs.Laws.{MapCallsKeep, SiteAdmits}
 use Rattle.tagged_model.specs.Values.{arithmetic, first_operand, of_number, compared}
 use Rattle.tagged_model.specs.State.{RunState, load, store}
 use Rattle.tagged_model.specs.Step.{Step, goes, or_fault, operand_value, advanced, assigned, changed, branched, ended, accessed, act_of, act}
-use Rattle.insn_set.specs.Flow.{natural, offset_by, jumps_to}
+use Rattle.insn_set.specs.Flow.{slot_of_integer, offset_by, jumps_to}
 use Rattle.transfer.specs.Arithmetic.{check_readable, arithmetic_kind, of_scalar}
 use Rattle.transfer.specs.Branches.{Edges, falls, branch_edges}
 use Rattle.transfer.specs.Effects.{source_kind, assigns, load_kind, store_facts, atomic_facts}
@@ -71,7 +71,7 @@ module _ (laws : Laws) (here : Here) (f : Facts) (s : RunState) (is_known : IsKn
     (below : AreBelow s.at f) where
   -- the target slot of a jump
   abbrev target_of : View → Option ℕ
-  target_of v = natural (pos (s.at + 1) +ℤ offset_by (profile_of v).successors)
+  target_of v = slot_of_integer (pos (s.at + 1) +ℤ offset_by (profile_of v).successors)
 
   -- the edge that an instruction of this many slots takes: the jump's, or the one to the next instruction
   abbrev OnTaken : View → ℕ → Bool → Edges → RunState → Type 0
@@ -170,7 +170,7 @@ module _ (laws : Laws) (here : Here) (f : Facts) (s : RunState) (is_known : IsKn
       ∙ ap (λ o. unwrap_or (and_then o (compared wide cond src v)) false) second
 
   branches_covered : (wide : Bool) (cond : Condition) (dst : ℕ) (src : Operand) (off : ℤ)
-      → IsSome (natural (pos (s.at + 1) +ℤ off)) → Covered (branch wide cond dst src off)
+      → IsSome (slot_of_integer (pos (s.at + 1) +ℤ off)) → Covered (branch wide cond dst src off)
   branches_covered wide cond dst src off there =
       let i = branch wide cond dst src off in
       register_covered (OnTaken i 1 (jumps_in i s)) dst _ _
@@ -285,7 +285,7 @@ module _ (laws : Laws) (here : Here) (f : Facts) (s : RunState) (is_known : IsKn
   view_covered (binary wide op dst src) is there = binary_covered wide op dst src
   view_covered (unary wide op dst src) is there = unary_covered wide op dst src
   view_covered (jump off) is there =
-      jump_covered here (natural (pos (s.at + 1) +ℤ off)) (record { falling = None; jumping = Some f }) s there is_known
+      jump_covered here (slot_of_integer (pos (s.at + 1) +ℤ off)) (record { falling = None; jumping = Some f }) s there is_known
   view_covered (branch wide cond dst src off) is there = branches_covered wide cond dst src off there
   view_covered (access what base off) is there =
       register_covered Next base _ _ (λ k p h. access_covered what off k p h.kind)

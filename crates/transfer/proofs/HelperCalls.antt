@@ -40,7 +40,7 @@ use Rattle.abstraction.specs.Laws.{MapCallsKeep, KeepsShapeAndObjects, Describes
 use Rattle.transfer.specs.Arithmetic.{check_readable}
 use Rattle.tagged_model.specs.Named.{Shapes}
 use Rattle.transfer.specs.declared.calls.ShapedMap.{ShapedMap}
-use Rattle.transfer.specs.Calls.{shaped, map_kind, check_room, input_kind, output_facts, number_range, lengths_end}
+use Rattle.transfer.specs.Calls.{shaped, argument_map, check_room, input_kind, output_facts, number_range, lengths_end}
 use Rattle.transfer.specs.Calls.{length_range, context_kind, readable_two, readable_four, any_number, call_facts}
 use Rattle.transfer.specs.Sound.{CallIsAdmitted, CallsAreSound}
 use Rattle.transfer.proofs.Rooms.{owned, room_here}
@@ -173,7 +173,7 @@ module _ (laws : Laws) {witness : Witness} {shapes : Shapes} {f : Facts} {s : Ru
 
   map_agrees : (n : ℕ) (k : Kind)
       → IsReadable k → HasKind witness k (s.registers n)
-      → Agree IsMap (map_kind shapes k) (map_argument s n)
+      → Agree IsMap (argument_map shapes k) (map_argument s n)
   map_agrees n (kind.MapRef m) r h = map_found n m (shapes m) refl (h.1 ∙ ap (λ (v : Tagged). Some v) h.2)
   map_agrees n k r h = tt
 
@@ -417,7 +417,7 @@ module _ (laws : Laws) {witness : Witness} {shapes : Shapes} {f : Facts} {s : Ru
         → Read 1 → Read 2
         → ((x : ShapedMap) (g : GivenMap) (key : List ℕ) → IsMap x g → Agree IsAdmitted (go x) (on g key))
         → Agree IsAdmitted
-        (and_then_ok (map_kind shapes (kind_at f 1))
+        (and_then_ok (argument_map shapes (kind_at f 1))
         (λ x. and_then_ok (input_kind shapes f x.shape.key_size (kind_at f 2)) (λ _. go x)))
         (and_then (map_argument s 1) (λ g. and_then (argument s 2 (λ p. input s p g.map.table.shape.key_size)) (on g)))
     key_given go on r1 r2 next =

@@ -29,7 +29,7 @@ use Rattle.words.specs.Widths.{width}
 use Rattle.tagged_model.specs.Values.{is_null_test, holds_of_pointers, compared}
 use Rattle.tagged_model.specs.State.{RunState, at_slot}
 use Rattle.tagged_model.specs.Step.{goes, or_fault, operand_value, branched}
-use Rattle.insn_set.specs.Flow.{natural}
+use Rattle.insn_set.specs.Flow.{slot_of_integer}
 use Rattle.abstraction.specs.Laws.{NullTestAdmits}
 use Rattle.abstraction.specs.Admits.{IsLookup}
 use Rattle.transfer.specs.Branches.{Edges, with_source, with_pair, is_same, number_edges, null_edges, settled_edges, branch_edges}
@@ -69,9 +69,9 @@ jump_covered here (Some n) e s there h = on_edge here e.jumping s n h
 
 module _ {here : Here} (laws : Comparisons) {f : Facts} {s : RunState} (known : IsKnown here f s)
     (off : ℤ)
-    (there : IsSome (natural (pos (s.at + 1) +ℤ off))) where
+    (there : IsSome (slot_of_integer (pos (s.at + 1) +ℤ off))) where
   abbrev Target : Option ℕ
-  Target = natural (pos (s.at + 1) +ℤ off)
+  Target = slot_of_integer (pos (s.at + 1) +ℤ off)
 
   -- the facts on the edge that is taken admit the state after the jump
   abbrev Covered : Edges → Bool → Type 0

@@ -23,7 +23,7 @@ use Rattle.tagged_model.specs.StateLaws.{near_parts}
 use Rattle.tagged_model.specs.Cells.{and_then}
 use Rattle.transfer.specs.declared.arithmetic.Direction.{Direction}
 use Rattle.transfer.specs.declared.arithmetic.Direction.TheVariants.{Forwards, Backwards}
-use Rattle.transfer.specs.Arithmetic.{Distance, distance, near_offset, moved_offset, near, stack_moved, spanned, value_by, pointer_moved}
+use Rattle.transfer.specs.Arithmetic.{Distance, distance, near_offset, moved_offset, or_too_large, stack_moved, spanned, value_by, pointer_moved}
 use Rattle.transfer.proofs.Parts.{Here, SomeIs, Gives}
 
 abbrev pub shifted : Direction → ℤ → ℤ → ℤ
@@ -78,10 +78,10 @@ at_most_max a b z h = omega (arith, ints, clamps)
 
 -- the kind of a pointer with this offset; rejected without one, since the offset exceeds the limit
 abbrev stack_kind : Option ℤ → Result Kind Reason
-stack_kind o = and_then_ok (near o) (λ y. Ok (kind.Stack y))
+stack_kind o = and_then_ok (or_too_large o) (λ y. Ok (kind.Stack y))
 
 abbrev value_kind : Option ValuePointer → Result Kind Reason
-value_kind o = and_then_ok (near o) (λ q. Ok (kind.Value q))
+value_kind o = and_then_ok (or_too_large o) (λ q. Ok (kind.Value q))
 
 module _ (here : Here) where
   stack_at : (y : ℤ) → Gives here (stack_kind (near_offset y)) (moved object.Stack y)

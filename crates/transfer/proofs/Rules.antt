@@ -33,13 +33,13 @@ use Rattle.tagged_model.specs.Values.{is_null_test}
 use Rattle.tagged_model.specs.Cells.{and_then}
 use Rattle.transfer.specs.declared.arithmetic.Direction.{Direction}
 use Rattle.transfer.specs.declared.arithmetic.Direction.TheVariants.{Forwards, Backwards}
-use Rattle.transfer.specs.Arithmetic.{check_readable, near, stack_moved, value_by, distance, moved_offset, pointer_moved}
+use Rattle.transfer.specs.Arithmetic.{check_readable, or_too_large, stack_moved, value_by, distance, moved_offset, pointer_moved}
 use Rattle.transfer.specs.Arithmetic.{is_maybe_value, of_scalars, of_scalar, sum_kind, difference_kind, unless_maybe, arithmetic_kind}
 use Rattle.transfer.specs.Branches.{Edges, falls, pointer_edges, branch_edges}
 use Rattle.transfer.specs.Effects.{source_kind, first_operand_kind, assigns, is_word, context_read, load_kind, store_facts, number_or}
 use Rattle.transfer.specs.Effects.{is_known_multiple, atomic_facts, map_of, value_of, known, exits_with, access_edges, wide_kind, effect_of, effect}
 use Rattle.transfer.specs.Reasons.{IsSafetyReason, IsReasonFor, IsReasonOf, TransferReasons}
-use Rattle.transfer.specs.Calls.{shaped, map_kind, check_room, input_kind, output_facts, number_range, lengths_end}
+use Rattle.transfer.specs.Calls.{shaped, argument_map, check_room, input_kind, output_facts, number_range, lengths_end}
 use Rattle.transfer.specs.Calls.{length_range, context_kind, readable_two, readable_four, any_number, call_facts}
 use Rattle.words.specs.Stack.{bytes_of, is_double, is_in_stack, byte_index, is_aligned, touches}
 use Rattle.reg_kinds.specs.declared.kind.ValuePointer.{ValuePointer}
@@ -78,19 +78,19 @@ first_rule op k = readable_rule k
 
 -- ---- operators
 
-near_rule : {A : Type 0} (o : Option A) → ByRule (near o)
+near_rule : {A : Type 0} (o : Option A) → ByRule (or_too_large o)
 near_rule None = tt
 near_rule (Some x) = tt
 
 stack_moved_rule : (way : Direction) (x : ℤ) (r : Range) → ByRule (stack_moved way x r)
 stack_moved_rule way x r =
-    then_rule (near (and_then (distance r) (λ d. moved_offset way x d.0))) _ (near_rule _) (λ y. tt)
+    then_rule (or_too_large (and_then (distance r) (λ d. moved_offset way x d.0))) _ (near_rule _) (λ y. tt)
 
 moved_rule : (way : Direction) (k : Kind) (r : Range) → ByRule (pointer_moved way k r)
 moved_rule way (kind.Stack x) r =
     cond_both (is_constant r) (stack_moved way x r) (Err PointerArithmetic) ByRule
     (λ _. stack_moved_rule way x r) (λ _. tt)
-moved_rule way (kind.Value p) r = then_rule (near (and_then (distance r) (value_by way p))) _ (near_rule _) (λ q. tt)
+moved_rule way (kind.Value p) r = then_rule (or_too_large (and_then (distance r) (value_by way p))) _ (near_rule _) (λ q. tt)
 moved_rule way k r = tt
 
 numbers_rule : (wide : Bool) (op : Operator) (k l : Kind) → ByRule (of_scalars wide op k l)
@@ -197,7 +197,7 @@ shaped_rule : (m : ℕ) (o : Option MapShape) → ByRule (shaped m o)
 shaped_rule m None = tt
 shaped_rule m (Some shape) = tt
 
-map_kind_rule : (shapes : Shapes) (k : Kind) → ByRule (map_kind shapes k)
+map_kind_rule : (shapes : Shapes) (k : Kind) → ByRule (argument_map shapes k)
 map_kind_rule shapes (kind.MapRef m) = shaped_rule m (shapes m)
 map_kind_rule shapes k = tt
 
@@ -245,7 +245,7 @@ four_rule f go next = two_rule f _ (λ a b. register_rule f 3 _ (λ c. register_
 -- a map and one of its keys
 key_rule : (shapes : Shapes) (f : Facts) (a b : Kind) (go : ShapedMap → Result Facts Reason)
     → ((m : ShapedMap) → ByRule (go m))
-    → ByRule (and_then_ok (map_kind shapes a) (λ m. and_then_ok (input_kind shapes f m.shape.key_size b) (λ _. go m)))
+    → ByRule (and_then_ok (argument_map shapes a) (λ m. and_then_ok (input_kind shapes f m.shape.key_size b) (λ _. go m)))
 key_rule shapes f a b go next =
     then_rule _ _ (map_kind_rule shapes a)
     (λ m. then_rule _ _ (input_rule shapes f m.shape.key_size b) (λ _. next m))

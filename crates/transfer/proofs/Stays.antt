@@ -44,12 +44,12 @@ use Rattle.tagged_model.specs.Values.{is_null_test, holds_of_pointers}
 use Rattle.tagged_model.specs.Cells.{and_then}
 use Rattle.transfer.specs.declared.arithmetic.Direction.{Direction}
 use Rattle.transfer.specs.declared.arithmetic.Direction.TheVariants.{Forwards, Backwards}
-use Rattle.transfer.specs.Arithmetic.{check_readable, near, stack_moved, value_by, distance, moved_offset, pointer_moved}
+use Rattle.transfer.specs.Arithmetic.{check_readable, or_too_large, stack_moved, value_by, distance, moved_offset, pointer_moved}
 use Rattle.transfer.specs.Arithmetic.{is_maybe_value, of_scalars, of_scalar, sum_kind, difference_kind, unless_maybe, arithmetic_kind}
 use Rattle.transfer.specs.Branches.{Edges, falls, with_source, with_pair, is_same, number_edges, null_edges, pointer_edges, branch_edges}
 use Rattle.transfer.specs.Effects.{source_kind, first_operand_kind, assigns, is_word, context_read, load_kind, store_facts, number_or}
 use Rattle.transfer.specs.Effects.{is_known_multiple, atomic_facts, map_of, value_of, known, exits_with, access_edges, wide_kind, effect_of, effect}
-use Rattle.transfer.specs.Calls.{map_kind, check_room, input_kind, output_facts, number_range, length_range}
+use Rattle.transfer.specs.Calls.{argument_map, check_room, input_kind, output_facts, number_range, length_range}
 use Rattle.transfer.specs.Calls.{context_kind, readable_two, readable_four, any_number, call_facts}
 use Rattle.transfer.specs.Sound.{IsKindAt, AreWellFormedAt, AreWellFormedOn, TransferKeepsWellFormed}
 use Rattle.transfer.specs.FactLaws.{facts_of_later_slots}
@@ -97,10 +97,10 @@ module _ (bound : ℕ) (shapes : Shapes) (at : ℕ) (lt : at < bound) where
   moved_words : (way : Direction) (k : Kind) (r : Range) → OkIs (IsKindAt bound) (pointer_moved way k r)
   moved_words way (kind.Stack x) r =
       cond_both (is_constant r) (stack_moved way x r) (Err PointerArithmetic) (OkIs (IsKindAt bound))
-      (λ _. past _ (near (and_then (distance r) (λ d. moved_offset way x d.0))) (λ y. Ok (kind.Stack y)) (λ y. tt))
+      (λ _. past _ (or_too_large (and_then (distance r) (λ d. moved_offset way x d.0))) (λ y. Ok (kind.Stack y)) (λ y. tt))
       (λ _. tt)
   moved_words way (kind.Value p) r =
-      past _ (near (and_then (distance r) (value_by way p))) (λ q. Ok (kind.Value q)) (λ q. tt)
+      past _ (or_too_large (and_then (distance r) (value_by way p))) (λ q. Ok (kind.Value q)) (λ q. tt)
   moved_words way k r = tt
 
   module _ (laws : WordLaws) where
@@ -204,9 +204,9 @@ module _ (bound : ℕ) (shapes : Shapes) (at : ℕ) (lt : at < bound) where
   key_words : (f : Facts) (a b : Kind) (go : ShapedMap → Result Facts Reason)
       → ((m : ShapedMap) → OkIs (AreWellFormedAt bound) (go m))
       → OkIs (AreWellFormedAt bound)
-      (and_then_ok (map_kind shapes a) (λ m. and_then_ok (input_kind shapes f m.shape.key_size b) (λ _. go m)))
+      (and_then_ok (argument_map shapes a) (λ m. and_then_ok (input_kind shapes f m.shape.key_size b) (λ _. go m)))
   key_words f a b go next =
-      past _ (map_kind shapes a) _ (λ m. past _ (input_kind shapes f m.shape.key_size b) _ (λ _. next m))
+      past _ (argument_map shapes a) _ (λ m. past _ (input_kind shapes f m.shape.key_size b) _ (λ _. next m))
 
   call_words : (h : Helper) (f : Facts)
       → AreWellFormedAt bound f → OkIs (AreWellFormedAt bound) (call_facts shapes at h f)

@@ -56,15 +56,16 @@ moved_offset Backwards x d = near_offset (x -ℤ d)
 
 -- a moved offset or pointer as a result; OffsetTooLarge for None: the new offset would be too far
 -- from 0, or the range of the number by which the pointer moves has numbers of both signs
-abbrev pub near : {A : Type 0} → Option A → Result A Reason
-near None = Err OffsetTooLarge
-near (Some x) = Ok x
+abbrev pub or_too_large : {A : Type 0} → Option A → Result A Reason
+or_too_large None = Err OffsetTooLarge
+or_too_large (Some x) = Ok x
 
 -- the kind of the stack pointer at offset x, moved by the number of r, a range of one number;
 -- OffsetTooLarge if the new offset is more than `farthest_offset` from 0
 abbrev pub stack_moved : Direction → ℤ → Range → Result Kind Reason
 stack_moved way x r =
-    and_then_ok (near (and_then (distance r) (λ d. moved_offset way x d.0))) (λ y. Ok (Stack y))
+    and_then_ok (or_too_large (and_then (distance r) (λ d. moved_offset way x d.0)))
+    (λ y. Ok (Stack y))
 
 -- a pointer into a value of this map, at an offset from `low` to `high`; None if `low` or `high` is
 -- None, since that offset is too far from 0
@@ -84,7 +85,7 @@ value_by Backwards p d =
 -- of both signs
 abbrev pub value_moved : Direction → ValuePointer → Range → Result Kind Reason
 value_moved way p r =
-    and_then_ok (near (and_then (distance r) (value_by way p))) (λ q. Ok (Value q))
+    and_then_ok (or_too_large (and_then (distance r) (value_by way p))) (λ q. Ok (Value q))
 
 -- the kind of a pointer, moved by a number of a range: a stack pointer by a constant, a pointer
 -- into a value by any number. PointerArithmetic for any other pointer or number; OffsetTooLarge if

@@ -27,9 +27,9 @@ shaped m (Some shape) = Ok (record { descriptor = m; shape = shape })
 
 -- the map, with its shape, that an argument of this kind is; HelperArgument if the kind is not that
 -- of a map, or its descriptor has no shape
-abbrev pub map_kind : Shapes → Kind → Result ShapedMap Reason
-map_kind shapes (kind.MapRef m) = shaped m (shapes m)
-map_kind shapes k = Err HelperArgument
+abbrev pub argument_map : Shapes → Kind → Result ShapedMap Reason
+argument_map shapes (kind.MapRef m) = shaped m (shapes m)
+argument_map shapes k = Err HelperArgument
 
 -- Ok if the n bytes that start `off` bytes from a pointer lie in its value, for each offset that it
 -- may have; else OutsideValue, also if its descriptor has no shape (None)
@@ -105,19 +105,19 @@ any_number = kind.Scalar (full 64)
 abbrev pub call_facts : Shapes → ℕ → Helper → Facts → Result Facts Reason
 call_facts shapes at LookUp f =
     readable_two f (λ a b.
-    and_then_ok (map_kind shapes a) (λ m.
+    and_then_ok (argument_map shapes a) (λ m.
     and_then_ok (input_kind shapes f m.shape.key_size b) (λ _.
     Ok (called_facts f (kind.MaybeValue m.descriptor at)))))
 call_facts shapes at Update f =
     readable_four f (λ a b c d.
-    and_then_ok (map_kind shapes a) (λ m.
+    and_then_ok (argument_map shapes a) (λ m.
     and_then_ok (input_kind shapes f m.shape.key_size b) (λ _.
     and_then_ok (input_kind shapes f m.shape.value_size c) (λ _.
     and_then_ok (number_range d) (λ _.
     Ok (called_facts f any_number))))))
 call_facts shapes at Delete f =
     readable_two f (λ a b.
-    and_then_ok (map_kind shapes a) (λ m.
+    and_then_ok (argument_map shapes a) (λ m.
     and_then_ok (input_kind shapes f m.shape.key_size b) (λ _.
     Ok (called_facts f any_number))))
 call_facts shapes at LoadBytes f =

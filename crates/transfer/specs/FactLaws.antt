@@ -12,17 +12,17 @@ use Rattle.transfer.specs.Sound.{IsKindAt, IsSlotAt, AreWellFormedAt}
 
 -- a kind that is well formed at a slot (`IsKindAt`: a look-up that it names was at a lower slot) is
 -- well formed at each later slot
-kind_raised : (at n : ℕ) (k : Kind) → at < n → IsKindAt at k → IsKindAt n k
-kind_raised at n (kind.Scalar r) lt h = h
-kind_raised at n (kind.MaybeValue m site) lt h = omega arith
-kind_raised at n k lt h = tt
+kind_at_later_slot : (at n : ℕ) (k : Kind) → at < n → IsKindAt at k → IsKindAt n k
+kind_at_later_slot at n (kind.Scalar r) lt h = h
+kind_at_later_slot at n (kind.MaybeValue m site) lt h = omega arith
+kind_at_later_slot at n k lt h = tt
 
 -- a stack slot that is well formed at a slot of the program is well formed at each later one: of
 -- what this requires (`IsSlotAt`), only one bound depends on the slot of the program, that on the
 -- site of a look-up, and a higher slot makes the bound weaker
 slot_raised : (at n : ℕ) (s : Slot) → at < n → IsSlotAt at s → IsSlotAt n s
 slot_raised at n (Bytes mask) lt h = h
-slot_raised at n (Spill k) lt h = kind_raised at n k lt h
+slot_raised at n (Spill k) lt h = kind_at_later_slot at n k lt h
 
 -- facts that are well formed at a slot are well formed at each later one
 pub facts_of_later_slots : (at n : ℕ) (f : Facts)
@@ -30,6 +30,6 @@ pub facts_of_later_slots : (at n : ℕ) (f : Facts)
     → AreWellFormedAt at f
     → AreWellFormedAt n f
 facts_of_later_slots at n f lt h = record {
-  registers = λ r. kind_raised at n (kind_at f r) lt (h.registers r);
+  registers = λ r. kind_at_later_slot at n (kind_at f r) lt (h.registers r);
   slots = λ i. slot_raised at n (slot_at f i) lt (h.slots i);
 }

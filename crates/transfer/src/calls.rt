@@ -3,7 +3,7 @@
 ghost use Rattle.std.specs.Prelude.{◌≡◌, ◌<◌, ◌+ℤ◌, pos, int_le, ◌&&◌, if◌then◌else◌, IfOk, IfErr, OnErr, OnOk, Ok, Err};
 ghost use Rattle.tagged_model.specs.Named.{shapes_named};
 ghost use Rattle.reg_kinds.specs.declared.reason.Reason.TheVariants.{OutsideValue};
-ghost use Rattle.transfer.specs.Calls.{map_kind, check_room, input_kind, output_facts, number_range};
+ghost use Rattle.transfer.specs.Calls.{argument_map, check_room, input_kind, output_facts, number_range};
 ghost use Rattle.transfer.specs.Calls.{lengths_end, length_range, context_kind, any_number, call_facts};
 
 use crate::arithmetic::check_readable;
@@ -24,8 +24,8 @@ pub(crate) struct ShapedMap {
 
 /// The descriptor and the shape of the map that a helper gets as an argument of this kind. `HelperArgument` if the kind is not that of a
 /// map, or if its descriptor names no map.
-fn map_kind(named: &[Named], kind: Kind) -> Result<ShapedMap, Reason>
-    ensures { result ≡ map_kind (shapes_named named.now) kind }
+fn argument_map(named: &[Named], kind: Kind) -> Result<ShapedMap, Reason>
+    ensures { result ≡ argument_map (shapes_named named.now) kind }
 {
     let Kind::MapRef(descriptor) = kind else {
         return Err(Reason::HelperArgument);
@@ -78,7 +78,7 @@ pub(crate) fn check_room(
 /// Checks that an argument of this kind points to `count` bytes that a helper may read. `named` lists the open descriptors and their
 /// objects. The error is that of `check_read` for a pointer into the stack, `OutsideValue` for one into a value (`check_room`), `MaybeNull`
 /// for the result of a look-up that may be null, and `HelperArgument` for anything else.
-fn input(named: &[Named], facts: &Facts, count: u32, kind: Kind) -> Result<(), Reason>
+fn check_input(named: &[Named], facts: &Facts, count: u32, kind: Kind) -> Result<(), Reason>
     ensures { result ≡ input_kind (shapes_named named.now) facts.now count kind }
 {
     match kind {
@@ -172,8 +172,8 @@ pub(crate) fn call(
     let second = check_readable(facts.kind(Reg::new(2)))?;
     match helper {
         Helper::LookUp => {
-            let map = map_kind(named, first)?;
-            input(named, facts, map.shape.key_size, second)?;
+            let map = argument_map(named, first)?;
+            check_input(named, facts, map.shape.key_size, second)?;
             let found = Kind::MaybeValue {
                 map: map.descriptor,
                 site: slot,
@@ -183,15 +183,15 @@ pub(crate) fn call(
         Helper::Update => {
             let value = check_readable(facts.kind(Reg::new(3)))?;
             let flags = check_readable(facts.kind(Reg::new(4)))?;
-            let map = map_kind(named, first)?;
-            input(named, facts, map.shape.key_size, second)?;
-            input(named, facts, map.shape.value_size, value)?;
+            let map = argument_map(named, first)?;
+            check_input(named, facts, map.shape.key_size, second)?;
+            check_input(named, facts, map.shape.value_size, value)?;
             check_number(flags)?;
             facts_after_call(facts, any_number());
         }
         Helper::Delete => {
-            let map = map_kind(named, first)?;
-            input(named, facts, map.shape.key_size, second)?;
+            let map = argument_map(named, first)?;
+            check_input(named, facts, map.shape.key_size, second)?;
             facts_after_call(facts, any_number());
         }
         Helper::LoadBytes => {

@@ -127,7 +127,7 @@ fn load(
 
 /// Checks that a value of this kind may be stored outside the stack, in the value of a map. `PointerStored` for a pointer or a map, which
 /// only the stack keeps whole. An unreadable value passes this check: the caller of `store` has rejected it.
-fn store_outside(value: Kind) -> Result<(), Reason>
+fn check_stored_in_map(value: Kind) -> Result<(), Reason>
     ensures { result ≡ (if is_pointer value then Err PointerStored else Ok tt) }
 {
     if value.is_pointer() {
@@ -140,9 +140,9 @@ fn store_outside(value: Kind) -> Result<(), Reason>
 /// Updates the facts for a store of a value of the kind `value`, `offset` bytes from an address of the kind `base`. The caller has tested
 /// that the address and the value may be read. `named` lists the objects of descriptors. Returns the one stack slot that the store may
 /// change; `None` for a store into the value of a map, which changes no fact. After an error no fact has changed. A store to the stack has
-/// the errors of `stack_offset` and `write_stack`, and a store into a value those of `check_room` (`OutsideValue`) and `store_outside`
-/// (`PointerStored`). Any other `base` is an error: `ContextAccess` for the context, `MaybeNull` for a look-up's result that may be null,
-/// else `NotPointer`.
+/// the errors of `stack_offset` and `write_stack`, and a store into a value those of `check_room` (`OutsideValue`) and
+/// `check_stored_in_map` (`PointerStored`). Any other `base` is an error: `ContextAccess` for the context, `MaybeNull` for a look-up's
+/// result that may be null, else `NotPointer`.
 #[inline(always)]
 fn store(
     facts: &mut Facts,
@@ -172,7 +172,7 @@ fn store(
         Kind::Ctx => Err(Reason::ContextAccess),
         Kind::Value(pointer) => {
             check_room(named, pointer, offset, u32::from(size.bytes()))?;
-            store_outside(value)?;
+            check_stored_in_map(value)?;
             Ok(None)
         }
         Kind::MaybeValue { .. } => Err(Reason::MaybeNull),

@@ -26,7 +26,7 @@ use Rattle.tagged_model.specs.Named.{Shapes, target_of, shape_in, shapes_named}
 use Rattle.transfer.specs.Branches.{Edges}
 use Rattle.transfer.specs.Effects.{effect}
 use Rattle.transfer.specs.Reasons.{IsUnknownHelper, IsUnshapedMap, IsNoValue, IsReasonOf, TransferReasons}
-use Rattle.verifier.specs.Shape.{is_unknown_helper, is_map, is_not_open, is_not_map, is_no_value, structure_fault}
+use Rattle.verifier.specs.Shape.{is_unknown_helper, is_map, is_not_open, is_not_map, lacks_direct_value, structure_fault}
 use Rattle.verifier.specs.Before.{facts_before}
 use Rattle.verifier.specs.Maps.{without, distinct, maps_of, is_among, objects_at, shapes_of}
 use Rattle.verifier.specs.Verdict.{reason_of, safety_fault, HasNoFault}
@@ -205,7 +205,7 @@ none_unshaped shapes (names.Value fd off) h none = true≢false (sym (h fd refl)
 -- a value that is loaded directly is one that the map has
 none_lacking : (shapes : Shapes) (named : List Named) (r : Reference)
     → ((fd : ℕ) → descriptor_by r ≡ Some fd → shapes fd ≡ shapes_named named fd)
-    → is_no_value named r ≡ false → IsNoValue shapes r
+    → lacks_direct_value named r ≡ false → IsNoValue shapes r
     → ⊥
 none_lacking shapes named (names.Value fd off) same has none =
     let there : shapes_named named fd ≡ Some none.0 = sym (same fd refl) ∙ none.1 in

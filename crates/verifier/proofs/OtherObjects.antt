@@ -24,7 +24,7 @@ use Rattle.verifier.specs.Fits.{Fits, SameShapesAreAccepted}
 use Rattle.verifier.specs.Judgement.{Judges}
 use Rattle.verifier.specs.Maps.{maps_of, is_among, objects_at, shapes_of}
 use Rattle.verifier.specs.Shape.{leads_outside, leads_backward, is_reachable, is_number, calls_unknown, is_map, is_not_open}
-use Rattle.verifier.specs.Shape.{is_not_map, is_no_value, lacks_value, first_reason, shape_reason, shape_reason_at, structure_fault}
+use Rattle.verifier.specs.Shape.{is_not_map, lacks_direct_value, lacks_value, first_reason, shape_reason, shape_reason_at, structure_fault}
 use Rattle.verifier.specs.Verdict.{safety_fault, HasNoFault, IsAccepted}
 use Rattle.verifier.specs.Verified.{Accepted, IsVerified, shapes_in}
 use Rattle.verifier.proofs.Listed.{index_of, shape_kept}
@@ -69,7 +69,7 @@ module _ (named other : List Named) where
 
   value_same : (r : Reference)
       → ((fd : ℕ) → descriptor_by r ≡ Some fd → target_of other fd ≡ target_of named fd)
-      → is_no_value other r ≡ is_no_value named r
+      → lacks_direct_value other r ≡ lacks_direct_value named r
   value_same names.Nothing h = refl
   value_same (names.Helper id) h = refl
   value_same (names.Map fd) h = refl

@@ -7,7 +7,7 @@ use Rattle.insn_set.specs.View.{View, Access, WideValue, binary, unary, jump, br
 use Rattle.insn_set.specs.View.{call, exit, loads, stores, changes, immediate, map_ref, value_ref, view}
 use Rattle.insn_set.specs.Profile.{profile_of}
 use Rattle.insn_set.specs.Program.{IsProgram, slot_count, begins_at}
-use Rattle.insn_set.specs.Flow.{falls_by, jumps_by, natural}
+use Rattle.insn_set.specs.Flow.{falls_by, jumps_by, slot_of_integer}
 use Rattle.words.specs.Operate.{operate}
 use Rattle.words.specs.Widths.{width}
 use Rattle.tagged_model.specs.declared.shape.Named.{Named}
@@ -44,7 +44,7 @@ after v None go h = tt
 after v (Some x) go h = h x
 
 jump_goes : (v : View) (s : RunState) (off : ℤ) → EndsAtExit v (jumped s off)
-jump_goes v s off = after v (natural (pos (s.at + 1) +ℤ off)) _ (λ n. tt)
+jump_goes v s off = after v (slot_of_integer (pos (s.at + 1) +ℤ off)) _ (λ n. tt)
 
 branch_goes : (v : View) (s : RunState) (off : ℤ) (yes : Bool) → EndsAtExit v (branched s off yes)
 branch_goes v s off true = jump_goes v s off

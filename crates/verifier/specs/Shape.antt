@@ -86,16 +86,16 @@ is_not_map named (Some fd) = not (option_map_or is_map (target_of named fd) true
 
 -- an instruction loads a value of a map directly, without a call, and the map has none at this
 -- offset; a descriptor that names no map is another fault
-abbrev pub is_no_value : List Named → Reference → Bool
-is_no_value named names.Nothing = false
-is_no_value named (names.Helper id) = false
-is_no_value named (names.Map fd) = false
-is_no_value named (names.Value fd off) =
+abbrev pub lacks_direct_value : List Named → Reference → Bool
+lacks_direct_value named names.Nothing = false
+lacks_direct_value named (names.Helper id) = false
+lacks_direct_value named (names.Map fd) = false
+lacks_direct_value named (names.Value fd off) =
     not (option_map_or (λ shape. has_direct_value shape off) (shapes_named named fd) true)
 
 -- the instruction loads a value directly, without a call, that the map does not have
 abbrev pub lacks_value : List Named → Insn → Bool
-lacks_value named i = is_no_value named (profile i).reference
+lacks_value named i = lacks_direct_value named (profile i).reference
 
 -- no instruction begins at the target of a jump; a target below slot 0 is None
 abbrev pub leads_outside : List Insn → Option ℕ → Bool

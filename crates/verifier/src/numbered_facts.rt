@@ -60,7 +60,7 @@ impl NumberedFacts {
     /// is a slot of the stack (`IsInStack`); for `Writes` these are all groups. Other flows change nothing; a null test changes the stack
     /// only on its edges (`leave_null_test`).
     #[inline(always)]
-    pub(crate) fn note(&mut self, flow: &Flow, fresh: usize)
+    pub(crate) fn renumber_written(&mut self, flow: &Flow, fresh: usize)
         requires { IsInStack flow.now }
         ensures { self.new ≡ noted flow.now fresh self.old }
     {

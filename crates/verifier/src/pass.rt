@@ -257,7 +257,7 @@ fn run_past<W: Watcher>(
     watcher.before(slot, &hand.facts)?;
     match apply(&mut hand.facts, named, slot, insn) {
         Ok(flow) => {
-            hand.note(&flow, 8 * slot + 3);
+            hand.renumber_written(&flow, 8 * slot + 3);
             Ok(leave(hand, entries, taken, &flow, insn, slot)?)
         }
         Err(reason) => Err(VerifyFault { slot, reason }),
@@ -301,7 +301,7 @@ impl Pass {
     /// no fault. If `falling` has no facts at the call, no run reaches the instruction, and nothing is done. The error is why the
     /// instruction may not be run with these facts, or out of memory. `named` has the program's maps.
     #[inline(always)]
-    fn go_past<W: Watcher>(
+    fn pass_instruction<W: Watcher>(
         &mut self,
         named: &[Named],
         insn: &Insn,
@@ -336,10 +336,10 @@ impl Pass {
     }
 
     /// Takes the pass past `insn`, the instruction at `slot`. First the facts on jumps to `slot` are joined into `falling`, which has the
-    /// facts on the falling edge to `slot`. Then `go_past` passes the joined facts to the watcher, leaves the facts on the falling edge out
-    /// of `insn` in `falling`, and joins the facts on the jumping edge out of `insn` into those that `entries` has for the jump's target, a
-    /// slot of the program. The error is why the instruction may not be run with the joined facts, or out of memory. `named` has the
-    /// program's maps. The proof needs `absorb` and `numbered`: by them, a join of `NumberedFacts` leaves out only joins of stack slots
+    /// facts on the falling edge to `slot`. Then `pass_instruction` passes the joined facts to the watcher, leaves the facts on the falling
+    /// edge out of `insn` in `falling`, and joins the facts on the jumping edge out of `insn` into those that `entries` has for the jump's
+    /// target, a slot of the program. The error is why the instruction may not be run with the joined facts, or out of memory. `named` has
+    /// the program's maps. The proof needs `absorb` and `numbered`: by them, a join of `NumberedFacts` leaves out only joins of stack slots
     /// that would change nothing.
     fn step<W: Watcher>(
         &mut self,
@@ -369,7 +369,7 @@ impl Pass {
             (W.seen watcher.old) (W.seen watcher.new) e) }
     {
         self.entries.join_at(slot, &mut self.falling, 8 * slot + 2)?;
-        self.go_past(named, insn, slot, watcher)
+        self.pass_instruction(named, insn, slot, watcher)
     }
 }
 

@@ -8,7 +8,7 @@ ghost use Rattle.insn_set.specs.Profile.{profile};
 ghost use Rattle.insn_set.specs.Program.{slot_count};
 ghost use Rattle.insn_set.specs.Flow.{falls_to, jumps_to, falls, jumps, descriptor, descriptor_by};
 ghost use Rattle.verifier.specs.Cost.{IsCostOf};
-ghost use Rattle.verifier.specs.Shape.{is_reachable, is_number, is_unknown_helper, is_not_open, is_not_map, is_no_value};
+ghost use Rattle.verifier.specs.Shape.{is_reachable, is_number, is_unknown_helper, is_not_open, is_not_map, lacks_direct_value};
 ghost use Rattle.verifier.specs.Shape.{leads_outside, leads_backward, first_reason, shape_reason, structure_fault};
 ghost use Rattle.verifier.specs.inside.Jumps.{JumpsLand};
 ghost use Rattle.verifier.specs.inside.Longest.{AreFew, IsAdded, IsSimple, LeadTo};
@@ -47,8 +47,8 @@ fn is_unknown_helper(reference: Reference) -> bool
 
 /// Whether an instruction directly loads the address of a byte in a map's value, and may not: the map is no array of one element, or the
 /// offset is outside its value (`has_direct_value`). `false` also if the descriptor names no map, which is another fault.
-fn is_no_value(named: &[Named], reference: Reference) -> bool
-    ensures { result ≡ is_no_value named.now reference }
+fn lacks_direct_value(named: &[Named], reference: Reference) -> bool
+    ensures { result ≡ lacks_direct_value named.now reference }
 {
     match reference {
         Reference::Value(fd, off) => match shape_of(named, fd) {
@@ -67,12 +67,12 @@ fn descriptor_reason(named: &[Named], reference: Reference) -> Option<Reason>
     ensures { result ≡ first_reason
         ((is_not_open named.now (descriptor_by reference), DescriptorNotOpen)
         ∷ (is_not_map named.now (descriptor_by reference), DescriptorNotMap)
-        ∷ (is_no_value named.now reference, NoDirectValue) ∷ []) }
+        ∷ (lacks_direct_value named.now reference, NoDirectValue) ∷ []) }
 {
     match target_of(named, reference.descriptor()?) {
         None => Some(Reason::DescriptorNotOpen),
         Some(Target::Program) => Some(Reason::DescriptorNotMap),
-        Some(Target::Map(_)) if is_no_value(named, reference) => Some(Reason::NoDirectValue),
+        Some(Target::Map(_)) if lacks_direct_value(named, reference) => Some(Reason::NoDirectValue),
         Some(Target::Map(_)) => None,
     }
 }
@@ -121,7 +121,7 @@ fn is_simple(row: &Profile, next: usize, slots: usize, paths: &Paths) -> bool
 /// The first fault of shape of `insn`, the instruction at `slot`, by all checks; `None` if there is none. `row` has the properties of
 /// `insn`, and `is_reached` is whether `slot` can be reached from slot 0.
 #[inline(always)]
-fn reason_against(
+fn shape_fault_of(
     program: &Program,
     named: &[Named],
     insn: &Insn,
@@ -153,7 +153,7 @@ fn reason_against(
 /// counts in `paths`, the most instructions and calls on the paths that lead to `slot`. If the instruction may jump, the new counts are
 /// joined into those of its target in `jumping`, which has, by slot, the counts on the paths that end with a jump there.
 #[inline(always)]
-fn pass_checked(
+fn check_and_count(
     program: &Program,
     named: &[Named],
     insn: &Insn,
@@ -172,7 +172,7 @@ fn pass_checked(
         shape_reason program.now named.now insn.now slot ≡ Some reason) }
 {
     let row = insn.profile();
-    match reason_against(program, named, insn, &row, slot, paths.lead_to(slot)) {
+    match shape_fault_of(program, named, insn, &row, slot, paths.lead_to(slot)) {
         Some(reason) => Err(reason),
         None => {
             paths.add(jumping, insn, &row, slot);
@@ -186,7 +186,7 @@ fn pass_checked(
 /// added unchecked, since no such instruction has a fault. `jumping` has, for each slot, the most instructions and calls on the paths that
 /// end with a jump to that slot; if the instruction may jump, the counts with the instruction are joined into those for its target.
 #[inline(always)]
-fn pass(
+fn check_and_add(
     program: &Program,
     named: &[Named],
     insn: &Insn,
@@ -210,7 +210,7 @@ fn pass(
         paths.add_simple();
         Ok(())
     } else {
-        pass_checked(program, named, insn, slot, jumping, paths)
+        check_and_count(program, named, insn, slot, jumping, paths)
     }
 }
 
@@ -239,7 +239,7 @@ pub(crate) fn check_shape(
         let insn = &code[slot];
         let row = insn.profile();
         paths.join(jumping[slot]);
-        if let Err(reason) = pass(program, named, insn, &row, slot, jumping, &mut paths) {
+        if let Err(reason) = check_and_add(program, named, insn, &row, slot, jumping, &mut paths) {
             return Err(VerifyFault { slot, reason });
         }
         slot += row.slots;

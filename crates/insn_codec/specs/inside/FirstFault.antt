@@ -8,7 +8,7 @@ use Rattle.insn_codec.specs.inside.OpcodeForm as form
 use Rattle.insn_codec.specs.declared.fault.FaultKind.{FaultKind}
 use Rattle.insn_codec.specs.declared.fault.FaultKind.TheVariants.{Opcode, Reserved, Register, SecondSlot, Ragged}
 use Rattle.insn_set.specs.Slot.{slot_of}
-use Rattle.insn_codec.specs.inside.Form.{form_at, listed}
+use Rattle.insn_codec.specs.inside.Form.{form_at, fields_allowed}
 
 -- ---- the second slot of a wide instruction: RFC 9669, sections 3.2 and 5.4
 
@@ -35,7 +35,7 @@ second_fault _ src rest = None
 -- there
 unfoldable pub fault_in_form : OpcodeForm → SlotFields → List ℕ → Option FaultKind
 fault_in_form f s rest =
-    if listed f s
+    if fields_allowed f s
     then (if nat_le s.dst 10 && nat_le s.src 10 then second_fault f s.src rest else Some Register)
     else Some Reserved
 

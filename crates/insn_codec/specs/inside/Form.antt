@@ -129,16 +129,18 @@ offset_listed wide op source offset = offset == 0
 -- since one above 10 has a fault of its own, `Register`. This project's own choice: of calls only
 -- those of helpers by their numbers (src 0), of wide loads only those of numbers, maps and values
 -- of maps (src 0 to 2)
-abbrev pub listed : OpcodeForm → SlotFields → Bool
-listed (form.Alu wide op source) s = one_operand source s && offset_listed wide op source s.offset
-listed (form.Neg wide) s = s.src == 0 && s.offset == 0 && s.imm == 0
-listed (form.End how) s = s.src == 0 && s.offset == 0 && (s.imm == 16 || s.imm == 32 || s.imm == 64)
-listed form.Ja s = (s.dst == 0 && s.src == 0) && s.imm == 0
-listed form.Jal s = (s.dst == 0 && s.src == 0) && s.offset == 0
-listed (form.Jump wide cond source) s = one_operand source s
-listed form.Call s = (s.dst == 0 && s.src == 0) && s.offset == 0
-listed form.Exit s = (s.dst == 0 && s.src == 0) && s.offset == 0 && s.imm == 0
-listed (form.Load size signed) s = s.imm == 0
-listed (form.Store size source) s = one_operand source s
-listed (form.Atomic size) s = is_some (atomic_by_number s.imm)
-listed form.Wide s = s.offset == 0 && nat_le s.src 2
+abbrev pub fields_allowed : OpcodeForm → SlotFields → Bool
+fields_allowed (form.Alu wide op source) s =
+    one_operand source s && offset_listed wide op source s.offset
+fields_allowed (form.Neg wide) s = s.src == 0 && s.offset == 0 && s.imm == 0
+fields_allowed (form.End how) s =
+    s.src == 0 && s.offset == 0 && (s.imm == 16 || s.imm == 32 || s.imm == 64)
+fields_allowed form.Ja s = (s.dst == 0 && s.src == 0) && s.imm == 0
+fields_allowed form.Jal s = (s.dst == 0 && s.src == 0) && s.offset == 0
+fields_allowed (form.Jump wide cond source) s = one_operand source s
+fields_allowed form.Call s = (s.dst == 0 && s.src == 0) && s.offset == 0
+fields_allowed form.Exit s = (s.dst == 0 && s.src == 0) && s.offset == 0 && s.imm == 0
+fields_allowed (form.Load size signed) s = s.imm == 0
+fields_allowed (form.Store size source) s = one_operand source s
+fields_allowed (form.Atomic size) s = is_some (atomic_by_number s.imm)
+fields_allowed form.Wide s = s.offset == 0 && nat_le s.src 2

@@ -151,7 +151,7 @@ pub(crate) fn write_outside_stack(
 /// The first and the last of the stack bytes from `first` to `last` that may be unwritten, as offsets from the stack's upper end (-1 is the
 /// highest byte). Bytes between the two results may be written. If no byte may be unwritten, which the reason `UnwrittenStack` excludes,
 /// both arguments are returned.
-fn unwritten(facts: &Facts, first: i64, last: i64) -> (i64, i64) {
+fn unwritten_ends(facts: &Facts, first: i64, last: i64) -> (i64, i64) {
     let mut lowest = None;
     let mut highest = last;
     for byte in first..=last {
@@ -166,14 +166,14 @@ fn unwritten(facts: &Facts, first: i64, last: i64) -> (i64, i64) {
 }
 
 /// Writes which of the stack bytes from `first` to `last`, offsets from the stack's upper end, may be unwritten, as the range from the
-/// first such byte to the last (`unwritten`). Then writes why bytes of this range are missing (`write_way`).
+/// first such byte to the last (`unwritten_ends`). Then writes why bytes of this range are missing (`write_way`).
 pub(crate) fn write_unwritten(
     text: &mut String,
     refusal: &RefusedProgram<'_>,
     first: i64,
     last: i64,
 ) -> Result<(), AllocError> {
-    let (first, last) = unwritten(refusal.facts, first, last);
+    let (first, last) = unwritten_ends(refusal.facts, first, last);
     write_byte_range(text, first, last)?;
     text.push_str(" of the stack ")?;
     write_way(text, refusal, Wanted::Stack { first, last })

@@ -110,7 +110,7 @@ fn write_no_value(text: &mut String, named: &[Named], insn: &Insn) -> Result<(),
 
 /// Writes what is wrong with the rejected instruction `insn`. The reason is one of shape, as the caller has tested (`is_of_shape`), so it
 /// does not depend on what the registers hold. The arm `_` is for the reason `NoDirectValue`.
-pub(crate) fn write_need(
+pub(crate) fn write_shape_fault(
     text: &mut String,
     refusal: &RefusedProgram<'_>,
     insn: &Insn,

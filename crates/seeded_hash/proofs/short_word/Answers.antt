@@ -6,7 +6,7 @@ use Rattle.seeded_hash.proofs.short_word.Goals as goal
 pub returns-then-len-ge4 : goal.returns-then-len-ge4
 unfolding short_word
 returns-then-len-ge4 c =
-    rw (c.half_at.ensures, c.half_at-then-len-ge4.ensures, le-leb 4 (length c.args.bytes.now) c.if-len-ge4.true)
+    rw (c.half_word_at.ensures, c.half_word_at-then-len-ge4.ensures, le-leb 4 (length c.args.bytes.now) c.if-len-ge4.true)
 
 pub returns-then-len-gt0 : goal.returns-then-len-gt0
 unfolding short_word

@@ -3,4 +3,4 @@ use Rattle.seeded_hash.proofs.word_at.Goals as goal
 
 pub returns : goal.returns
 unfolding word_at
-returns c = rw (c.half_at.ensures, c.half_at-2.ensures)
+returns c = rw (c.half_word_at.ensures, c.half_word_at-2.ensures)

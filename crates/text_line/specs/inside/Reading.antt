@@ -11,7 +11,7 @@ use Rattle.insn_set.specs.declared.atomic.AtomicSize.TheVariants as atomic_size
 use Rattle.insn_set.specs.Table.{named}
 use Rattle.insn_set.specs.OperatorRows.{alu_by_symbol}
 use Rattle.insn_set.specs.ConversionRows.{order_by_name, extension_by_name}
-use Rattle.insn_set.specs.LoadRows.{size_by_name}
+use Rattle.insn_set.specs.LoadRows.{load_by_name}
 use Rattle.insn_set.specs.ConditionRows.{condition_by_symbol}
 use Rattle.insn_set.specs.AtomicRows.{atomic_by_symbol}
 use Rattle.text_line.specs.declared.form.Number.{Number}
@@ -175,7 +175,7 @@ leading_address ts = do
   ts ← after_symbol (codes "*") ts
   ts ← after_symbol (codes "(") ts
   n ← leading_name ts
-  s ← size_by_name n.0
+  s ← load_by_name n.0
   ts ← after_symbol (codes "*") n.1
   ts ← after_symbol (codes ")") ts
   ts ← after_symbol (codes "(") ts

@@ -3,18 +3,18 @@ use Rattle.std.proofs.Math.Facts.{to_z-of_z}
 use Rattle.reg_kinds.proofs.SlotTests.{input_is}
 use Rattle.reg_kinds.proofs.many.check_read.Goals as goal
 
-pub returns-then-are_missing : goal.returns-then-are_missing
-returns-then-are_missing c =
+pub returns-then-is_any_unwritten : goal.returns-then-is_any_unwritten
+returns-then-is_any_unwritten c =
     input_is c.args.facts.now c.args.offset _ c.args.count c.in-Some.start _ _
     (to_z-of_z {w = w32} {z = c.args.offset} c.ranges.offset)
     (sym c.start_of.ensures.value ∙ c.in-Some.is)
     (sym c.if-touch_a_spill.false ∙ c.touch_a_spill.ensures)
-    (sym c.if-are_missing.true ∙ c.are_missing.ensures)
+    (sym c.if-is_any_unwritten.true ∙ c.is_any_unwritten.ensures)
 
-pub returns-else-are_missing : goal.returns-else-are_missing
-returns-else-are_missing c =
+pub returns-else-is_any_unwritten : goal.returns-else-is_any_unwritten
+returns-else-is_any_unwritten c =
     input_is c.args.facts.now c.args.offset _ c.args.count c.in-Some.start _ _
     (to_z-of_z {w = w32} {z = c.args.offset} c.ranges.offset)
     (sym c.start_of.ensures.value ∙ c.in-Some.is)
     (sym c.if-touch_a_spill.false ∙ c.touch_a_spill.ensures)
-    (sym c.if-are_missing.false ∙ c.are_missing.ensures)
+    (sym c.if-is_any_unwritten.false ∙ c.is_any_unwritten.ensures)

@@ -1,5 +1,5 @@
 use Rattle.verifier.proofs.NumberedSteps.{in_stack}
 use Rattle.verifier.proofs.pass.run_past.Goals as goal
 
-pub note-requires : goal.note-requires
-note-requires g c = in_stack _ _ _ c.in-Ok.ensures.stack
+pub renumber_written-requires : goal.renumber_written-requires
+renumber_written-requires g c = in_stack _ _ _ c.in-Ok.ensures.stack

@@ -47,8 +47,8 @@ loop-slot-init c =
       none_below = λ n lt. absurd (omega arith);
     }
 
-pub pass-requires-clause-reached : goal.pass-requires-clause-reached
-pass-requires-clause-reached c =
+pub check_and_add-requires-clause-reached : goal.check_and_add-requires-clause-reached
+check_and_add-requires-clause-reached c =
     let code = c.args.program.now in
     let slot = c.loop-slot.slot in
     let within : slot < slot_count code = omega (arith, c.loop-slot-test.true, c.slots-slots.ensures.count) in
@@ -60,8 +60,8 @@ pass-requires-clause-reached c =
     ∙ sym (reached_is code slot slot
     (λ k i lt. reached_below code c.args.named.now k i (c.loop-slot.invariant.none_below k lt)))
 
-pub pass-requires-clause-few : goal.pass-requires-clause-few
-pass-requires-clause-few c =
+pub check_and_add-requires-clause-few : goal.check_and_add-requires-clause-few
+check_and_add-requires-clause-few c =
     let code = c.args.program.now in
     let slot = c.loop-slot.slot in
     let within : slot < slot_count code = omega (arith, c.loop-slot-test.true, c.slots-slots.ensures.count) in
@@ -130,18 +130,18 @@ loop-slot-preserved c =
     let added = c.in_default.ensures.added in
     record {
       begins = subst (Adjoins code) (ap (λ (n : ℕ). slot + n) (sym size)) (adjoins_after code slot insn begins);
-      long = c.pass.auto.jumping ∙ old.long;
+      long = c.check_and_add.auto.jumping ∙ old.long;
       instructions = λ i above lt.
           let after : slot < i = omega arith in
           let was = arrives_later slot i _ _ _ after (old.instructions i (omega arith) lt) in
-          ap (λ (n : ℕ). arriving (λ k. k.instructions) (slot + n) c.pass.new.paths.here c.pass.new.jumping i) size
+          ap (λ (n : ℕ). arriving (λ k. k.instructions) (slot + n) c.check_and_add.new.paths.here c.check_and_add.new.jumping i) size
           ∙ carried one code slot (length (slots insn)) i _ _ _ insn begins more inside instructions
           was (added.instructions i after)
           ∙ ap (λ (n : ℕ). most_from one code i (slot + n)) (sym size);
       calls = λ i above lt.
           let after : slot < i = omega arith in
           let was = arrives_later slot i _ _ _ after (old.calls i (omega arith) lt) in
-          ap (λ (n : ℕ). arriving (λ k. k.calls) (slot + n) c.pass.new.paths.here c.pass.new.jumping i) size
+          ap (λ (n : ℕ). arriving (λ k. k.calls) (slot + n) c.check_and_add.new.paths.here c.check_and_add.new.jumping i) size
           ∙ carried one_if_call code slot (length (slots insn)) i _ _ _ insn begins more inside
           calls was (added.calls i after)
           ∙ ap (λ (n : ℕ). most_from one_if_call code i (slot + n)) (sym size);

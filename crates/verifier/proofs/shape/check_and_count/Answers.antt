@@ -3,7 +3,7 @@ use Rattle.std.specs.Prelude.{IfSome}
 use Rattle.insn_set.specs.Flow.{jump_target}
 use Rattle.verifier.specs.ShapeLaws.{unrefused_is_fine}
 use Rattle.verifier.proofs.Reached.{jump_lands}
-use Rattle.verifier.proofs.shape.pass_checked.Goals as goal
+use Rattle.verifier.proofs.shape.check_and_count.Goals as goal
 
 pub add-requires-clause-lands : goal.add-requires-clause-lands
 add-requires-clause-lands c =

@@ -7,7 +7,7 @@ use Rattle.tenant.proofs.LoadingBound.{loaded_is, loaded_bound, loaded_live, loa
 use Rattle.tenant.proofs.LoadingHandles.{seconds}
 use Rattle.tenant.specs.Loaded.{LoadedProgram, map_handles}
 use Rattle.std.specs.List.{zip}
-use Rattle.tenant.proofs.tenant.Tenant.with_maps.Goals as goal
+use Rattle.tenant.proofs.tenant.Tenant.loaded.Goals as goal
 
 pub new-requires : goal.new-requires
 new-requires c =

@@ -1,7 +1,7 @@
 use Rattle.std.proofs.Common.{sym, inl, inr, ⊎_elim, arith, below_more}
 use Rattle.std.proofs.lemmas.Bool.{cases_lt}
 use Rattle.reg_kinds.proofs.SlotTests.{none_below, one_below, lacks_apart}
-use Rattle.reg_kinds.proofs.many.are_missing.Goals as goal
+use Rattle.reg_kinds.proofs.many.is_any_unwritten.Goals as goal
 
 pub loop-index-init : goal.loop-index-init
 loop-index-init c = λ i lt. lacks_apart c.args.facts.now c.args.start c.args.count i (inl (omega (arith, lt)))

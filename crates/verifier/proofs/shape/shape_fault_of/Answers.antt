@@ -7,7 +7,7 @@ use Rattle.reg_kinds.specs.declared.reason.Reason.TheVariants.{FramePointerWritt
 use Rattle.insn_set.specs.Flow.{falls_to, jumps_to, falls, jumps, written_register, descriptor}
 use Rattle.verifier.specs.Shape.{is_reachable, is_number, calls_unknown, is_not_open, is_not_map, lacks_value, leads_outside, leads_backward}
 use Rattle.verifier.proofs.Reached.{seen_early}
-use Rattle.verifier.proofs.shape.reason_against.Goals as goal
+use Rattle.verifier.proofs.shape.shape_fault_of.Goals as goal
 
 pub returns-in-Some : goal.returns-in-Some
 returns-in-Some c =

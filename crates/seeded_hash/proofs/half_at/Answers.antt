@@ -1,6 +1,0 @@
-use Rattle.seeded_hash.specs.Hashing.{half_at}
-use Rattle.seeded_hash.proofs.half_at.Goals as goal
-
-pub returns : goal.returns
-unfolding half_at
-returns c = c.from_le_bytes.ensures

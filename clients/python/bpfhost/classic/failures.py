@@ -10,7 +10,7 @@ from dataclasses import dataclass
 
 from bpfhost.classic.instructions import Operator, Test
 from bpfhost.classic.knowledge import greatest, has_33_bits, live, predecessors
-from bpfhost.classic.steps import CONTEXT, Branch, Copy, Fetch, Graph, LoadHeader, LoadPacket, Operate, Pass, Place, Register, Return, Step, TestCall
+from bpfhost.classic.steps import CALLS, CONTEXT, Branch, Copy, Fetch, Graph, LoadHeader, LoadPacket, Operate, Pass, Place, Register, Return, Step, TestCall
 
 # The operators with which a number makes 0 of 0.
 _KEEP_ZERO = (Operator.AND, Operator.LSH, Operator.RSH, Operator.MUL)
@@ -42,7 +42,7 @@ class _Failures:
         """The graph with the tests at their new places."""
         for place in self._order:
             step = self._graph.steps[place]
-            if isinstance(step, Fetch | LoadPacket) and len(self._graph.followers[place]) > 1 and self._can_go_on(place, step):
+            if isinstance(step, CALLS) and len(self._graph.followers[place]) > 1 and self._can_go_on(place, step):
                 self._move(place, step)
         return self._found
 

@@ -16,6 +16,8 @@ _TAX = Copy(Register.X, Register.A)
 
 def with_sums_folded(graph: Graph) -> Graph:
     """The same program; a load relative to X reads the register that X was copied from, and adds the number that was added to it."""
+    if _TAX not in graph.steps.values():
+        return graph
     folding = _Folding(graph)
     for place in folding.order:
         folding.fold(place)

@@ -3,13 +3,13 @@
 from __future__ import annotations
 
 from collections import Counter
-from collections.abc import Mapping
+from collections.abc import Mapping, Set
 from dataclasses import dataclass
 
 from bpfhost.classic.ancillary import LENGTH
 from bpfhost.classic.instructions import Operator, Test
 from bpfhost.classic.steps import (
-    CONTEXT,
+    CALLS,
     Branch,
     Copy,
     Fetch,
@@ -35,43 +35,40 @@ from bpfhost.classic.steps import (
 _WORD = 2**32 - 1
 # The greatest offset that the helper accepts.
 FARTHEST = 2**31 - 1
+_NOTHING: frozenset[Storage] = frozenset()
 # In place of a step that wrote a register: the start of the program; and the steps that use a number as an offset.
 _START, _OFFSET = "start", "offset"
+# The steps whose first follower is for a call that has found its bytes.
+_TESTED = (*CALLS, TestCall)
 Known = Mapping[Storage, int]
 
 
 @dataclass(frozen=True)
 class Live:
-    """What is read later, before and after each step: other values need not be written."""
+    """What is read later, before and after each step: other values need not be written.
+
+    `needed` has the steps with an effect that is seen later: a load of the packet has, since the packet may end before it.
+    """
 
     before: Mapping[Place, frozenset[Storage]]
     after: Mapping[Place, frozenset[Storage]]
-
-    def needs(self, place: Place, step: Step) -> bool:
-        """Whether a step has an effect that is seen later: a load of the packet has, since the packet may end before it."""
-        target = written(step)
-        if target is None:
-            return not isinstance(step, Pass)
-        return isinstance(step, LoadPacket) or target in self.after[place]
+    needed: Set[Place]
 
 
 def live(graph: Graph, order: list[Place]) -> Live:
     """What is read later, for steps in an order in which each comes before its followers."""
     before: dict[Place, frozenset[Storage]] = {}
     after: dict[Place, frozenset[Storage]] = {}
-    found = Live(before, after)
+    needed: set[Place] = set()
     for place in reversed(order):
-        step = graph.steps[place]
-        after[place] = frozenset[Storage]().union(*(before[follower] for follower in graph.followers[place]))
-        read = {*reads(step), *([CONTEXT] if uses_context(step) else [])}
-        overwritten = {each for each in (written(step),) if each is not None}
-        before[place] = after[place] - overwritten | read if found.needs(place, step) else after[place]
-    return found
-
-
-def uses_context(step: Step) -> bool:
-    """Whether a step reads the context, or passes it to a call."""
-    return isinstance(step, LoadContext | LoadPacket | Fetch)
+        step, followers = graph.steps[place], graph.followers[place]
+        target = written(step)
+        later = before[followers[0]] if len(followers) == 1 else _NOTHING.union(*[before[each] for each in followers])
+        after[place] = before[place] = later
+        if target in later or isinstance(step, LoadPacket) or (target is None and not isinstance(step, Pass)):
+            needed.add(place)
+            before[place] = (later if target is None else later - {target}).union(reads(step))
+    return Live(before, after, needed)
 
 
 def predecessors(graph: Graph, order: list[Place]) -> Mapping[Place, int]:
@@ -88,7 +85,7 @@ def after_calls(graph: Graph, order: list[Place]) -> set[Place]:
     """The steps before which some path has a call."""
     found: set[Place] = set()
     for place in order:
-        if place in found or isinstance(graph.steps[place], Fetch | LoadPacket):
+        if place in found or isinstance(graph.steps[place], CALLS):
             found.update(graph.followers[place])
     return found
 
@@ -100,7 +97,7 @@ def behind_calls_that_went_well(graph: Graph, order: list[Place]) -> set[Place]:
     """
     found = set(order) - {graph.entry}
     for place in order:
-        is_call = isinstance(graph.steps[place], Fetch | LoadPacket | TestCall)
+        is_call = isinstance(graph.steps[place], _TESTED)
         for number, follower in enumerate(graph.followers[place]):
             if number > 0 if is_call else place not in found:
                 found.discard(follower)
@@ -109,16 +106,16 @@ def behind_calls_that_went_well(graph: Graph, order: list[Place]) -> set[Place]:
 
 def greatest(graph: Graph, order: list[Place]) -> dict[Place, Known]:
     """The greatest number that each register and each word of scratch memory may have before each step; both registers begin with 0."""
-    before: dict[Place, dict[Storage, int]] = {graph.entry: {Register.A: 0, Register.X: 0}}
+    before: dict[Place, Known] = {graph.entry: {Register.A: 0, Register.X: 0}}
     for place in order:
         step, known = graph.steps[place], before[place]
         target = written(step)
         behind = known if target is None else {**known, target: _greatest_of(step, known)}
         for follower in graph.followers[place]:
-            met = before.setdefault(follower, dict(behind))
-            for storage in {*met, *behind}:
-                met[storage] = max(met.get(storage, _WORD), behind.get(storage, _WORD))
-    return dict(before)
+            met = before.setdefault(follower, behind)
+            if met != behind:
+                before[follower] = {storage: max(met.get(storage, _WORD), behind.get(storage, _WORD)) for storage in {**met, **behind}}
+    return before
 
 
 def _greatest_of(step: Step, known: Known) -> int:
@@ -192,12 +189,14 @@ def in_packet_order(graph: Graph, order: list[Place], needed: Live) -> dict[Plac
 
 def _in_packet_order(graph: Graph, order: list[Place], needed: Live, register: Register) -> dict[Place, int]:
     """Those of one register."""
+    if not any(register in later for later in needed.after.values()):
+        return {}
     groups = _Groups(register)
     # The step that wrote it last; if paths meet, one of the steps that did, which then are in one group if the register is read later.
     sources: dict[Place, Place | str] = {graph.entry: _START}
     for place in order:
         step, source = graph.steps[place], sources[place]
-        is_needed = needed.needs(place, step)
+        is_needed = place in needed.needed
         if is_needed and register in reads(step):
             groups.join(_OFFSET if isinstance(step, LoadPacket) else place, source)
         behind = place if is_needed and written(step) is register else source

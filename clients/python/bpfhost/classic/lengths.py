@@ -5,7 +5,7 @@ A packet that is too short for any result except 0 ends at the first call that f
 
 from __future__ import annotations
 
-from bpfhost.classic.steps import Fetch, Graph, LoadHeader, LoadPacket, Place, Return, Step
+from bpfhost.classic.steps import CALLS, Fetch, Graph, LoadHeader, LoadPacket, Place, Return, Step
 
 # No packet has so many bytes.
 _NEVER = 2**32
@@ -54,12 +54,12 @@ def without_known_lengths(graph: Graph) -> Graph:
             continue
         step, least = graph.steps[place], known[place]
         behind = least
-        if isinstance(step, Fetch | LoadPacket):
+        if isinstance(step, CALLS):
             is_known = _end(step) <= least and not (isinstance(step, LoadPacket) and step.is_behind_x)
             if is_known:
                 found.put(place, step, graph.followers[place][0])
             behind = max(least, _end(step))
         for number, follower in enumerate(found.followers[place]):
-            met = least if number and isinstance(step, Fetch | LoadPacket) else behind
+            met = least if number and isinstance(step, CALLS) else behind
             known[follower] = min(known.get(follower, met), met)
     return found

@@ -18,8 +18,9 @@ def with_tests_moved(graph: Graph) -> Graph:
     found = _Linked(graph)
     for place in reversed(graph.order()):
         _put_ipv4_first(found, place)
-    mover = _Mover(found)
-    for place in reversed(found.graph.order()):
+    order = found.graph.order()
+    mover = _Mover(found, order)
+    for place in reversed(order):
         mover.move(place)
     return found.graph
 
@@ -85,9 +86,9 @@ def _put_ipv4_first(linked: _Linked, place: Place) -> None:
 class _Mover:
     """Moves tests that most packets pass, and that otherwise end the program, after other tests that end it."""
 
-    def __init__(self, linked: _Linked) -> None:
+    def __init__(self, linked: _Linked, order: list[Place]) -> None:
         self._linked = linked
-        self._live = live(linked.graph, linked.graph.order())
+        self._live = live(linked.graph, order)
 
     def move(self, load: Place) -> None:
         """Moves the test of bytes of the packet that are loaded here, if it is such a test and the move saves steps."""

@@ -14,19 +14,19 @@ from bpfhost.classic.steps import Branch, Fetch, Graph, LoadHeader, Place
 def with_unaligned_tests_split(graph: Graph) -> Graph:
     """The same program; a number that is only compared with one other is loaded and compared in aligned pieces."""
     order, found = graph.order(), graph.copy()
-    steps = [graph.steps[place] for place in order]
-    headers = [step.headers for step in steps if isinstance(step, Fetch)]
-    layout = Layout(headers, [step for step in steps if isinstance(step, LoadHeader)])
+    loads = [(place, step) for place in order if isinstance(step := graph.steps[place], LoadHeader)]
+    headers = [step.headers for place in order if isinstance(step := graph.steps[place], Fetch)]
+    layout = Layout(headers, [load for _, load in loads])
+    unaligned = [each for each in loads if len(pieces(layout.place(each[1].offset), each[1].size)) > 1]
+    if not unaligned:
+        return graph
     needed, before = live(graph, order), predecessors(graph, order)
-    for place in order:
-        load = graph.steps[place]
-        if not isinstance(load, LoadHeader):
-            continue
-        parts = [(offset - layout.place(0), size) for offset, size in pieces(layout.place(load.offset), load.size)]
+    for place, load in unaligned:
         (test,) = graph.followers[place]
         branch = graph.steps[test]
         is_comparison = isinstance(branch, Branch) and branch.register is load.to and branch.test is Test.EQ
-        if len(parts) > 1 and is_comparison and before[test] == 1 and load.to not in needed.after[test]:
+        if is_comparison and before[test] == 1 and load.to not in needed.after[test]:
+            parts = [(offset - layout.place(0), size) for offset, size in pieces(layout.place(load.offset), load.size)]
             _split(found, place, load, parts)
     return found
 

@@ -26,7 +26,7 @@ class Layout:
 
     def __init__(self, headers: Sequence[Headers], loads: Sequence[LoadHeader]) -> None:
         """Computes a layout for these headers, and for the loads that are in the program."""
-        end = max((each.first + each.count for each in headers), default=0)
+        end = max((each.end for each in headers), default=0)
         # The offset of the packet's byte 0 is one of four; the first byte that is fetched may be far above it.
         self._byte_0 = min(range(_HEADERS_END - end - 3, _HEADERS_END - end + 1), key=lambda at: self._pieces(at, loads))
 

@@ -116,7 +116,7 @@ class StepSlots:
 
     def fetch(self, headers: Headers, context: Context, shorter: Hashable | None = None) -> None:
         """Copies headers to the stack; if the packet may end before them, a jump to a label follows for that case."""
-        self._call_at(headers.first, context, self._layout.place(headers.first), headers.count)
+        self._call_at(headers.first, context, self._layout.place(headers.first), headers.size)
         self._test_call(shorter)
 
     def load(self, step: LoadPacket, context: Context, known: Known, shorter: Hashable | None = None) -> None:

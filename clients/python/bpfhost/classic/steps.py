@@ -2,7 +2,6 @@
 
 from __future__ import annotations
 
-from collections.abc import Iterator
 from dataclasses import dataclass, field
 from enum import Enum
 from typing import NamedTuple
@@ -19,6 +18,9 @@ class Register(Enum):
     # The value that a moved test reads.
     MOVED = "moved"
 
+    # Each is one object, so its identity is enough; the hash of Enum is that of its name.
+    __hash__ = object.__hash__
+
 
 # Instead of an instruction's number: the end that a load out of the packet leads to.
 NO_INSTRUCTION = -1
@@ -29,17 +31,16 @@ Storage = Register | int | str
 Operand = Register | int
 
 
-@dataclass(frozen=True)
-class Headers:
+class Headers(NamedTuple):
     """Bytes of the packet that one call copies to the stack: so many from an offset on."""
 
     first: int
-    count: int
+    size: int
 
     @property
     def end(self) -> int:
         """Their end: a packet that has them has at least so many bytes."""
-        return self.first + self.count
+        return self.first + self.size
 
     def has(self, offset: int, size: int) -> bool:
         """Whether these bytes of the packet are among them."""
@@ -198,16 +199,17 @@ class View(NamedTuple):
         return any(headers.has(offset, size) for headers in self.fetched or ())
 
 
-class Place(NamedTuple):
+@dataclass(frozen=True, eq=False)
+class Place:
     """A step by its instruction, the view there, and its number among the steps of that instruction.
 
-    A step that the translation adds later has no such number, but one among all added steps, `added`.
+    A step that the translation adds later has no such number. A place is one object, which is found in a graph by these three
+    (`Graph.place`), so that two are compared, and looked up, as objects.
     """
 
     at: int
     view: View
     part: int = 0
-    added: int = 0
 
 
 @dataclass
@@ -217,11 +219,19 @@ class Graph:
     entry: Place
     steps: dict[Place, Step] = field(default_factory=dict)
     followers: dict[Place, tuple[Place, ...]] = field(default_factory=dict)
-    added: int = 0
+    # All places but the entry, to which no jump leads, and the added ones.
+    _places: dict[tuple[int, View, int], Place] = field(default_factory=dict)
 
     def copy(self) -> Graph:
         """A copy of the graph with the same steps."""
-        return Graph(self.entry, dict(self.steps), dict(self.followers), self.added)
+        return Graph(self.entry, dict(self.steps), dict(self.followers), self._places)
+
+    def place(self, at: int, view: View, part: int = 0) -> Place:
+        """The place of an instruction's step in a view."""
+        found = self._places.get((at, view, part))
+        if found is None:
+            found = self._places[at, view, part] = Place(at, view, part)
+        return found
 
     def put(self, place: Place, step: Step, *followers: Place) -> None:
         """Sets a step with its followers."""
@@ -229,14 +239,13 @@ class Graph:
 
     def add(self, at: int, view: View, step: Step, *followers: Place) -> Place:
         """Adds a step, which belongs to an instruction in a view; returns its place."""
-        self.added += 1
-        place = Place(at, view, added=self.added)
+        place = Place(at, view)
         self.put(place, step, *followers)
         return place
 
     def end(self, view: View) -> Place:
         """The end with the result 0 that a load out of the packet leads to."""
-        place = Place(NO_INSTRUCTION, View(view.fetched))
+        place = self.place(NO_INSTRUCTION, View(view.fetched))
         self.steps.setdefault(place, Return(0))
         self.followers.setdefault(place, ())
         return place
@@ -247,57 +256,66 @@ class Graph:
         If possible, right after a step comes the follower that it goes on to without a jump: of a test the second one.
         """
         order: list[Place] = []
-        seen, open_places = {self.entry}, [(self.entry, self._farthest_first(self.entry))]
-        while open_places:
-            place, left = open_places[-1]
-            follower = next((each for each in left if each not in seen), None)
-            if follower is None:
-                order.append(place)
-                open_places.pop()
-            else:
-                seen.add(follower)
-                open_places.append((follower, self._farthest_first(follower)))
+        seen: set[Place] = set()
+        # A place with None after it comes into the order, as all that follows it is there.
+        left: list[Place | None] = [self.entry]
+        while left:
+            place = left.pop()
+            if place is None:
+                order.append(left.pop())  # type: ignore[arg-type]
+            elif place not in seen:
+                seen.add(place)
+                followers = self.followers[place]
+                left += (place, None)
+                # The last one of these is looked at first, so that it is the farthest one in the order.
+                left += followers[::-1] if len(followers) > 1 and isinstance(self.steps[place], Branch) else followers
         return order[::-1]
 
-    def _farthest_first(self, place: Place) -> Iterator[Place]:
-        """The followers of a step; the last one should come right after it."""
-        followers = self.followers[place]
-        return iter(followers if isinstance(self.steps[place], Branch) else followers[::-1])
+
+# The steps that are calls: the context is passed to them.
+CALLS = (Fetch, LoadPacket)
+
+
+# In `reads` and `written` the most frequent steps come first, since the cases are tried in their order.
 
 
 def reads(step: Step) -> tuple[Storage, ...]:
-    """What a step reads, except the context."""
+    """What a step reads."""
     match step:
+        case Branch(register=register, operand=Register() as operand):
+            return (register, operand)
+        case Branch(register=register):
+            return (register,)
+        case LoadHeader() | Pass() | SetNumber() | TestCall():
+            return ()
+        case Return(value=Register() as value):
+            return (value,)
+        case LoadPacket(is_behind_x=True, base=base):
+            return (base, CONTEXT)
+        case LoadPacket() | Fetch() | LoadContext():
+            return (CONTEXT,)
+        case Operate(to=to, operand=Register() as operand):
+            return (to, operand)
+        case Operate(to=to):
+            return (to,)
         case Copy(source=source):
             return (source,)
         case LoadScratch(word=word):
             return (word,)
         case StoreScratch(value=Register() as value):
             return (value,)
-        case LoadPacket(is_behind_x=True, base=base):
-            return (base,)
-        case Operate(to=to, operand=Register() as operand):
-            return (to, operand)
-        case Operate(to=to):
-            return (to,)
         case Negate():
             return (Register.A,)
-        case Branch(register=register, operand=Register() as operand):
-            return (register, operand)
-        case Branch(register=register):
-            return (register,)
-        case Return(value=Register() as value):
-            return (value,)
     return ()
 
 
 def written(step: Step) -> Storage | None:
     """What a step writes."""
     match step:
+        case Branch() | Pass() | Return() | Fetch() | TestCall():
+            return None
         case StoreScratch(word=word):
             return word
         case Negate():
             return Register.A
-        case Pass() | Branch() | Fetch() | TestCall() | Return():
-            return None
     return step.to

@@ -80,9 +80,8 @@ class _Unfolding:
         self._instructions = instructions
         self._plan = plan
         self._meaning = meaning
-        first = Place(0, View(()) if plan.headers else _BY_CALLS)
-        self._graph = Graph(first)
-        self._place = first
+        self._graph = Graph(Place(0, View(()) if plan.headers else _BY_CALLS))
+        self._place = self._graph.entry
         self._left: list[Place] = []
 
     def graph(self) -> Graph | None:
@@ -106,17 +105,16 @@ class _Unfolding:
         self._place = following
 
     def _end(self, step: Step, *followers: Place) -> None:
-        """A step that no other one of this instruction follows in the order."""
+        """The last step of this instruction."""
         self._put(step, followers)
-        self._place = self._next_part()
 
     def _put(self, step: Step, followers: tuple[Place, ...]) -> None:
         self._graph.steps[self._place] = step
         self._graph.followers[self._place] = followers
         self._left += followers
 
-    def _next_part(self) -> Place:
-        return self._place._replace(part=self._place.part + 1)
+    def _next_part(self, many: int = 1) -> Place:
+        return self._graph.place(self._place.at, self._place.view, self._place.part + many)
 
     def _drop(self) -> Place:
         """The end with the result 0."""
@@ -128,15 +126,17 @@ class _Unfolding:
         form, k = FORMS[instruction.code], instruction.k
         if self._fetches(view, form, k):
             return
-        following = Place(at + 1, self._view_behind(view, form))
+        following = self._graph.place(at + 1, self._view_behind(view, form))
         to = X if form.is_x else A
         match form.kind:
+            case Kind.BRANCH:
+                self._branch(form, self._x(view) if form.is_x else k, *[self._graph.place(at + 1 + far, view) for far in instruction[1:3]])
             case Kind.ABSOLUTE:
                 self._load_at(at, k, form.size, following)
             case Kind.INDIRECT:
                 self._load_behind_x(view, k, form.size, following)
             case Kind.HEADER_LENGTH:
-                self._load_header_length(view, k, Place(at + 1, view))
+                self._load_header_length(place, k)
             case Kind.LENGTH:
                 self._end(LoadContext(to, LENGTH if self._meaning.length is Length.PACKET else WIRE_LENGTH), following)
             case Kind.NUMBER:
@@ -150,9 +150,7 @@ class _Unfolding:
             case Kind.NEGATE:
                 self._end(Negate(), following)
             case Kind.JUMP:
-                self._end(Pass(), Place(at + 1 + k, view))
-            case Kind.BRANCH:
-                self._branch(form, self._x(view) if form.is_x else k, *(Place(at + 1 + far, view) for far in instruction[1:3]))
+                self._end(Pass(), self._graph.place(at + 1 + k, view))
             case Kind.RETURN:
                 self._end(Return(A if form.is_x else k))
             case Kind.MOVE:
@@ -187,7 +185,7 @@ class _Unfolding:
         if operand is X and operator in _DIVISIONS:
             self._add_branch(Branch(X, Test.EQ, 0), self._drop())
         elif operand is X and operator in _SHIFTS and self._meaning.semantics is Semantics.LIBPCAP:
-            far = self._place._replace(part=self._place.part + 2)
+            far = self._next_part(2)
             self._graph.steps[far], self._graph.followers[far] = SetNumber(A, 0), (following,)
             self._add_branch(Branch(X, Test.GT, 31), far)
         self._end(Operate(A, operator, operand), following)
@@ -205,17 +203,18 @@ class _Unfolding:
 
         A packet that is too short for them takes the path with a call for each load.
         """
-        offset = self._offset(view, form, k)
+        offset = None if view.fetched is None else self._offset(view, form, k)
         headers = None if offset is None else self._plan.with_bytes(offset, form.size)
         if view.fetched is None or headers is None or headers in view.fetched:
             return False
-        shorter = self._place._replace(view=_BY_CALLS)
+        at, place = self._place.at, self._graph.place
+        shorter = place(at, _BY_CALLS)
         if view.is_x_usual:
-            by_calls, shorter = shorter, self._place._replace(part=self._place.part + 2)
+            by_calls, shorter = shorter, self._next_part(2)
             self._graph.steps[shorter], self._graph.followers[shorter] = SetNumber(X, USUAL_LENGTH), (by_calls,)
             self._left.append(by_calls)
         fetched = tuple(each for each in self._plan.headers if each == headers or each in view.fetched)
-        self._end(Fetch(headers), Place(self._place.at, view._replace(fetched=fetched)), shorter)
+        self._end(Fetch(headers), place(at, view._replace(fetched=fetched)), shorter)
         return True
 
     def _offset(self, view: View, form: Form, k: int) -> int | None:
@@ -267,10 +266,11 @@ class _Unfolding:
         else:
             self._end(LoadPacket(A, k, size, is_behind_x=True, wraps=is_kernel), following, self._drop())
 
-    def _load_header_length(self, view: View, k: int, following: Place) -> None:
+    def _load_header_length(self, place: Place, k: int) -> None:
         """Four times the low half of a byte: 20 if the byte is that of an IPv4 header without options, otherwise by arithmetic."""
-        usual = following._replace(view=view._replace(usual=k, is_x_usual=True))
-        other = following._replace(view=view._replace(is_x_usual=False))
+        following, view = place.at + 1, place.view
+        usual = self._graph.place(following, view._replace(usual=k, is_x_usual=True))
+        other = self._graph.place(following, view._replace(is_x_usual=False))
         has_usual = self._plan.has_usual and view.has(k, 1)
         if has_usual and view.usual == k:
             self._end(Pass(), usual)
@@ -283,7 +283,7 @@ class _Unfolding:
         else:
             self._add(LoadPacket(X, k, 1), self._drop())
         if has_usual:
-            other = other._replace(view=_BY_CALLS)
+            other = self._graph.place(following, _BY_CALLS)
             self._add_branch(Branch(X, Test.EQ, USUAL_BYTE), usual)
         self._add(Operate(X, Operator.AND, 0x0F))
         self._end(Operate(X, Operator.LSH, 2), other)

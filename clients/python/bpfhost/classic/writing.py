@@ -15,7 +15,7 @@ from bpfhost.classic.slots_writer import SlotsWriter
 from bpfhost.classic.stack import Layout
 from bpfhost.classic.step_slots import CONTEXT, NUMBERS, Context, StepSlots
 from bpfhost.classic.steps import CONTEXT as CONTEXT_VALUE
-from bpfhost.classic.steps import Branch, Fetch, Graph, LoadHeader, LoadPacket, Operate, Place, Register, Return, TestCall
+from bpfhost.classic.steps import CALLS, Branch, Fetch, Graph, LoadHeader, LoadPacket, Operate, Place, Register, Return, TestCall
 from bpfhost.numbers import MOST_SLOTS
 
 # Of 32-bit comparisons with a number: the opcode, and that of the opposite comparison, which a test of common bits (JSET) does not have.
@@ -54,7 +54,7 @@ class _Writing:
         self._live = live(graph, order)
         self._greatest = greatest(graph, order)
         self._sizes_in_order = in_packet_order(graph, order, self._live)
-        self._order = [place for place in order if self._live.needs(place, graph.steps[place])]
+        self._order = [place for place in order if place in self._live.needed]
         self._after_calls = after_calls(graph, order)
         # Otherwise the calls save the context.
         self._saves_first = any(self._meets_without_call(place) for place in order)
@@ -95,17 +95,17 @@ class _Writing:
         """The place of the context at a step. The first call on a path saves it: a call that does is one turn of the host's interpreter."""
         if self._saves_first or place in self._after_calls:
             return Context.SAVED
-        return Context.TO_SAVE if isinstance(self._graph.steps[place], Fetch | LoadPacket) else Context.PASSED
+        return Context.TO_SAVE if isinstance(self._graph.steps[place], CALLS) else Context.PASSED
 
     def _meets_without_call(self, place: Place) -> bool:
         """Whether this step goes on without a call to one that needs the context, and that other paths lead to with a call."""
-        if place in self._after_calls or isinstance(self._graph.steps[place], Fetch | LoadPacket):
+        if place in self._after_calls or isinstance(self._graph.steps[place], CALLS):
             return False
         return any(each in self._after_calls and CONTEXT_VALUE in self._live.before[each] for each in self._graph.followers[place])
 
     def _with_slots(self, place: Place) -> Place:
         """The first step with slots from a step on, which may have none."""
-        while not self._live.needs(place, self._graph.steps[place]):
+        while place not in self._live.needed:
             place = self._graph.followers[place][0]
         return place
 
@@ -135,7 +135,7 @@ class _Writing:
                 self._steps.step(step, context, in_order)
         if not followers:
             return None
-        return self._go_on(followers[0], following, isinstance(step, Fetch | LoadPacket | TestCall) or place in self._with_zero)
+        return self._go_on(followers[0], following, isinstance(step, (*CALLS, TestCall)) or place in self._with_zero)
 
     def _go_on(self, follower: Place, following: Place | None, is_zero: bool) -> Place | None:
         """Goes on to a step: without a jump if it comes next; instead of a jump to a return, writes a copy of the return."""

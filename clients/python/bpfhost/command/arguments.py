@@ -6,6 +6,7 @@ import argparse
 import importlib
 import sys
 from collections.abc import Callable, Sequence
+from functools import cache
 from typing import TYPE_CHECKING, TypeAlias
 
 from bpfhost.command.subjects import CLASSIC, EXPRESSION, EXPRESSION_FILE, Source, settled
@@ -55,10 +56,10 @@ class _Intermixed(Parser):
             self._is_inside = False
 
 
-def _parser() -> Parser:
-    parser = Parser(
-        prog=called("bpfhost-py", "bpfhost"), description=_ABOUT, formatter_class=argparse.RawDescriptionHelpFormatter
-    )
+@cache
+def _parser(prog: str) -> Parser:
+    """The parser of a process that is called like this, which may run the command several times."""
+    parser = Parser(prog=prog, description=_ABOUT, formatter_class=argparse.RawDescriptionHelpFormatter)
     version = "print the version, which program is used, and whether it is proved"
     parser.add_argument("--version", action=Version, nargs=0, help=version)
     words = parser.add_subparsers(metavar="WORD", required=True, parser_class=_Intermixed)
@@ -239,7 +240,7 @@ def _add_test_run(parser: Parser) -> None:
 
 def parse(words: Sequence[str] | None) -> argparse.Namespace:
     """The parsed arguments; wrong ones end the process with status 2. A shell may complete them (`complete`)."""
-    parser = _parser()
+    parser = _parser(called("bpfhost-py", "bpfhost"))
     complete(parser)
     said = parser.parse_args(sys.argv[1:] if words is None else words)
     return settled(said)

@@ -50,8 +50,9 @@ def check(functions: Sequence[Function], frames: Frames, slots: bytes, origins: 
         raise WrongForm(f"{len(slots)} bytes with {len(origins)} origins are no program")
     program = Original(functions, frames)
     program.check_frames()
-    _Walk(program, decoded(slots), origins).check()
-    _check_registers(program, decoded(slots), origins)
+    form = decoded(slots)
+    _Walk(program, form, origins).check()
+    _check_registers(program, form, origins)
 
 
 @dataclass

@@ -72,7 +72,7 @@ class Copy(AbstractContextManager["Copy"]):
         if on and (command in _OF_MAPS or command == Command.PROG_TEST_RUN):
             yield frame[:BODY] + self._numbers[on].to_bytes(4, "little") + frame[BODY + 4 :], reply
             return
-        known = set(self._tenancy.live())
+        known = set(self._tenancy.live()) if command == Command.CLOSE else set()
         self._tenancy.note(frame, status)
         if command == Command.MAP_CREATE:
             yield self._opened(self._tenancy.open[status], frame)

@@ -105,7 +105,8 @@ class AdditionsTest(LoweringTest):
     def changed(self, found: ObjectFile, step: str, packets: tuple[bytes, ...] = PACKETS) -> Lowered:
         """The form is accepted, has this step, and returns what the program returns."""
         lowered = self.accepted(found)
-        self.assertIn(step, lowered.steps, self.text(lowered))
+        text = self.text(lowered)
+        self.assertIn(step, lowered.steps, text)
         with Host(PROGRAM) as host:
             tenant = host.tenant()
             descriptor = tenant.prog_load(lowered.program.slots)
@@ -114,7 +115,7 @@ class AdditionsTest(LoweringTest):
                     wanted = result_of(found, packet)
                 except Faulty:
                     continue
-                self.assertEqual(tenant.prog_test_run(descriptor, packet), wanted, (packet, self.text(lowered)))
+                self.assertEqual(tenant.prog_test_run(descriptor, packet), wanted, (packet, text))
         return lowered
 
 

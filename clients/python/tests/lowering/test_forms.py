@@ -116,7 +116,8 @@ class RandomPrograms(LoweringTest):
                     self.assertIn("4,096 slots", str(error))
                     counts["too long"] += 1
                     continue
-                self.assertIsNone(lowered.refused, f"program {number}: {lowered.refused}\n{self.text(lowered)}")
+                text = self.text(lowered)
+                self.assertIsNone(lowered.refused, f"program {number}: {lowered.refused}\n{text}")
                 descriptor = tenant.prog_load(lowered.program.slots)
                 for packet in PACKETS:
                     try:
@@ -124,7 +125,7 @@ class RandomPrograms(LoweringTest):
                     except Faulty:
                         counts["faulty"] += 1
                         continue
-                    self.assertEqual(tenant.prog_test_run(descriptor, packet), wanted, f"program {number}\n{self.text(lowered)}")
+                    self.assertEqual(tenant.prog_test_run(descriptor, packet), wanted, f"program {number}\n{text}")
                     counts["run"] += 1
                 tenant.close(descriptor)
         self.assertGreater(counts["run"], 3 * PROGRAMS, counts)

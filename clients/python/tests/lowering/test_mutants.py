@@ -138,13 +138,14 @@ class Accepted(LoweringTest):
     def test_what_the_checker_accepts_is_the_program(self) -> None:
         chance = random.Random(92)
         subjects = [object_of(f=text) for text in TEXTS] + [object_of(f=SCRATCH, inner=INNER)]
-        forms = [(found, self.accepted(found)) for found in subjects]
+        forms = [self.accepted(found) for found in subjects]
+        parts = [parts_of(lowered) for lowered in forms]
         wanted = [[self.result(found, packet) for packet in PACKETS] for found in subjects]
         mutants, accepted = Mutants(chance), 0
         for _ in range(MUTANTS):
             number = chance.randrange(len(forms))
-            lowered = forms[number][1]
-            slots, origins = written(mutants.changed(parts_of(lowered)))
+            lowered = forms[number]
+            slots, origins = written(mutants.changed(parts[number].copy()))
             try:
                 check(lowered.functions, lowered.frames, slots, origins)
             except WrongForm:

@@ -161,12 +161,13 @@ class Programs(LoweringTest):
     def same(self, *changes: str, **functions: str) -> None:
         found = object_of((), **functions)
         lowered = self.accepted(found)
+        text = self.text(lowered)
         self.assertEqual(lowered.changes, changes)
         with Host(PROGRAM) as host:
             tenant = host.tenant()
             descriptor = tenant.prog_load(lowered.program.slots)
             for packet in PACKETS:
-                self.assertEqual(tenant.prog_test_run(descriptor, packet), result_of(found, packet), (packet, self.text(lowered)))
+                self.assertEqual(tenant.prog_test_run(descriptor, packet), result_of(found, packet), (packet, text))
 
     def test_a_legacy_load(self) -> None:
         self.same("1 legacy load of the packet is a call of bpf_skb_load_bytes", f=f"r6 = r1\n{HALF_12}\nr0 += 7\nexit")

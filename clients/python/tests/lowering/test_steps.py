@@ -19,12 +19,13 @@ class StepTest(LoweringTest):
     def changed(self, found: ObjectFile, *changes: str) -> None:
         """The form is accepted, returns what the program returns, and reports this change."""
         lowered = self.accepted(found)
-        self.assertEqual(lowered.changes, changes, self.text(lowered))
+        text = self.text(lowered)
+        self.assertEqual(lowered.changes, changes, text)
         with Host(PROGRAM) as host:
             tenant = host.tenant()
             descriptor = tenant.prog_load(lowered.program.slots)
             for packet in PACKETS:
-                self.assertEqual(tenant.prog_test_run(descriptor, packet), result_of(found, packet), self.text(lowered))
+                self.assertEqual(tenant.prog_test_run(descriptor, packet), result_of(found, packet), text)
 
     def stops(self, found: ObjectFile, sentence: str) -> None:
         with self.assertRaises(LoweringError) as caught:

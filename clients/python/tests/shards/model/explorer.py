@@ -10,7 +10,7 @@ from __future__ import annotations
 import marshal
 from collections.abc import Callable, Iterable, Sequence
 from dataclasses import dataclass
-from typing import Any
+from typing import Any, NamedTuple
 
 from bpfhost.shards.connection import Script
 from bpfhost.shards.errors import NoScript, RedisError
@@ -44,14 +44,25 @@ class Process:
     is_spent: Callable[[Local], bool] = lambda _local: False
 
 
-@dataclass(frozen=True)
-class State:
+class State(NamedTuple):
     """The keys of Redis, the processes, delayed calls, and the number of faults that are left."""
 
     keys: bytes
     locals: tuple[Local, ...]
     late: tuple[Words, ...]
     faults: int
+
+
+class Label(NamedTuple):
+    """What leads to a state: whose call, its words, its reply in a tuple if there is one, and what else becomes of it."""
+
+    whose: int | str
+    words: Words
+    answer: tuple[Any] | None = None
+    fate: str = ""
+
+    def __str__(self) -> str:
+        return f"{self.whose}: {_shown(self.words)}{f' -> {self.answer[0]!r}' if self.answer else ''}{self.fate}"
 
 
 class Broken(AssertionError):
@@ -69,7 +80,10 @@ class Explorer:
         self._mutations = mutations or {}
         self._scripts, self._store = Scripts(), Store()
         self._known: dict[tuple[bytes, Words], tuple[bytes, Any]] = {}
-        self._came: dict[State, tuple[State, str] | None] = {}
+        # The calls of each state of a process, and the keys that are not forbidden.
+        self._steps: dict[tuple[int, Local], Sequence[Step]] = {}
+        self._allowed: set[bytes] = set()
+        self._came: dict[State, tuple[State, Label] | None] = {}
 
     def run(self, keys: dict[bytes, Any]) -> int:
         """Explores all states, and returns their number. Raises Broken if the invariant does not hold, or no process can go on."""
@@ -94,45 +108,53 @@ class Explorer:
         return not any(process.is_spent(local) for process, local in both) and not all(process.is_done(local) for process, local in both)
 
     def _check(self, state: State) -> None:
+        if state.keys in self._allowed:
+            return
         try:
             self._invariant(_thawed(state.keys))
         except AssertionError as error:
             raise Broken(f"{error}\n{self._trace(state)}") from None
+        self._allowed.add(state.keys)
 
     def _trace(self, state: State) -> str:
-        labels: list[str] = []
+        labels: list[Label] = []
         at = self._came[state]
         while at:
             labels.append(at[1])
             at = self._came[at[0]]
-        return "\n".join(reversed(labels))
+        return "\n".join(map(str, reversed(labels)))
 
-    def _after(self, state: State) -> Iterable[tuple[str, State]]:
+    def _after(self, state: State) -> Iterable[tuple[Label, State]]:
         """The next states, except for the same one again."""
         for at, words in enumerate(state.late):
             keys, _ = self._called(state.keys, words)
-            yield f"late: {_shown(words)}", State(keys, state.locals, state.late[:at] + state.late[at + 1 :], state.faults)
+            yield Label("late", words), State(keys, state.locals, state.late[:at] + state.late[at + 1 :], state.faults)
         for number, process in enumerate(self._processes):
-            for step in process.steps(state.locals[number]):
+            for step in self._steps_of(number, state.locals[number]):
                 yield from self._stepped(state, number, process, step)
 
-    def _stepped(self, state: State, number: int, process: Process, step: Step) -> Iterable[tuple[str, State]]:
+    def _steps_of(self, number: int, local: Local) -> Sequence[Step]:
+        known = self._steps.get((number, local))
+        if known is None:
+            known = self._steps[number, local] = self._processes[number].steps(local)
+        return known
+
+    def _stepped(self, state: State, number: int, process: Process, step: Step) -> Iterable[tuple[Label, State]]:
         local = state.locals[number]
         keys, answer = self._called(state.keys, step.words)
         after = step.then(answer)
-        shown = f"{number}: {_shown(step.words)} -> {answer!r}"
         if after is not None and (after != local or keys != state.keys):
-            yield shown, self._with(state, number, after, keys)
+            yield Label(number, step.words, (answer,)), self._with(state, number, after, keys)
         if not state.faults or not process.is_lossy:
             return
         fewer = State(state.keys, state.locals, state.late, state.faults - 1)
         # The reply is lost: the process calls again, or dies. Or the call is delayed, and comes later.
         again = process.dies(local) if process.dies else local
         if keys != state.keys:
-            yield f"{shown}, and the answer is lost", self._with(fewer, number, again, keys)
+            yield Label(number, step.words, (answer,), ", and the answer is lost"), self._with(fewer, number, again, keys)
         if len(state.late) < 2:
             on_the_way = State(state.keys, state.locals, tuple(sorted((*state.late, step.words), key=repr)), state.faults - 1)
-            yield f"{number}: {_shown(step.words)} comes later", self._with(on_the_way, number, again, state.keys)
+            yield Label(number, step.words, None, " comes later"), self._with(on_the_way, number, again, state.keys)
 
     @staticmethod
     def _with(state: State, number: int, local: Local, keys: bytes) -> State:

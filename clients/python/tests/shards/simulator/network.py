@@ -14,7 +14,7 @@ from bpfhost.shards.errors import Away, RedisError
 from bpfhost.shards.link import RedisLink, Word
 from bpfhost.shards.system import System
 from tests.shards.simulator.host import FakeHost
-from tests.shards.simulator.server import Scripts, Store
+from tests.shards.simulator.server import Scripts, Store, encoded
 from tests.shards.simulator.world import World
 
 
@@ -163,7 +163,7 @@ class SimulatedLink:
         world, server = self.network.world, self._server
         at = list(words).index("BLOCK")
         until = min(deadline, world.now + float(str(words[at + 1])) / 1000)
-        asked = [*words[:at], *words[at + 2 :]]
+        asked = encoded([*words[:at], *words[at + 2 :]])
         while True:
             self._demand_connection()
             found = server.do(asked)

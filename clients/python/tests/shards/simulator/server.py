@@ -4,7 +4,9 @@ from __future__ import annotations
 
 import collections
 import copy
+import functools
 import hashlib
+import itertools
 import json
 from collections.abc import Callable, Sequence
 from typing import Any
@@ -13,6 +15,8 @@ from bpfhost.shards.errors import NoScript, OutOfMemory, RedisError
 from bpfhost.shards.names import order
 
 Value = Any
+# The same ids are compared again and again.
+_order = functools.lru_cache(1 << 16)(order)
 
 
 class Stream:
@@ -22,6 +26,16 @@ class Stream:
         self.entries: dict[bytes, list[bytes]] = {}
         self.last = b"0-0"
         self.added = 0
+
+    def between(self, low: tuple[int, int], high: tuple[int, int] = (1 << 64, 0)) -> list[Value]:
+        """The entries from one id to another. They are looked for from the end on, since the last ones are mostly asked for."""
+        found: list[Value] = []
+        for entry, fields in reversed(self.entries.items()):
+            if _order(entry) < low:
+                break
+            if _order(entry) <= high:
+                found.append([entry, fields])
+        return found[::-1]
 
 
 class Store:
@@ -55,7 +69,7 @@ class Store:
 
     def do(self, words: Sequence[object]) -> Value:
         """The reply to a command."""
-        name, *rest = [_bytes(word) for word in words]
+        name, *rest = encoded(words)
         command = getattr(self, f"_{name.decode().lower()}", None)
         if command is None:
             raise RedisError(f"the simulator has no command {name.decode()}")
@@ -173,9 +187,9 @@ class Store:
     def _xadd(self, name: bytes, entry: bytes, *fields: bytes) -> bytes:
         stream = self._of(name, Stream)
         if entry == b"*":
-            milliseconds, sequence = order(stream.last)
+            milliseconds, sequence = _order(stream.last)
             entry = b"%d-%d" % ((self.milliseconds, 0) if self.milliseconds > milliseconds else (milliseconds, sequence + 1))
-        if order(entry) <= order(stream.last):
+        if _order(entry) <= _order(stream.last):
             raise RedisError("ERR The ID specified in XADD is equal or smaller than the target stream top item")
         stream.entries[entry] = list(fields)
         stream.last, stream.added = entry, stream.added + 1
@@ -188,8 +202,8 @@ class Store:
     def _xrange(self, name: bytes, least: bytes, most: bytes, *count: bytes) -> list[Value]:
         if name not in self.keys:
             return []
-        low, high = order(least), (1 << 64, 0) if most == b"+" else order(most)
-        found = [[entry, fields] for entry, fields in self.keys[name].entries.items() if low <= order(entry) <= high]
+        stream, low = self.keys[name], _order(least)
+        found: list[Value] = stream.between(low) if most == b"+" else stream.between(low, _order(most))
         return found[: int(count[1])] if count else found
 
     def _xread(self, *words: bytes) -> list[Value] | None:
@@ -200,16 +214,18 @@ class Store:
         places = words[at + 1 + len(names) :]
         found = []
         for name, place in zip(names, places):
-            if name in self.keys and order(self.keys[name].last) > order(place):
-                entries = [[entry, fields] for entry, fields in self.keys[name].entries.items() if order(entry) > order(place)]
+            if name in self.keys and _order(self.keys[name].last) > _order(place):
+                milliseconds, sequence = _order(place)
+                entries = self.keys[name].between((milliseconds, sequence + 1))
                 found += [[name, entries[:many]]] if entries else []
         return found or None
 
     def _xtrim(self, name: bytes, _minid: bytes, _how: bytes, least: bytes, *_limit: bytes) -> int:
         if name not in self.keys:
             return 0
-        stream = self.keys[name]
-        gone = [entry for entry in stream.entries if order(entry) < order(least)]
+        stream, low = self.keys[name], _order(least)
+        # The entries are in the order of their ids.
+        gone = list(itertools.takewhile(lambda entry: _order(entry) < low, stream.entries))
         for entry in gone:
             del stream.entries[entry]
         return len(gone)
@@ -242,8 +258,9 @@ def _copied(value: Value) -> Value:
     return copy.copy(value)
 
 
-def _bytes(word: object) -> bytes:
-    return word if isinstance(word, bytes) else str(word).encode()
+def encoded(words: Sequence[object]) -> list[bytes]:
+    """The words of a command as the server reads them."""
+    return [word if isinstance(word, bytes) else str(word).encode() for word in words]
 
 
 def _encoded(table: Any) -> bytes:
@@ -266,10 +283,9 @@ class Scripts:
 
     def run(self, store: Store, words: Sequence[object]) -> Value:
         """The reply to EVALSHA or EVAL."""
-        command, text, count, *rest = [_bytes(word) for word in words]
+        command, text, count, *rest = encoded(words)
         if command == b"EVAL":
-            self._load(text)
-            text = hashlib.sha1(text).hexdigest().encode()
+            text = self._load(text)
         if text not in self._known:
             raise NoScript("NOSCRIPT")
         function, without_memory = self._known[text]
@@ -279,10 +295,14 @@ class Scripts:
         answer = function(self._lua.table_from(rest[: int(count)]), self._lua.table_from(rest[int(count) :]))
         return self._of_lua(answer)
 
-    def _load(self, text: bytes) -> None:
-        head, _, body = text.partition(b"\n")
-        function = self._lua.eval(b"function(KEYS, ARGV) " + body + b" end")
-        self._known[hashlib.sha1(text).hexdigest().encode()] = function, b"allow-oom" in head
+    def _load(self, text: bytes) -> bytes:
+        """The hash of a script, which is known from then on."""
+        name = hashlib.sha1(text).hexdigest().encode()
+        if name not in self._known:
+            head, _, body = text.partition(b"\n")
+            function = self._lua.eval(b"function(KEYS, ARGV) " + body + b" end")
+            self._known[name] = function, b"allow-oom" in head
+        return name
 
     def _call(self, *words: object) -> Value:
         return self._to_lua(self._store.do([b"%d" % word if isinstance(word, (int, float)) else word for word in words]))

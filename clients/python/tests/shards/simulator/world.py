@@ -6,10 +6,11 @@ A process is the tasks that it has begun. It can be killed: then nothing of it r
 from __future__ import annotations
 
 import asyncio
+import collections
 import contextvars
+import heapq
 import random
 from collections.abc import Callable, Coroutine
-from dataclasses import dataclass
 from typing import Any
 
 # The process that runs.
@@ -25,70 +26,78 @@ class Process:
         self.paused_until = 0.0
 
 
-class _NoSelector:
-    """In place of what waits for files: the clock goes on by the time that the loop would wait."""
-
-    def __init__(self, loop: Loop) -> None:
-        self._loop = loop
-
-    def select(self, seconds: float | None) -> list[object]:
-        if seconds is None:
-            raise RuntimeError("the world waits for ever")
-        self._loop.now += max(0.0, seconds)
-        return []
-
-
-@dataclass
-class _Planned:
-    """What the loop does next, or at a time."""
-
-    callback: Any
-    args: tuple[Any, ...]
-    context: contextvars.Context
-    handle: asyncio.Handle | None = None
+# The context of no process.
+_NOBODY = contextvars.Context()
 
 
 class Loop(asyncio.BaseEventLoop):
     """An event loop without files, whose clock is the world's: it goes on when nothing is left to do."""
 
+    # What is to be done now, and later; and how much of that was cancelled.
+    _ready: collections.deque[Any]
+    _scheduled: list[Any]
+    _timer_cancelled_count: int
+    _stopping: bool
+
     def __init__(self) -> None:
         super().__init__()
         self.now = 0.0
         # What killed processes would have done next.
-        self.left: list[_Planned] = []
-        self._selector = _NoSelector(self)
-        # A time that comes later by less than this comes at the same time.
-        self._clock_resolution = 1e-9
+        self.left: list[Any] = []
 
     def time(self) -> float:
         return self.now
-
-    def _process_events(self, _events: object) -> None:
-        """There are none."""
 
     def _write_to_self(self) -> None:
         """Nobody calls from another thread."""
 
     def call_soon(self, callback: Any, *args: Any, context: contextvars.Context | None = None) -> asyncio.Handle:
-        planned = _Planned(callback, args, context or contextvars.copy_context())
-        planned.handle = super().call_soon(self._do, planned, context=planned.context)
-        return planned.handle
-
-    def call_at(self, when: float, callback: Any, *args: Any, context: contextvars.Context | None = None) -> asyncio.TimerHandle:
-        planned = _Planned(callback, args, context or contextvars.copy_context())
-        planned.handle = handle = super().call_at(when, self._do, planned, context=planned.context)
+        handle = asyncio.Handle(callback, args, self, context)
+        self._ready.append(handle)
         return handle
 
-    def _do(self, planned: _Planned) -> None:
-        process = planned.context.get(_RUNS)
-        if planned.handle and planned.handle.cancelled():
+    def call_at(self, when: float, callback: Any, *args: Any, context: contextvars.Context | None = None) -> asyncio.TimerHandle:
+        handle = asyncio.TimerHandle(when, callback, args, self, context)
+        heapq.heappush(self._scheduled, handle)
+        # The library counts what is cancelled of this.
+        handle._scheduled = True  # type: ignore[attr-defined]
+        return handle
+
+    def _run_once(self) -> None:
+        """Does what is to be done now, in the order of the library's loops. If that is nothing, the clock goes on to the next time."""
+        ready, timers = self._ready, self._scheduled
+        # Of what comes at the same time, the heap decides what is first, and it is made anew as often as by the library.
+        if len(timers) > 100 and self._timer_cancelled_count / len(timers) > 0.5:
+            timers = self._scheduled = [one for one in timers if not one._cancelled]
+            heapq.heapify(timers)
+            self._timer_cancelled_count = 0
+        while timers and timers[0]._cancelled:
+            heapq.heappop(timers)
+            self._timer_cancelled_count -= 1
+        if not ready and not self._stopping:
+            if not timers:
+                raise RuntimeError("the world waits for ever")
+            self.now += max(0.0, timers[0]._when - self.now)
+        # A time that comes later by less than this comes at the same time.
+        end = self.now + 1e-9
+        while timers and timers[0]._when < end:
+            handle = heapq.heappop(timers)
+            handle._scheduled = False
+            ready.append(handle)
+        for _ in range(len(ready)):
+            self._do(ready.popleft())
+
+    def _do(self, handle: Any) -> None:
+        """Does what is next, unless its process is killed or paused."""
+        process = handle._context.get(_RUNS)
+        if handle._cancelled:
             return
         if process and process.is_killed:
-            self.left.append(planned)
+            self.left.append(handle)
         elif process and self.now < process.paused_until:
-            super().call_at(process.paused_until, self._do, planned, context=planned.context)
+            self.call_at(process.paused_until, self._do, handle, context=_NOBODY)
         else:
-            planned.callback(*planned.args)
+            handle._run()
 
 
 class World:
@@ -168,9 +177,9 @@ class World:
         tasks = asyncio.all_tasks(self.loop)
         for task in tasks:
             task.cancel()
-        for planned in self.loop.left:
-            planned.context.run(_RUNS.set, None)
-            self.loop.call_soon(planned.callback, *planned.args, context=planned.context)
+        for handle in self.loop.left:
+            handle._context.run(_RUNS.set, None)
+            self.loop._ready.append(handle)
         for process in self._processes:
             process.is_killed, process.paused_until = False, 0.0
         if tasks:

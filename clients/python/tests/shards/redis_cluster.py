@@ -22,11 +22,12 @@ _SECONDS = 60
 def _free_ports(many: int) -> list[int]:
     """Ports that are free at the moment, and whose bus ports, 10,000 above them, are free too.
 
-    Each process begins at another one: the ports of a node that is killed are free for a while, and another run of the tests may be near.
+    All are below 32,768: Linux gives the ports from there on to connections, at any time. Each process begins at another one: the ports of a
+    node that is killed are free for a while, and another run of the tests may be near.
     """
     found: list[int] = []
-    first = 21_000 + os.getpid() % 80 * 100
-    for port in (*range(first, 29_000), *range(21_000, first)):
+    first = 12_000 + os.getpid() % 100 * 100
+    for port in (*range(first, 22_000), *range(12_000, first)):
         with contextlib.suppress(OSError), contextlib.ExitStack() as stack:
             for one in (port, port + 10_000):
                 stack.enter_context(socket.create_server(("127.0.0.1", one)))
@@ -67,6 +68,8 @@ class Node:
         _until(self._answers, f"redis-server does not answer: {self.folder}")
 
     def _answers(self) -> bool:
+        if self.process and self.process.poll() is not None:
+            raise AssertionError(f"redis-server has ended: {(self.folder / 'log').read_text(errors='replace')[-500:]}")
         with contextlib.suppress(RedisError):
             return bool(self.call("PING"))
         return False

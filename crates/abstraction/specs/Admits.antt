@@ -67,8 +67,8 @@ HasKind witness k o = (v : Tagged) × (o ≡ Some v) × IsOfKind witness k v
 
 -- ---- stack slots
 
--- the value is a map or a pointer: a cell, the content of a stack slot, keeps such a value whole
--- (`holds`), but a number as bytes
+-- the value is a map or a pointer. A cell, the content of a stack slot, keeps only such a value
+-- whole (`holds`). False for a number (Scalar), also for null: a store puts a number there as bytes
 abbrev pub IsKeptWhole : Tagged → Type 0
 IsKeptWhole (Scalar n) = ⊥
 IsKeptWhole (Map m) = Unit {0}
@@ -97,8 +97,8 @@ HasSlot witness (Spill k) c = HoldsWhole witness k c ⊎ HoldsNull witness k c
 
 -- ---- states
 
--- the number of values (objects of the run) that a map has had since the run began, with those that
--- were deleted since; 0 if there is no map (None)
+-- how many values (objects of the run) a map has had: those with which the run began and those that
+-- the run added, also if they were deleted since; 0 if there is no map (None)
 abbrev pub objects_of : Option RunMap → ℕ
 objects_of None = 0
 objects_of (Some t) = t.count

@@ -4,8 +4,9 @@ ghost use Rattle.abstraction.specs.Laws.{JoinAdmits, StackReadAdmits, StackWrite
 ghost use Rattle.abstraction.specs.Laws.{StackOutputAdmits, ObjectReadAdmits, ObjectWriteAdmits, ValueLoadAdmits};
 ghost use Rattle.abstraction.specs.Laws.{ValueStoreAdmits, MapCallsKeep, MapChangeAdmits, CallAdmits, SiteAdmits, NullTestAdmits};
 
-/// A law, for edges that merge: if the facts on one of two edges admit a state by a witness, the join of the facts on both edges admits
-/// the state by this witness.
+/// A law, for edges that merge: if the facts on one of two edges admit a state by a witness, the join of the facts on both edges admits the
+/// state by this witness. The two laws that are called are for the proof: a hull of ranges has the members of both, and the join of facts
+/// is commutative, so that a proof for the first of the two edges is enough.
 pub fn join_admits()
     ensures { JoinAdmits }
 {
@@ -13,74 +14,91 @@ pub fn join_admits()
     reg_kinds::laws::joins_commute();
 }
 
-/// A law: if the facts that admit a state allow a load from the stack, it is no fault, and gives a value of the kind that they predict.
+/// A law, for the soundness of loads. Take facts that admit a state in range (`IsInRange`: its bytes are below 256), and a load from the
+/// stack that these facts allow: `stack_read` returns a kind for it. In this state the load is no fault, and gives a value of that kind.
 pub fn stack_read_admits()
     ensures { StackReadAdmits }
 {}
 
-/// A law: if facts admit a state in range (`IsInRange`) and allow a store of a value of some kind into its stack, the store is no fault,
-/// and the facts after the store admit the state after the store.
+/// A law, for the soundness of stores to the stack. Take facts that admit a state in range (`IsInRange`: its bytes are below 256, its
+/// context words below 2^32), and a value of a kind of which the facts allow a store into the stack. Then the store of this value is no
+/// fault, and the facts after the store admit the state after the store, by the same witness; that state is in range too.
 pub fn stack_write_admits()
     ensures { StackWriteAdmits }
 {}
 
-/// A law: if the facts that admit a state allow a helper to read bytes of the stack (`stack_input`), in one stack slot or in several, these
-/// bytes lie in the stack, and each has a number from 0 to 255 in the state.
+/// A law: if facts admit a state in range (`IsInRange`) and allow a helper to read bytes of the stack (`stack_input`), in one stack slot or
+/// in several, these bytes lie in the stack, and each is a number from 0 to 255 in the state. So the helper's read is no fault.
 pub fn stack_input_admits()
     ensures { StackInputAdmits }
 {}
 
-/// A law: if facts admit a state, and allow a helper to write bytes to the stack, from a least to a greatest number of bytes, then a write
-/// of any bytes, of a number in this range, is no fault, and the facts after the write admit the state after the write.
+/// A law, for helpers that write to the stack. If facts admit a state in range (`IsInRange`), and allow a write of `lo` to `hi` bytes at an
+/// offset of the stack (`stack_filled`), then a write of any bytes there, at least `lo` and at most `hi` of them, is no fault. The facts
+/// after the write, which `stack_filled` gives, admit the state after the write by the same witness, and this state is in range.
 pub fn stack_output_admits()
     ensures { StackOutputAdmits }
 {}
 
-/// A law, for helpers: if a state is in range (`IsInRange`), a read of n bytes within one value of a map is no fault, and gives n bytes.
-/// The value is any that the map has had, also that of a deleted key. No facts are needed.
+/// A law, for helpers that read a key or a value from a value of a map: if a state is in range (`IsInRange`: among others, its bytes are
+/// below 256), a read of n bytes within one value of a map is no fault, and gives n bytes, each below 256. The value is any that the map
+/// has had, also that of a deleted key. No facts are needed, unlike for a read of the stack: a value has no unwritten byte.
 pub fn object_read_admits()
     ensures { ObjectReadAdmits }
 {}
 
-/// A law, for helpers: in a state in range (`IsInRange`), a write of bytes within one value of a map is no fault. Facts that admit the
-/// state before the write also admit the state after the write, since facts know nothing of the bytes of values.
+/// A law, for the helper that writes into a buffer (26, a load of packet bytes). Take a state in range (`IsInRange`: its bytes are below
+/// 256) that has a map for each descriptor with a shape (`HasMaps`). A write of bytes within one value of a map, also of a deleted key, is
+/// no fault, and leads to a state of this kind at the same slot. Facts that admit the state before the write also admit the state after it,
+/// since facts know nothing of the bytes of values.
 pub fn object_write_admits()
     ensures { ObjectWriteAdmits }
 {}
 
-/// A law: in a state whose bytes are below 256 (`IsInRange`), a load within a map's value is no fault, and gives a value of the kind
-/// `loaded`: a number of the load's size, or any number of 64 bits if the load extends the sign.
+/// A law, for instructions that load from a map's value: in a state whose bytes are below 256 (`IsInRange`), a load of bytes that all lie
+/// in one value of a map is no fault. It gives a number of the kind that facts predict for it (`loaded`): any number of as many bits as are
+/// loaded, or any number of 64 bits if the load extends the sign. The value may be that of a deleted key. No facts are needed.
 pub fn value_load_admits()
     ensures { ValueLoadAdmits }
 {}
 
-/// A law: a store of a number within a map's value is no fault, and the facts that admit the state before it admit the state after it.
+/// A law: if all bytes of a store lie in one value of a map, which may be that of a deleted key, and a number is stored, the store is no
+/// fault. Facts that describe the state before the store also describe the state after it (`Describes`: they admit it, its numbers are in
+/// range, and it has the maps of the given shapes). The slot of the next instruction (`at`) is unchanged.
 pub fn value_store_admits()
     ensures { ValueStoreAdmits }
 {}
 
-/// A law: an update and a delete keep a map's shape, and do not lower its count, the number of objects (values) that the map has had, those
-/// of deleted keys included. The object that a look-up finds has a number below the count. So has the object of the direct value:
-/// this is the one value of an array with one entry, whose address an instruction loads without a call.
+/// A law, for the soundness of calls and of accesses to values. If all bytes of a map's objects are below 256, an update with such a value
+/// of the map's size (`updated`), and a delete (`removed`), keep the map's shape, do not lower its count, and keep these bytes below 256.
+/// The count is the number of objects (values) that the map has had, those of deleted keys included. The object that a look-up finds has a
+/// number below the count (`owned`). So has the object of the direct value: this is the one value of an array with one entry, whose address
+/// an instruction loads without a call (`direct`).
 pub fn map_calls_keep()
     ensures { MapCallsKeep }
 {}
 
-/// A law: if a map of a run is replaced by a map of equal shape with at least as many objects (`KeepsShapeAndObjects`), the facts that
-/// describe the state before also describe the state after. The objects of a map are its values, those of deleted keys included.
+/// A law, for the calls by which a helper changes the keys of a map or its values. Take facts that describe a state by a witness
+/// (`Describes`: they admit it, its numbers are in range, and its maps have their shapes), and replace a map of the state by one of equal
+/// shape with at least as many objects, whose bytes are below 256 (`KeepsShapeAndObjects`). The facts also describe the state with the new
+/// map, by the same witness. The objects of a map are its values, those of deleted keys included.
 pub fn map_change_admits()
     ensures { MapChangeAdmits }
 {}
 
-/// A law of the return from a helper: if facts admit a state, and a helper returns a value of some kind in this state, the facts after the
-/// call admit the state after the call. The return changes only registers: register 0 gets the value, in facts its kind, and registers 1 to
-/// 5 become empty, in facts unreadable.
+/// A law of the return from a helper, which the law `calls_are_sound` of `transfer` needs: if facts describe a state by a witness
+/// (`Describes`), and by this witness a value is of some kind (`IsOfKind`), the facts after the call describe the state after a call that
+/// returns this value. The return changes only registers: register 0 gets the value, in facts its kind, and registers 1 to 5 become empty,
+/// in facts unreadable. What the helper has written to the stack or changed in a map is in the state and the facts before the return; other
+/// laws are about that.
 pub fn call_admits()
     ensures { CallAdmits }
 {}
 
-/// A law: take facts that describe a state by a witness, and a slot above all sites in the facts. Then the facts also describe the state by
-/// the witness that has, in addition, a look-up at this slot with any result (`witness_at`).
+/// A law of a look-up: take facts that describe a state by a witness (`Describes`), and a slot above all sites in the facts, so that no
+/// fact is about a look-up there. Then the facts also describe the state by the witness that has, in addition, a look-up at this slot with
+/// any result, and counts all objects that the state's maps have had (`witness_at`). The proof that calls are sound takes this witness
+/// after a look-up.
 pub fn site_admits()
     ensures { SiteAdmits }
 {}

@@ -11,8 +11,9 @@ use crate::laws;
 use crate::memory::Arena;
 use crate::trace::Trace;
 
-/// Stores a number as eight bytes, the lowest first, at offset `at` of a tenant's part: only these bytes of that part change, and no other
-/// part changes. The store is never `None`, since its range is in the part (`room`).
+/// Stores `value` as eight bytes, the lowest first, at offset `at` of a tenant's part: only these bytes of that part change, and no other
+/// part changes (`IsWrittenAt`). The store is never `None`, since the arena has the tenant's part (`tenant`), and the eight bytes lie in it
+/// (`room`). The contract states nothing of `trace`, which gets their address range.
 fn store_within(arena: &mut Arena, tenant: usize, at: usize, value: u64, trace: &mut Trace)
     requires tenant { tenant < arena.old.parts }
     requires room { at + 8 ≤ arena.old.part }
@@ -25,7 +26,8 @@ fn store_within(arena: &mut Arena, tenant: usize, at: usize, value: u64, trace: 
 }
 
 /// Copies eight bytes from offset `from` to offset `to` of a tenant's part; the two ranges may overlap. At `to` the part then has the bytes
-/// that were at `from` before the call, and no other part changes. The copy is never `None`, since both ranges are in the part.
+/// that were at `from` before the call, and neither the rest of the part nor another part changes (`IsWrittenAt`). The copy is never
+/// `None`, since both ranges are in the part (`to`, `from`).
 fn copy_within(arena: &mut Arena, tenant: usize, to: usize, from: usize, trace: &mut Trace)
     requires tenant { tenant < arena.old.parts }
     requires to { to + 8 ≤ arena.old.part }

@@ -11,7 +11,8 @@
 ghost use Rattle.std.specs.Prelude.{◌≡◌, ◌+◌, ◌≤◌, length, take};
 ghost use Rattle.words.specs.Bytes.{written_at};
 
-/// The first `N` bytes, copied to an array. The caller then copies the array to other bytes: LLVM knows that these do not overlap it.
+/// The first `N` of at least `N` bytes, copied to an array. The caller, `copy_piece`, then copies the array to other bytes: LLVM knows that
+/// these do not overlap it.
 #[inline(always)]
 fn first_bytes<const N: usize>(bytes: &[u8]) -> [u8; N]
     requires { N ≤ length bytes.now }
@@ -22,7 +23,9 @@ fn first_bytes<const N: usize>(bytes: &[u8]) -> [u8; N]
     first
 }
 
-/// Copies `N` bytes to an offset of `to`.
+/// Copies `bytes`, of which there are exactly `N` (`length`), to `offset` in `to`, which has room for them there (`room`). The other bytes
+/// of `to` are unchanged. A short copy is one or two such pieces: as `N` is a constant, each is a few loads and stores. The bytes are
+/// copied by way of an array (`first_bytes`), so LLVM has no overlap to test for.
 #[inline(always)]
 fn copy_piece<const N: usize>(to: &mut [u8], offset: usize, bytes: &[u8])
     requires length { length bytes.now ≡ N }
@@ -33,7 +36,8 @@ fn copy_piece<const N: usize>(to: &mut [u8], offset: usize, bytes: &[u8])
     to[offset..offset + N].copy_from_slice(&piece);
 }
 
-/// Copies `bytes`, of which there are `N` to 2 `N`, to `offset` of `to`: the first `N` and the last `N` of them, which may overlap.
+/// Copies `bytes` to `offset` of `to` in two pieces of `N` bytes: the first `N` and the last `N` of `bytes`. As `bytes` has `N` to 2 `N`
+/// bytes, the pieces cover all of them, and may overlap.
 #[inline(always)]
 fn copy_by_ends<const N: usize>(to: &mut [u8], offset: usize, bytes: &[u8])
     requires least { N ≤ length bytes.now }
@@ -46,8 +50,8 @@ fn copy_by_ends<const N: usize>(to: &mut [u8], offset: usize, bytes: &[u8])
     copy_piece::<N>(to, offset + last, &bytes[last..]);
 }
 
-/// Copies any number of bytes to an offset of `to`. It is a function of its own, so that `copy_bytes`, which is inlined, has only a call
-/// for a long copy.
+/// Copies `bytes`, any number of them, to an offset of `to`. `copy_bytes`, which is inlined, calls it for more than 64 bytes. It is a
+/// function of its own, so that `copy_bytes` has only a call for a long copy.
 #[inline(never)]
 fn copy_many(to: &mut [u8], offset: usize, bytes: &[u8])
     requires { offset + length bytes.now ≤ length to.old }
@@ -56,7 +60,8 @@ fn copy_many(to: &mut [u8], offset: usize, bytes: &[u8])
     to[offset..offset + bytes.len()].copy_from_slice(bytes);
 }
 
-/// Copies bytes to an offset of `to`: up to 64 by pieces of a fixed length, more by a call. An empty slice has no arm: nothing is copied.
+/// Copies `bytes` to the offset `offset` of `to`, which has room for them there: up to 64 bytes by pieces of a fixed length, more by a call
+/// (`copy_many`). An empty slice has no arm: nothing is copied. `copy_bytes` of `numbers.rt` copies within one slice instead.
 #[inline(always)]
 pub(crate) fn copy_bytes(to: &mut [u8], offset: usize, bytes: &[u8])
     requires { offset + length bytes.now ≤ length to.old }

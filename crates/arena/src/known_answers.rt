@@ -4,7 +4,8 @@ use crate::memory::{Arena, BASE};
 use crate::trace::Trace;
 use std::alloc::{AllocError, Global};
 
-/// A stored number is loaded unchanged; the order of its bytes is little-endian.
+/// In an arena of two parts of 16 bytes, a number that is stored in the last eight bytes is loaded from there unchanged. Loads of four, two
+/// and one of these bytes show that the order is little-endian. `AllocError`: memory for the arena is refused.
 fn number_stored_and_loaded(alloc: Global) -> Result<(), AllocError> {
     let mut arena = Arena::new(alloc, 2, 16)?;
     let mut trace = Trace::new();
@@ -37,9 +38,9 @@ fn number_stored_and_loaded_inside(alloc: Global) -> Result<(), AllocError> {
     Ok(())
 }
 
-/// An arena of 32 bytes begins at the address `BASE`. If the eight bytes from `address` on do not all lie in the arena, a load or a store
-/// of these bytes, and a copy to or from them, give `None`. For any other `address` the function returns before these calls. `AllocError`:
-/// memory for the arena is refused.
+/// An arena of two parts, 32 bytes in all, begins at the address `BASE`. If the eight bytes from `address` on do not all lie in the arena,
+/// a load or a store of these bytes, and a copy to or from them, give `None`. For any other `address` the function returns before these
+/// calls. `AllocError`: memory for the arena is refused.
 fn accesses_outside(alloc: Global, address: u64) -> Result<(), AllocError> {
     let mut arena = Arena::new(alloc, 2, 16)?;
     let mut trace = Trace::new();
@@ -58,7 +59,8 @@ fn accesses_outside(alloc: Global, address: u64) -> Result<(), AllocError> {
 }
 
 /// Overlapping ranges are copied like memmove: four bytes to the next higher address, then three bytes to an address lower by two. The
-/// address to which `copy` writes is its first argument, that from which it reads its second.
+/// first argument of `copy` is the address to which it writes, and the second is the address from which it reads. `AllocError`: memory for
+/// the arena is refused.
 fn overlapping_copies(alloc: Global) -> Result<(), AllocError> {
     let mut arena = Arena::new(alloc, 1, 16)?;
     let mut trace = Trace::new();

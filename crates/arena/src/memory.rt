@@ -38,8 +38,10 @@ impl Model for Arena {
     ghost invariant = { IsWholeMemory };
 }
 
-/// The offset of `address` in a memory of `memory_size` bytes, in which the `size` bytes from `address` on lie. It is the low 32 bits of
-/// the address, since addresses begin at 2^32 and the memory has at most 2^28 bytes. So the machine code needs no 64-bit constant.
+/// The offset of `address` in a memory of `memory_size` bytes, for an access without a test, such as that of `load_inside`. By `inside` the
+/// `size` bytes at `address` lie in the memory, and so do those at the result (`within`); `offset` tests this instead. The result is the
+/// low 32 bits of the address, since addresses begin at 2^32 (`BASE`) and the memory has at most 2^28 bytes (`small`). So the machine code
+/// needs no 64-bit constant.
 #[inline(always)]
 fn offset_inside(memory_size: usize, size: usize, address: u64) -> usize
     requires small { memory_size ≤ 2 ^ 28 }
@@ -51,7 +53,9 @@ fn offset_inside(memory_size: usize, size: usize, address: u64) -> usize
 }
 
 /// The offset, from the start of the memory, of the `size` bytes from `address` on; `None` if they don't all lie in a memory of
-/// `memory_size` bytes. The first address of the memory is `BASE`. No arena has more than 2^28 bytes.
+/// `memory_size` bytes, whose first address is `BASE`. By this test `load`, `store` and `copy` take any address; functions whose contract
+/// requires that the bytes lie in the memory, as that of `load_inside`, use `offset_inside`. No arena has more than 2^28 bytes
+/// (`requires`).
 #[inline(always)]
 fn offset(memory_size: usize, size: usize, address: u64) -> Option<usize>
     requires { memory_size ≤ 2 ^ 28 }
@@ -102,8 +106,9 @@ impl Arena {
         replace(self, none)
     }
 
-    /// A law: the size of the memory is the number of parts times their size, and at most 2^28 bytes. The body only reads a field, so that
-    /// the proof has the invariant of the type.
+    /// A law: the size of the memory in bytes (`size_of`) is the number of parts, `parts`, times the size of one part, `part` (clause
+    /// `parts`), and at most 2^28 (`bound`). Proofs of callers need this to show that a tenant's part lies in the memory. The body only
+    /// reads a field, so that the proof has the invariant of the type.
     pub fn memory_is_its_parts(&self)
         ensures parts { size_of self.now ≡ self.now.parts * self.now.part }
         ensures bound { size_of self.now ≤ 2 ^ 28 }
@@ -111,7 +116,8 @@ impl Arena {
         let _ = &self.bytes;
     }
 
-    /// The offset of the part of `tenant` in the memory, in bytes. Tenants are numbered from 0. `bound`: the memory has at most 2^28 bytes.
+    /// The offset in the memory, in bytes, at which the part of `tenant` begins. Tenants are numbered from 0. `room`: the whole part lies
+    /// in the memory. `bound`: the offset is at most 2^28, since the memory has at most 2^28 bytes.
     fn start(&self, tenant: usize) -> usize
         requires { tenant < self.now.parts }
         ensures value { result ≡ part_start self.now tenant }
@@ -121,7 +127,8 @@ impl Arena {
         tenant * self.part_size
     }
 
-    /// The first address of the part of `tenant`. Tenants are numbered from 0.
+    /// The first address of the part of `tenant`, which is the number of a part: tenants are numbered from 0. By `room` the whole part lies
+    /// in the memory, so a proof knows from this call that the address of a byte of the part is an address of the memory.
     pub fn address(&self, tenant: usize) -> u64
         requires { tenant < self.now.parts }
         ensures value { result ≡ base + part_start self.now tenant }
@@ -130,7 +137,8 @@ impl Arena {
         BASE + self.start(tenant) as u64
     }
 
-    /// The bytes of the part of `tenant`. Tenants are numbered from 0.
+    /// The bytes of the part of `tenant`, all of them (`length`). Tenants are numbered from 0, and `tenant` has a part: its number is less
+    /// than that of the parts.
     pub fn part(&self, tenant: usize) -> &[u8]
         requires { tenant < self.now.parts }
         ensures bytes { result.now ≡ part_bytes self.now tenant }
@@ -140,8 +148,9 @@ impl Arena {
         &self.bytes[start..start + self.part_size]
     }
 
-    /// Loads a little-endian number of `size` bytes (1, 2, 4 or 8) at `address`; `None` exactly if these bytes don't lie in the memory.
-    /// The trace gets the range in both cases.
+    /// Loads a little-endian number of `size` bytes (1, 2, 4 or 8) at `address`; `None` exactly if these bytes don't all lie in the memory,
+    /// whose first address is `BASE` (`value`). The trace gets the range in both cases (`ranges`), and no step (`steps`). Only tests call
+    /// this function: a run's loads are known to lie in the memory, so they use `load_inside`, which does not test the address.
     #[inline(always)]
     pub fn load(&self, address: u64, size: usize, trace: &mut Trace) -> Option<u64>
         requires { IsSize size }
@@ -154,8 +163,9 @@ impl Arena {
         Some(read(&self.bytes, at, size))
     }
 
-    /// Stores the low `size` bytes (1, 2, 4 or 8) of `value` at `address`, little-endian. `None`, and nothing changes, exactly if
-    /// the `size` bytes at `address` don't lie in the memory. The trace gets the range in both cases.
+    /// Stores the low `size` bytes (1, 2, 4 or 8) of `value` at `address`, little-endian. `None`, and no byte changes, exactly if the
+    /// `size` bytes at `address` don't all lie in the memory, in which they then have no offset (`offset_of` is `None`). In both cases the
+    /// trace gets the range, the address with the size, and no step.
     #[inline(always)]
     pub fn store(&mut self, address: u64, size: usize, value: u64, trace: &mut Trace) -> Option<()>
         requires { IsSize size }
@@ -171,8 +181,9 @@ impl Arena {
         Some(())
     }
 
-    /// Loads a little-endian number of `size` bytes (1, 2, 4 or 8) at `address`. The caller knows that these bytes are in the memory
-    /// (`inside`), so there is no test. The trace gets the range.
+    /// Loads a little-endian number of `size` bytes (1, 2, 4 or 8) at `address`. Unlike `load`, this function has no test of the address:
+    /// by `inside` all these bytes are in the memory, as `offset_of` gives them an offset. `value`: the result is the number that they
+    /// make. The trace gets the range (`ranges`), and no step (`steps`). Runs call it, as `inside` is proved for each step.
     #[inline(always)]
     pub fn load_inside(&self, address: u64, size: usize, trace: &mut Trace) -> u64
         requires size { IsSize size }
@@ -187,8 +198,9 @@ impl Arena {
         read(&self.bytes, start, size)
     }
 
-    /// Stores the low `size` bytes (1, 2, 4 or 8) of `value` at `address`, little-endian. The caller knows that the range is in the memory
-    /// (`inside`), so there is no test. The trace gets the range.
+    /// Stores the low `size` bytes (1, 2, 4 or 8) of `value` at `address`, little-endian. The caller has to prove that this range is in the
+    /// memory (`inside`): so, unlike `store`, the function has no test and returns nothing. The trace gets the range (`ranges`), and no
+    /// step is counted (`steps`).
     #[inline(always)]
     pub fn store_inside(&mut self, address: u64, size: usize, value: u64, trace: &mut Trace)
         requires size { IsSize size }
@@ -203,7 +215,9 @@ impl Arena {
         write(&mut self.bytes, start, size, value);
     }
 
-    /// Writes bytes at `address`. The caller knows that their range is in the memory, so there is no test.
+    /// Writes the slice `bytes`, of any length, at `address`, and changes no other byte. In the clause `bytes`, `address - base` is the
+    /// offset in the memory, whose first address is 2^32 (`base`). It is required that the range lies in the memory, so there is no test.
+    /// The trace gets the range, as address and length (`ranges`), and no step (`steps`).
     #[inline(always)]
     pub fn write_inside(&mut self, address: u64, bytes: &[u8], trace: &mut Trace)
         requires { IsSome (offset_of (size_of self.old) (length bytes.now) address) }
@@ -217,8 +231,9 @@ impl Arena {
         copying::copy_bytes(&mut self.bytes, start, bytes);
     }
 
-    /// Copies `length` bytes, at least one, from address `from` to `to` like memmove: the ranges may overlap. `None`, and nothing
-    /// changes, exactly if either range doesn't lie in the memory. The trace gets both ranges in each case.
+    /// Copies `length` bytes, at least one, from address `from` to address `to`, like memmove: the ranges may overlap. Returns `None`, and
+    /// changes nothing, exactly if one of the two ranges doesn't lie in the memory (`found`, `bytes`). In each case the trace gets the
+    /// range at `from` and then that at `to` (`ranges`), and no step (`steps`). Runs call `copy_inside`, which does not test the ranges.
     pub fn copy(&mut self, to: u64, from: u64, length: usize, trace: &mut Trace) -> Option<()>
         requires { 1 ≤ length }
         ensures found { is_some result ≡ (is_some (offset_of (size_of self.old) length from)
@@ -238,8 +253,9 @@ impl Arena {
         Some(())
     }
 
-    /// Copies `length` bytes, at least one, from address `from` to `to` like memmove: the ranges may overlap. The caller knows that both
-    /// are in the memory (`source`, `target`), so there is no test. The trace gets the range at `from` and then that at `to`.
+    /// Copies `length` bytes, at least one (`some`), from address `from` to `to` like memmove: the ranges may overlap, and that at `to`
+    /// gets the bytes that the other had before (`bytes`). The caller knows that both ranges are in the memory (`source`, `target`), so
+    /// there is no test, unlike in `copy`. The trace gets the range at `from` and then that at `to` (`ranges`), but no step (`steps`).
     #[inline(always)]
     pub fn copy_inside(&mut self, to: u64, from: u64, length: usize, trace: &mut Trace)
         requires some { 1 ≤ length }
@@ -259,7 +275,9 @@ impl Arena {
         copy_bytes(&mut self.bytes, source, target, length);
     }
 
-    /// Lends the bytes of the part of `tenant` for writing. All other bytes keep their values. Tenants are numbered from 0.
+    /// Lends the bytes of the part of `tenant` for writing. Tenants are numbered from 0, and each number below `parts` has a part. The
+    /// slice has the bytes that the part has now (`bytes`). `lends`: when the borrow ends, the part has the bytes that the slice then has,
+    /// and all other bytes of the memory are unchanged.
     pub fn part_mut(&mut self, tenant: usize) -> &mut [u8]
         requires { tenant < self.old.parts }
         ensures* lends { sem 𝓛 (LendsPart self.entry tenant result) }

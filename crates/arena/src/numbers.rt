@@ -31,7 +31,7 @@ fn read_word(bytes: &[u8], at: usize) -> u32
     u32::from_le_bytes([bytes[at], bytes[at + 1], bytes[at + 2], bytes[at + 3]])
 }
 
-/// The little-endian number of the eight bytes at offset `at`.
+/// The little-endian number of the eight bytes, a double word, from offset `at` of `bytes` on.
 #[inline(always)]
 fn read_double(bytes: &[u8], at: usize) -> u64
     requires { at + 8 ≤ length bytes.now }
@@ -49,8 +49,8 @@ fn read_double(bytes: &[u8], at: usize) -> u64
     ])
 }
 
-/// The number whose eight bytes, little-endian, are at offset `at`, by `read_double`. `copy_double` needs this contract: the number's bytes
-/// are those at `at`.
+/// The number that the eight bytes at offset `at` spell, little-endian. It is that of `read_double`, with another contract: the number's
+/// bytes (`low_bytes 8`) are those at `at`. `copy_double`, which writes the bytes of the number, needs this.
 #[inline(always)]
 fn spelled_double(bytes: &[u8], at: usize) -> u64
     requires { at + 8 ≤ length bytes.now }
@@ -59,7 +59,7 @@ fn spelled_double(bytes: &[u8], at: usize) -> u64
     read_double(bytes, at)
 }
 
-/// The low four bytes of a number, the lowest first.
+/// The low four bytes of a number, which are a word in eBPF, the lowest first. `write` stores them for the size 4.
 #[inline(always)]
 fn low_word(value: u64) -> [u8; 4]
     ensures { result ≡ low_bytes 4 value }
@@ -67,7 +67,7 @@ fn low_word(value: u64) -> [u8; 4]
     ((value % 0x1_0000_0000) as u32).to_le_bytes()
 }
 
-/// The low two bytes of a number, the lowest first.
+/// The low two bytes of a number, which are a half word in eBPF, the lowest first.
 #[inline(always)]
 fn low_half(value: u64) -> [u8; 2]
     ensures { result ≡ low_bytes 2 value }
@@ -75,7 +75,7 @@ fn low_half(value: u64) -> [u8; 2]
     ((value % 0x1_0000) as u16).to_le_bytes()
 }
 
-/// The low byte of a number.
+/// The low byte of a number, as an array of this one byte, since `put` writes a slice of bytes.
 #[inline(always)]
 fn low_byte(value: u64) -> [u8; 1]
     ensures { result ≡ low_bytes 1 value }
@@ -83,10 +83,11 @@ fn low_byte(value: u64) -> [u8; 1]
     ((value % 0x100) as u8).to_le_bytes()
 }
 
-/// Writes the low `size` bytes (1, 2, 4 or 8) of `value` at offset `at` of `bytes`, little-endian. Each size has its own conversion. If all
-/// sizes converted eight bytes and wrote the first `size` of them, the machine code would also store the eight on the machine's stack. And
-/// a program's stores of a constant and of a register would share one jump to the next opcode, so that the processor could not predict each
-/// of the two jumps from its own history (`dispatch.rt` of `flat_machine`).
+/// Writes the low `size` bytes of `value`, little-endian, over the bytes at offset `at` of `bytes`. `size` is 1, 2, 4 or 8 (`IsSize`), and
+/// all of these bytes are in `bytes` (`within`). Each size has its own conversion, for speed. If all sizes converted eight bytes and wrote
+/// the first `size` of them, the machine code would also store the eight on the machine's stack. And an eBPF program's stores of a constant
+/// and its stores of a register would be followed by one shared jump to the next opcode, so that the processor could not predict the jump
+/// after each of these two instructions from a history of its own (`dispatch.rt` of `flat_machine`).
 #[inline(always)]
 pub(crate) fn write(bytes: &mut [u8], at: usize, size: usize, value: u64)
     requires size { IsSize size }
@@ -104,7 +105,8 @@ pub(crate) fn write(bytes: &mut [u8], at: usize, size: usize, value: u64)
     }
 }
 
-/// Copies the eight bytes at offset `from` to offset `to`, as one number.
+/// Copies the eight bytes at offset `from` to offset `to`, as one number; other bytes are unchanged. The ranges may overlap, since the
+/// number is read before any byte is written. `copy_bytes` calls this function if it has to copy eight bytes.
 #[inline(always)]
 pub(crate) fn copy_double(bytes: &mut [u8], from: usize, to: usize)
     requires source { from + 8 ≤ length bytes.old }
@@ -131,8 +133,8 @@ fn copy_up(bytes: &mut [u8], from: usize, to: usize, count: usize)
     high[..count].copy_from_slice(&low[from..from + count]);
 }
 
-/// Copies `count` bytes from offset `from` to a lower offset `to`, by memcpy. The copy ends at `from` or before it. It is a function of its
-/// own, so that `copy_bytes`, which is inlined, has only a call for it.
+/// Copies `count` bytes from offset `from` to a lower offset `to`, by memcpy. By `target` the copy ends at `from` or before it, so the two
+/// ranges do not overlap. It is a function of its own, so that `copy_bytes`, which is inlined, has only a call for it.
 #[inline(never)]
 fn copy_down(bytes: &mut [u8], from: usize, to: usize, count: usize)
     requires source { from + count ≤ length bytes.old }
@@ -143,8 +145,9 @@ fn copy_down(bytes: &mut [u8], from: usize, to: usize, count: usize)
     low[to..to + count].copy_from_slice(&high[..count]);
 }
 
-/// Copies `count` bytes from offset `from` to offset `to` like memmove: the ranges may overlap. The cases differ only in speed: eight bytes
-/// are copied as one number, `LONG` bytes or more by memcpy if the ranges do not overlap, and all others by `copy_within`.
+/// Copies `count` bytes of `bytes` from offset `from` to offset `to` like memmove: the ranges may overlap. The cases differ only in speed:
+/// eight bytes are copied as one number, `LONG` bytes or more by memcpy if the ranges do not overlap, and all others by `copy_within`.
+/// Bytes of another slice are copied by `copying::copy_bytes`.
 #[inline(always)]
 pub(crate) fn copy_bytes(bytes: &mut [u8], from: usize, to: usize, count: usize)
     requires source { from + count ≤ length bytes.old }
@@ -162,7 +165,7 @@ pub(crate) fn copy_bytes(bytes: &mut [u8], from: usize, to: usize, count: usize)
     }
 }
 
-/// Writes `new` over the bytes at offset `at`.
+/// Writes `new` over the bytes from offset `at` on, as many as `new` has. By the precondition `bytes` has all of them.
 #[inline(always)]
 fn put(bytes: &mut [u8], at: usize, new: &[u8])
     requires { at + length new.now ≤ length bytes.old }

@@ -15,7 +15,9 @@ use tagged_model::MapFault;
 
 /// bpf_map_delete_elem (3): deletes a key, and returns 0. `map` is the position of the map among those of the run, counted from 1, and
 /// `key` the address of the key. With an error nothing changes, and it returns the error's number, negated: ENOENT if the map doesn't have
-/// the key; EINVAL if the map is an array, if there is no such map, or if the key's bytes don't lie in the part.
+/// the key; EINVAL if the map is an array, if there is no such map, or if the key's bytes don't lie in the tenant's part (`deleted`). The
+/// trace gets only ranges in this part (`asks`). The tenant of the caller has to have a part in the arena (`part`), and the maps that are
+/// bound to the run have to be live (`live`).
 pub(crate) fn delete(
     map: u64,
     key: u64,

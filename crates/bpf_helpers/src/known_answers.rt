@@ -4,8 +4,9 @@ use crate::output::OUTSIDE;
 use crate::update::refusal;
 use tagged_model::MapFault;
 
-/// What a helper returns for an error is the error's number in errno(3), negated, modulo 2^64: for a fault of a map (`refusal`), and for
-/// bytes outside the packet (`OUTSIDE`).
+/// What a helper returns for an error is the error's number in errno(3), negated, modulo 2^64. `refusal` gives it for a fault of a map: for
+/// ENOENT (2), E2BIG (7), ENOMEM (12), EEXIST (17), EINVAL (22) and ENOSPC (28), in this order. `OUTSIDE`, for bytes outside the packet, is
+/// that of EFAULT (14).
 fn refusals_as_words() {
     let no_entry = refusal(MapFault::NoEntry);
     prove!(no_entry == 0xffff_ffff_ffff_fffe);

@@ -6,7 +6,9 @@ ghost use Rattle.bpf_helpers.specs.Runs.{RunsBegin, RunsEnd, OthersStay};
 ghost use Rattle.bpf_helpers.specs.inside.Below.{LawsBelow};
 ghost use Rattle.bpf_helpers.specs.inside.Laws.{ReturnsKeepSimulation};
 
-/// The laws of the memory and of maps on which the laws of calls depend.
+/// The laws of the memory and of maps on which the proofs of `call` and `call_in_run` depend, as one contract (`LawsBelow`). Bytes written
+/// in a part change no other part. A map of elements and the map of their values return the same and change alike. The value of an element
+/// keeps its offset if the areas are unchanged. A deletion frees no element.
 pub(crate) fn call_premises()
     ensures { LawsBelow }
 {
@@ -16,58 +18,70 @@ pub(crate) fn call_premises()
     bpf_maps::laws::deletes_keep_elements();
 }
 
-/// If words and bytes represent a state, and the tagged machine loads a value in this state, the bytes at the address of the load lie in
-/// the tenant's part. The word that they make, widened to 64 bits as the load says (with the sign or with zeros), represents the value.
+/// If words and bytes represent a state (`Simulates`), and the tagged machine loads a value in this state, the bytes at the address of the
+/// load lie in the tenant's part. The word that they make, widened to 64 bits as the load requires (with the sign or with zeros),
+/// represents the value. So the loads of an accepted program need no bounds check.
 pub fn loads_give_words()
     ensures { LoadsGiveWords }
 {}
 
-/// If words and bytes represent a state in which the tagged machine stores a value, the bytes at the address of the store lie in the
-/// tenant's part. Once these are the low bytes of the value's word, words and bytes represent the state after the store.
+/// A law. Suppose that words and bytes represent a state (`Simulates`), in a part of the size for runs, and that the tagged machine stores
+/// a value in this state. Then the bytes at the address of the store lie in the tenant's part. Once the low bytes of the word that
+/// represents the value are written there, words and bytes represent the state after the store. So a run stores without a bounds check. The
+/// proof needs the law that the body calls.
 pub fn stores_keep_simulation()
     ensures { StoresKeepSimulation }
 {
     arena::laws::writes_stay_inside();
 }
 
-/// If words and bytes represent a state (`Simulates`), in a part of the size for runs, and the tagged machine's call of a helper in this
-/// state is no fault, then the words of registers 1 to 5 name all that the helper needs: a map that is bound to the run, and bytes of the
-/// part for a key, for a value, or for the bytes that a load writes. So the calls of an accepted program need no test of these words.
+/// If words and bytes represent a state (`Simulates`), and the tagged machine's call of a helper in this state is no fault, the words of
+/// registers 1 to 5 name all that the helper needs (`NamesAll`): a map that is bound to the run and bytes of the part for a key, for an
+/// update also bytes for a value; or, for a load of packet bytes, the bytes of the part to which it writes. The part has `PART` bytes, in a
+/// memory of at most 2^28 (`IsRoom`). So the calls of an accepted program need no test of these words. The body calls a law that the proof
+/// needs.
 pub fn calls_name_all()
     ensures { CallsNameAll }
 {
     arena::laws::writes_stay_inside();
 }
 
-/// The address of an object (the stack, the context or a value of a map) is at least 2^32, and at most 2^32 + 2^28. So it is neither near
-/// null nor near 2^64.
+/// If words and bytes represent a state (`Simulates`), in a part of the size for runs, the address of each object (the stack, the context
+/// or a value of a map) is at least 2^32, and at most 2^32 + 2^28. So it is neither near null nor near 2^64: the word of a pointer, at most
+/// `farthest_offset` bytes from this address, is never 0 and does not wrap. The proof that a step of `flat_machine` simulates one of the
+/// tagged machine needs this.
 pub fn object_addresses_are_bounded()
     ensures { ObjectAddressesAreBounded }
 {}
 
-/// If words and bytes represent a state, and a word represents the result of a call, then with this word in register 0 they represent the
-/// state in which the call has returned this result. In that state registers 1 to 5 have no value.
+/// A law for the end of each helper's call (`call`, `call_in_run`). Suppose that words and bytes represent a state (`Simulates`), and that
+/// a word represents the value that the helper returns. With this word in register 0, words and bytes represent the state after the call:
+/// in that state, register 0 has the value, and registers 1 to 5 have none, so these may hold any words.
 pub(crate) fn returns_keep_simulation()
     ensures { ReturnsKeepSimulation }
 {}
 
-/// A law: at the start of a run, words, bytes and live maps represent the state in which the tagged machine starts. This requires that the
-/// part has the run's context (`HasContext`), that registers 1 and 10 have the address at which the stack ends and the context begins
-/// (`AreFirst`), and that each bound map is live and keeps no element apart (`AreReady`).
+/// A law: at the start of a run, words, bytes and live maps represent the state in which the tagged machine starts, with the keys and
+/// values that the bound maps have. This requires that the part has the size for runs (`IsRoom`) and the run's context (`HasContext`), that
+/// registers 1 and 10 have the address at which the stack ends and the context begins (`AreFirst`), and that each bound map is live and
+/// keeps no element apart (`AreReady`).
 pub fn runs_begin()
     ensures { RunsBegin }
 {}
 
-/// Suppose that words and bytes represent a state of the tagged machine, and that the elements that are kept apart in a map bound to the
-/// run then become free. Then this stored map has the keys and values that the machine's map has if the run ends in this state.
+/// A law for the end of a run, which the proof of `run_with` of `flat_machine` uses. Suppose that words and bytes represent a state of the
+/// tagged machine (`Simulates`), and that then the elements kept apart in a live map bound to the run become free (`after_run`), while no
+/// shape or area of a map changes (`SameAreas`). Then this map has the keys, with the values in the tenant's part, that the machine's map
+/// of the same descriptor has if the run ends in this state (`map_after_run`).
 pub fn runs_end()
     ensures { RunsEnd }
 {
     bpf_maps::laws::areas_keep_elements();
 }
 
-/// In each state of a run that words and bytes represent (`Simulates`), the values of the live maps that are not bound to the run have the
-/// bytes that they had at the start of the run.
+/// A law: in each state of a run that words and bytes represent (`Simulates`), the values of the live maps that are not bound to the run
+/// have the bytes that they had at the start of the run. So a run changes no value of a map that its program does not load, as `run_with`
+/// of `flat_machine` promises (`values`).
 pub fn others_stay()
     ensures { OthersStay }
 {}

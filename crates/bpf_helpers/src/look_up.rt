@@ -14,7 +14,9 @@ use crate::caller::Caller;
 use arena::{Arena, Trace};
 use bpf_maps::{Elements, INDEX_SIZE, MapKey, Maps, PART, laws};
 
-/// The handle of the bound map that a word names: 1 names the first of `bind`. `None` if the word is 0 or too great, and so names none.
+/// The handle of the map that `word`, the first argument of a helper for maps, names. `bind` has the handles of the maps that are bound to
+/// the run. A word `w` names the map at index `w - 1` of them (`listed`), so 1 names the first. `None` if the word is 0 or greater than the
+/// number of these maps, and so names none. `bound_named` does not test the word, for calls in which it is known to name a map.
 #[inline(always)]
 pub(crate) fn bound(bind: &[MapKey], word: u64) -> Option<MapKey>
     ensures value { result ≡ bound_map bind.now word }
@@ -28,8 +30,9 @@ pub(crate) fn bound(bind: &[MapKey], word: u64) -> Option<MapKey>
     Some(bind[index as usize])
 }
 
-/// The handle of the bound map that a word names: 1 names the first of `bind`. The caller knows that the word names one (`named`), so there
-/// is no test.
+/// The handle that `word` names, the map argument of a helper's call: `bind` has the handles of the run's maps, and 1 names the first of
+/// them. By `named`, `word` names one of them, so unlike `bound` this function has no test. By `listed` the result is an item of `bind`, so
+/// its map is live if the maps of all items are.
 #[inline(always)]
 pub(crate) fn bound_named(bind: &[MapKey], word: u64) -> MapKey
     requires named { IsSome (bound_map bind.now word) }
@@ -39,8 +42,10 @@ pub(crate) fn bound_named(bind: &[MapKey], word: u64) -> MapKey
     bind[word.wrapping_sub(1) as usize]
 }
 
-/// The offset, in the part of `tenant`, of the `size` bytes at an address; `None` if they don't lie in the part. `size` is at most `PART`.
-/// If the address is before the part, the difference wraps, and so is greater than any offset.
+/// The offset, in the part of `tenant`, of the `size` bytes at an address, by which helpers test an address that a run passes; `None` if
+/// they don't all lie in the part. If the address is before the part, the difference wraps, and so is greater than any offset. The tenant
+/// has a part, of `PART` bytes (`part`), and `size` is at most `PART`. By `within` the offset and `size` are together at most the part's
+/// size. By `inside` the addresses of the bytes lie in the part, so that the trace may get their range.
 #[inline(always)]
 pub(crate) fn offset_in(arena: &Arena, tenant: usize, size: usize, address: u64) -> Option<usize>
     requires part { IsPartOf tenant arena.now }
@@ -57,8 +62,9 @@ pub(crate) fn offset_in(arena: &Arena, tenant: usize, size: usize, address: u64)
     Some(at as usize)
 }
 
-/// The offset, in the part of `tenant`, of the `size` bytes at an address; their range is appended to the trace. `None` if they don't lie
-/// in the part; then nothing is appended.
+/// The offset, in the part of `tenant`, of the `size` bytes at `address`; `None` if they don't all lie in the part. A helper calls this for
+/// the bytes of a key or a value, which are never more than a part (`size`). Their range is appended to `trace`; for `None` nothing is. So
+/// each appended range lies in the part, and no step is counted (`asks`). The bytes from the returned offset on lie in the part (`within`).
 #[inline(always)]
 pub(crate) fn traced_offset(
     arena: &Arena,
@@ -78,8 +84,10 @@ pub(crate) fn traced_offset(
     Some(at)
 }
 
-/// A law, by which offsets are computed without a test: if `size` bytes at an address have an offset in the part of `tenant`
-/// (`named_offset`), all of them lie in the part, and their offset is the address less the part's address. It does nothing when it runs.
+/// A law, which does nothing when it runs, by which offsets are computed and bytes written without a test. It requires that `size` bytes at
+/// an address have an offset in the part of `tenant` (`named_offset`). The part's address is `base`, that of the arena's first byte, plus
+/// `part_start`. The bytes begin at this address or after it (`from`), end at the end of the part or before it (`to`), and their offset is
+/// `address` less the part's address (`value`).
 #[inline(always)]
 pub(crate) fn named_bytes_lie_inside(arena: &Arena, tenant: usize, size: usize, address: u64)
     requires { IsSome (named_offset arena.now tenant size address) }
@@ -92,8 +100,10 @@ pub(crate) fn named_bytes_lie_inside(arena: &Arena, tenant: usize, size: usize, 
     let _ = (tenant, size, address);
 }
 
-/// The offset, in the part of `tenant`, of the `size` bytes at an address; their range is appended to the trace. The caller knows that they
-/// lie in the part, so there is no test.
+/// The offset, in the part of `tenant`, which the arena has (`part`), of the `size` bytes at `address`; their range is appended to the
+/// trace. The caller knows that they lie in the part (`named`: `named_offset` would else be `None`), so there is no test; `traced_offset`
+/// has one. The result is this offset (`value`), and the bytes from it on end in the part (`within`). `asks`: the range in the trace lies
+/// in the part, and no step is counted.
 #[inline(always)]
 pub(crate) fn traced_offset_inside(
     arena: &Arena,
@@ -115,8 +125,10 @@ pub(crate) fn traced_offset_inside(
 }
 
 /// bpf_map_lookup_elem (1): returns the address of the value of a key, or 0 if the map doesn't have the key. `map` is the position of the
-/// map among those of the run, counted from 1, and `key` the address of the key. It also returns 0 if there is no such map, or the key's
-/// bytes don't lie in the part.
+/// map among those of the run (`bind` of `caller`), counted from 1, and `key` the address of the key. It also returns 0 if there is no such
+/// map, or the key's bytes don't lie in the tenant's part: then `flat_look_up` is `None` (`value`). All maps of the run are live (`live`).
+/// The trace gets at most the range of the key's bytes, in the part, and no step (`asks`). `look_up_among`, for runs that know their
+/// arrays, calls this for all other maps.
 #[inline(always)]
 pub(crate) fn look_up(
     map: u64,
@@ -145,11 +157,13 @@ pub(crate) fn look_up(
     maps.address_of(map, &part[at..at + size], arena.address(caller.tenant))
 }
 
-/// bpf_map_lookup_elem (1) with the result of `look_up`: the address of the key's value; 0 if the map does not have the key, if there is no
-/// such map, or if the key's bytes do not lie in the tenant's part. `map` is 1 for the first of the run's maps (`bind` of `caller`), and
-/// `key` is the address of the key. In an array the value is found by `arrays`, without reading the map. If the count of the map's
-/// `Elements` in `arrays` is 0, as for a hash map, `look_up` reads the map. By `few` the run has at most `MAPS` maps, and each list of
-/// `arrays` has `MAPS` words, so it has one for each map.
+/// bpf_map_lookup_elem (1) in a run that knows its arrays: returns what `look_up` returns (`value`), the address of the key's value, or 0
+/// if the map does not have the key, if there is no such map, or if the key's bytes do not lie in the tenant's part. `map` is 1 for the
+/// first of the run's maps, which are live (`live`) and have their handles in `bind` of `caller`; `key` is the address of the key. `arrays`
+/// has the `Elements` of each of these maps and the address of its first value, so the value of a key is found in an array without reading
+/// the map. If the count of the `Elements` is 0, as for a hash map, `look_up` reads the map. By `few` the run has at most `MAPS` maps, and
+/// each list of `arrays` has `MAPS` words, so it has one for each map. The trace gets only address ranges in the tenant's part, and no step
+/// (`asks`).
 #[inline(always)]
 pub(crate) fn look_up_among(
     arrays: Arrays<'_>,

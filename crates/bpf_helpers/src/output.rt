@@ -22,7 +22,9 @@ const LAST_OFFSET: u64 = 0x7fff_ffff;
 /// The negated error for an offset or a length outside the packet (EFAULT, 14), modulo 2^64.
 pub(crate) const OUTSIDE: u64 = 0xffff_ffff_ffff_fff2;
 
-/// Writes `count` zeros at an offset of a tenant's part.
+/// Writes `count` zeros at offset `at` of a tenant's part, in which they lie (`room`); all other bytes of the arena are unchanged. The
+/// arena has a part for the tenant (`tenant`). A load of packet bytes (bpf_skb_load_bytes) writes the zeros if the packet doesn't have
+/// these bytes.
 #[inline(always)]
 pub(crate) fn write_zeros(arena: &mut Arena, tenant: usize, at: usize, count: usize)
     requires tenant { tenant < arena.old.parts }
@@ -36,8 +38,10 @@ pub(crate) fn write_zeros(arena: &mut Arena, tenant: usize, at: usize, count: us
     part[at..at + count].fill(0);
 }
 
-/// Writes `bytes` at an address, and appends the range that they take there to the trace. The caller knows that this range lies in the part
-/// of `tenant` (`named`).
+/// Writes `bytes` at `address`, and appends their range to the trace. The caller knows that this range lies in the part of `tenant`
+/// (`named`), so there is no test. The arena changes only by these bytes, at the offset `at` in the part that `named_offset` gives for
+/// `address` (`bytes`). The trace gets only ranges in this part, and no step (`asks`). The arena has this part, and each part has `PART`
+/// bytes (`part`).
 #[inline(always)]
 fn write_named(arena: &mut Arena, tenant: usize, address: u64, bytes: &[u8], trace: &mut Trace)
     requires part { IsPartOf tenant arena.old }
@@ -53,10 +57,11 @@ fn write_named(arena: &mut Arena, tenant: usize, address: u64, bytes: &[u8], tra
     arena.write_inside(address, bytes, trace);
 }
 
-/// bpf_skb_load_bytes (26), if the caller knows that the `count` bytes from the address `to` on lie in the tenant's part (`named`): copies
-/// `count` bytes of the packet, from `offset` on, to this address, and returns 0. Of `offset` the low 32 bits are read, as a signed number.
-/// If this number is negative, or the packet doesn't have these bytes, it writes `count` zeros to the address and returns EFAULT, negated.
-/// No map is read, so `loaded` holds for any maps. The trace gets only address ranges in the tenant's part, and no step (`asks`).
+/// bpf_skb_load_bytes (26), if the caller knows that the `count` bytes from the address `to` on lie in the tenant's part (`named`):
+/// `call_in_run` requires it, and `load_bytes` tests it. Copies `count` bytes of the packet, from `offset` on, to this address, and returns
+/// 0. Of `offset` the low 32 bits are read, as a signed number. If this number is negative, or the packet doesn't have these bytes, the
+/// helper writes `count` zeros to the address and returns EFAULT, negated (`OUTSIDE`). No map is read, so `loaded` holds for any live maps
+/// (`maps`). The trace gets only address ranges in the tenant's part, and no step (`asks`).
 #[inline(always)]
 pub(crate) fn load_bytes_inside(
     offset: u64,
@@ -86,9 +91,11 @@ pub(crate) fn load_bytes_inside(
     }
 }
 
-/// bpf_skb_load_bytes (26): copies `count` bytes of the packet at `offset` to the address `to`, and returns 0. Of `offset` the low 32 bits
-/// are read, as a signed number. If the packet doesn't have these bytes, it writes `count` zeros and returns EFAULT, negated. If the
-/// `count` bytes at `to` don't lie in the tenant's part, it returns EFAULT, negated, and writes nothing.
+/// bpf_skb_load_bytes (26), for `call`, which gives it any words: copies `count` bytes of the packet, from `offset` on, to the address
+/// `to`, and returns 0. Of `offset` the low 32 bits are read, as a signed number. If it is negative, or the packet doesn't have these
+/// bytes, the helper writes `count` zeros to `to` and returns EFAULT, negated. If the `count` bytes at `to` don't lie in the tenant's part
+/// (`named_offset` is `None`), it returns EFAULT, negated, and writes nothing. No map is read, so `loaded` holds for any maps. The trace
+/// gets only address ranges in the part, and no step (`asks`).
 #[inline(always)]
 pub(crate) fn load_bytes(
     offset: u64,

@@ -30,7 +30,9 @@ struct Offsets {
     value: usize,
 }
 
-/// The number of an error of bpf(2), as errno(3) has it. It is at least 1 (`some`), so adding 1 in `refusal` does not overflow.
+/// The number of an error of bpf(2), as errno(3) has it (`value`): ENOENT is 2, E2BIG 7, ENOMEM 12, EEXIST 17, EINVAL 22, ENOSPC 28. A
+/// helper returns it negated modulo 2^64, which `refusal` computes as `u64::MAX` minus the number, plus 1. That does not overflow, since
+/// the number is at least 1 (`some`).
 fn errno_of(fault: MapFault) -> u64
     ensures value { result ≡ errno fault }
     ensures some { 1 ≤ result }
@@ -45,7 +47,7 @@ fn errno_of(fault: MapFault) -> u64
     }
 }
 
-/// What a helper returns for an error: the number that errno(3) gives it, negated, modulo 2^64.
+/// What the helpers for an update and a delete return for an error: the number that errno(3) gives it, negated, modulo 2^64.
 pub(crate) fn refusal(fault: MapFault) -> u64
     ensures { result ≡ negative (errno fault) }
 {
@@ -53,8 +55,10 @@ pub(crate) fn refusal(fault: MapFault) -> u64
 }
 
 /// Stores a value under a key of a live map, and returns 0. If that fails, nothing changes, and it returns the error's number, negated. The
-/// key and the value are at the offsets `at` of the tenant's part; `update` has tested that both lie in it (`key`, `value`), so the value
-/// is copied without a test. `flags` are those of bpf(2).
+/// key and the value are at the offsets `at` of the tenant's part, of `PART` bytes (`part`). Both lie in it (`key`, `value`), as `update`
+/// has tested and the caller of `update_inside` knows, so the value is copied without a test. `flags` are those of bpf(2). `updated`: the
+/// result, and the memory and live maps afterwards (`answers`), are those of an update (`Updates`) with the call's inputs (`site_of`) and
+/// with the key and value at these offsets (`pair_there`). `asks`: the trace gets only ranges in the part, and no step.
 fn put(
     map: MapKey,
     at: Offsets,
@@ -89,9 +93,11 @@ fn put(
     }
 }
 
-/// bpf_map_update_elem (2): stores a value under a key, and returns 0. `map` is the position of the map among those of the run, counted
-/// from 1, the key and the value are at the addresses `at`, and `flags` are those of bpf(2). With an error nothing changes, and it returns
-/// the error's number, negated; this is EINVAL if there is no such map, or the bytes of the key or of the value don't lie in the part.
+/// bpf_map_update_elem (2): stores a value under a key, and returns 0. `map` is the position of the map among those of the run
+/// (`caller.bind`, all live), counted from 1. The key and the value are at the addresses `at`. `flags` are those of bpf(2): any key (0),
+/// only an absent one (1), only a present one (2). With an error nothing changes, and it returns the error's number, negated; this is
+/// EINVAL for other flags, and if there is no such map, or the bytes of the key or of the value don't lie in the tenant's part. The ranges
+/// added to the trace lie in that part (`asks`). Runs of accepted programs call `update_inside`, which does not test map and addresses.
 pub(crate) fn update(
     map: u64,
     at: Addresses,
@@ -125,8 +131,10 @@ pub(crate) fn update(
     put(map, at, flags, caller, arena, maps, trace)
 }
 
-/// bpf_map_update_elem (2) with the result of `update`. The caller knows that `map` names a map, and that the bytes of the key and of the
-/// value lie in the tenant's part (`named`), so none of this is tested.
+/// bpf_map_update_elem (2) without tests: stores a value under a key, by `flags`, those of bpf(2), and returns 0. With an error nothing
+/// changes, and it returns the error's number, negated. `named` requires what `update` tests, and each call of an accepted program meets
+/// it: `map` is the position of a map among those of the run, from 1, and the bytes of the key and of the value, at the addresses `at`, lie
+/// in the tenant's part. `asks`: the trace gets only ranges of this part.
 #[inline(always)]
 pub(crate) fn update_inside(
     map: u64,

@@ -3,7 +3,8 @@ use Rattle.bpf_maps.specs.declared.bpf_map.BpfMap.{BpfMap}
 use Rattle.bpf_maps.specs.declared.bpf_map.BpfMap.TheVariants.{Array, Hash}
 use Rattle.bpf_maps.specs.KeyTable.{KeyTable}
 
--- the keys of a map of either kind, with their elements
+-- the table of keys of an array or a hash map: its shape, its keys in order, each with its element,
+-- and the elements that are kept apart
 abbrev pub keys_in : BpfMap → KeyTable
 keys_in (Array t) = t
 keys_in (Hash t) = t

@@ -7,20 +7,25 @@ use Rattle.bpf_maps.specs.declared.key_index.KeyIndex.{KeyIndex}
 use Rattle.bpf_maps.specs.declared.key_index.KeyIndex.TheVariants.{Words, Middle, Long}
 use Rattle.bpf_maps.specs.declared.hash_map.HashMap.TheInside.{Inside}
 
--- the bytes of each key, with its element, in the order in which the keys were added
+-- the keys of an index, each as its bytes with its element, in the order in which they were added.
+-- By their size, an index stores keys as numbers (Words), or in arrays of `LONGEST_MIDDLE` bytes
+-- (Middle) or of `LONGEST_LONG` (Long)
 abbrev pub entries_of : KeyIndex → List (List ℕ × ℕ)
 entries_of (Words keys) = keys.entries
 entries_of (Middle keys) = keys.entries
 entries_of (Long keys) = keys.entries
 
--- the bound of an index map: each element in it is less than this number
+-- the bound of an index map, the `max_entries` of its map (`IsWellFormedHash`): each element in it
+-- is less than this number. Each kind of index has it: `Words`, for keys of at most `LONGEST_WORD`
+-- bytes, `Middle`, for those of at most `LONGEST_MIDDLE`, and `Long`, for longer ones
 abbrev pub bound_of : KeyIndex → ℕ
 bound_of (Words keys) = keys.bound
 bound_of (Middle keys) = keys.bound
 bound_of (Long keys) = keys.bound
 
--- keys of `size` bytes can be in the index: Words has keys of one size, Middle of at most 64 bytes,
--- Long of at most 512
+-- keys of `size` bytes can be in the index, which each look-up, insertion and removal of a key
+-- requires. Words has keys of one size, at most `LONGEST_WORD` bytes, Middle keys of at most
+-- `LONGEST_MIDDLE` bytes, and Long of at most `LONGEST_LONG`, which is `LONGEST_KEY`
 abbrev pub TakesKeys : KeyIndex → ℕ → Type 0
 TakesKeys (Words keys) size = size ≡ keys.size
 TakesKeys (Middle keys) size = size ≤ 64

@@ -3,8 +3,8 @@ use Rattle.std.specs.Prelude.{ℕ, List}
 use Rattle.bpf_maps.specs.declared.key_ref.KeyRef.{KeyRef}
 use Rattle.bpf_maps.specs.declared.key_ref.KeyRef.TheVariants.{Short, Lent}
 
--- the bytes of a returned key: a key of at most eight bytes is returned by value (Short), a longer
--- key is borrowed from the map (Lent)
+-- the bytes of a key that a map returns. A key of at most `LONGEST_WORD` bytes is returned by value
+-- (Short), a longer one is borrowed from the map (Lent); `now` gives the borrowed bytes
 abbrev pub key_bytes : KeyRef → List ℕ
 key_bytes (Short bytes) = bytes
 key_bytes (Lent bytes) = bytes.now

@@ -61,10 +61,11 @@ pub record IsFree (t : KeyTable) (p : ℕ) : Type 0 where
 abbrev pub with_entry : KeyTable → List ℕ → ℕ → KeyTable
 with_entry t key p = record { shape = t.shape; entries = with_key key p t.entries; kept = t.kept }
 
--- what a claim of an element for a key may return, and how the table changes, by the verdict on the
--- update. A refusal returns its fault, a present key its element; both change nothing. A new key
--- gets any element that is not in use; its claim can't fail, since the verdict on a full map is
--- `Refused`
+-- what the claim of an element for `key` may return (`answer`), and the table before it (`old`) and
+-- after it (`new`), by the verdict on the update of the key, the first argument. `Refused`: it
+-- returns the fault. `Present`: it returns p, the key's element. Both change nothing. `New`: it
+-- returns an element p that is not in use, and the key is added with p; this claim can't fail,
+-- since the verdict on a full map is `Refused`
 abbrev pub Claims : Verdict ℕ → List ℕ → KeyTable → Result ℕ MapFault → KeyTable → Type 0
 Claims (Refused fault) key old answer new = (answer ≡ Err fault) × (new ≡ old)
 Claims (Present p) key old answer new = (answer ≡ Ok p) × (new ≡ old)
@@ -79,10 +80,10 @@ with_kept t key p = record {
   kept = t.kept ++ p ∷ [];
 }
 
--- the result that the deletion of `key` from the table `old` has, and the table `new` after the
--- deletion. The first argument is what `removal` returns for the key. If this is a fault, it is the
--- result, and the table is unchanged. If it is the key's element p, the result is no fault, the key
--- is removed, and p is kept apart
+-- the deletion of `key` from the table `old` has the result `answer`, and `new` is the table after
+-- it. The first argument is what `removal` returns for the key. If this is a fault (an absent key,
+-- or an array), it is the result, and the table is unchanged. If it is the key's element p, the
+-- result is no fault, the key is removed, and p is kept apart
 abbrev pub Removes : Result ℕ MapFault
     → List ℕ
     → KeyTable
@@ -92,9 +93,10 @@ abbrev pub Removes : Result ℕ MapFault
 Removes (Err fault) key old answer new = (answer ≡ Err fault) × (new ≡ old)
 Removes (Ok p) key old answer new = (answer ≡ Ok tt) × (new ≡ with_kept old key p)
 
--- the result of a request for the next key, which is the first argument: the key is written to the
--- front of the caller's buffer, which has the bytes `old` before and `new` after. If no key follows
--- (None), the error is NoEntry, and nothing is written
+-- the result `answer` of a request for the next key (BPF_MAP_GET_NEXT_KEY), and the caller's
+-- buffer, which has the bytes `old` before and `new` after it. The first argument is the next key:
+-- it replaces the first bytes of the buffer, and the result is no error. If no key follows (None),
+-- the error is NoEntry, and the buffer is unchanged
 abbrev pub GivesKey : Option (List ℕ) → List ℕ → Result (Unit {0}) MapFault → List ℕ → Type 0
 GivesKey None old answer new = (answer ≡ Err NoEntry) × (new ≡ old)
 GivesKey (Some key) old answer new = (answer ≡ Ok tt) × (new ≡ key ++ drop (length key) old)

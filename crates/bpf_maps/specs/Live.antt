@@ -47,7 +47,8 @@ no_live = record {
   holds = 0;
 }
 
--- the live map of an option; for None the placeholder `no_live`, which means nothing
+-- the live map of an option; for None the placeholder `no_live`, which means nothing. By it
+-- functions such as `keys_at` are defined for a handle without a map too
 abbrev pub live_or : Option LiveMap → LiveMap
 live_or None = no_live
 live_or (Some l) = l
@@ -254,10 +255,12 @@ pub record IsCreated (old : LiveMaps) (shape : MapShape) (k : ℕ) (new : LiveMa
   pub others : (other : ℕ) → other ≢ k → live_at new other ≡ live_at old other
   pub refused : new.refused ≡ old.refused
 
--- the possible results `answer` of the creation of a map in the live maps `old`, each with the live
--- maps `new` after the creation. The first argument is the `create_fault` of the creation. If this
--- is a fault, it is the result, and nothing changes. If it is None, the result is the handle k of
--- the new map, or `Memory` (out of memory), and then only the flag `refused` is set
+-- which result `answer` the creation of a map of this shape may have if the live maps are `old`,
+-- and the live maps `new` after it. The first argument is `create_fault` of `old` and the shape:
+-- `NoSpace` if no handle is free, or the areas would take more than `most_bytes`, else None. If it
+-- is a fault, it is the result, and nothing changes. If it is None, the result is the new map's
+-- handle k (`IsCreated`), or `Memory` (out of memory), and then only the flag `refused` is set. No
+-- other error is possible (⊥)
 abbrev pub Creates : Option MapFault → LiveMaps → MapShape → Result ℕ MapFault → LiveMaps → Type 0
 Creates (Some fault) old shape answer new = (answer ≡ Err fault) × (new ≡ old)
 Creates None old shape (Ok k) new = IsCreated old shape k new
@@ -288,8 +291,8 @@ held_at t k = option_map without_area (live_at t k)
 abbrev pub one_more : LiveMap → LiveMap
 one_more l = record { keys = l.keys; start = l.start; stride = l.stride; holds = l.holds + 1 }
 
--- a live map with one reference less: None if it had only one, since the map is then freed. Without
--- a map the result is None too
+-- a live map, without its area, with one reference (`holds`) less, as after `release`: None if it
+-- had only one, since the map is then freed. Without a map (None) the result is None too
 abbrev pub one_less : Option MapWithoutArea → Option MapWithoutArea
 one_less None = None
 one_less (Some h) =

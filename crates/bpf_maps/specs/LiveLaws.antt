@@ -27,8 +27,9 @@ total_same f (x ∷ xs) [] h =
 total_same f (x ∷ xs) (y ∷ ys) h =
     ap₂ (λ (m n : ℕ). m + n) (h 0) (total_same f xs ys (λ j. h (suc j)))
 
--- the sum of the numbers that f gives for the first n + 1 options of a list, 0 for None, is that
--- for the first n, plus the number for the option at index n
+-- if a list of options has an index n (`n < length xs`), the sum over its first n + 1 options is
+-- the sum over the first n, plus the number for the option at index n: f x for Some x, 0 for None
+-- (`weight`). The induction needs the successor `suc n`; `total_next` has n + 1, for the callers
 total_after : {A : Type 0} (f : A → ℕ) (n : ℕ) (xs : List (Option A))
     → n < length xs
     → total f (take (suc n) xs) ≡ total f (take n xs) + weight f (get_or xs n None)
@@ -54,8 +55,9 @@ record IsWithout {A : Type 0} (k : ℕ) (xs : List (Option A)) : Type 0 where
   fewer : total (λ x. 1) slots + 1 ≡ total (λ x. 1) xs
   others : (j : ℕ) → j ≢ k → get_or slots j None ≡ get_or xs j None
 
--- a list that has None at index k, at which xs has Some, and otherwise equals xs; so it has one
--- Some less (`IsWithout`). For the induction of `enough_present`
+-- if the list xs has Some at index k, this gives a list (`slots` of `IsWithout`) that has None at
+-- k, equals xs at each other index, and so has one Some less. For the induction of
+-- `enough_present`, which removes one of the n indices with Some in each step
 without_option_at : {A : Type 0} (k : ℕ) (xs : List (Option A))
     → IsSome (get_or xs k None)
     → IsWithout k xs
@@ -85,8 +87,8 @@ without_option_at (suc k) (x ∷ xs) some =
     later rest zero h = refl
     later rest (suc j) h = rest.others j (λ e. h (omega arith))
 
--- if a list of options has Some at each of n different indices, those that `at` gives, at least n
--- of its options are Some
+-- if `at` gives n different indices for 0 to n - 1, and a list of options has Some at each of them,
+-- at least n of its options are Some: `total` adds 1 for each Some. For `few_handles`
 enough_present : {A : Type 0} (n : ℕ) (at : ℕ → ℕ) (xs : List (Option A))
     → ((i : ℕ) → i < n → IsSome (get_or xs (at i) None))
     → ((i j : ℕ) → i < n → j < n → at i ≡ at j → i ≡ j)
@@ -106,7 +108,8 @@ enough_present (suc m) at xs used apart =
     (λ i j lt less e. apart i j (omega arith) (omega arith) e) in
     omega arith
 
--- the number of Some in a list of options is at most the length of the list
+-- the number of Some in a list of options (`total` adds 1 for each) is at most the list's length.
+-- For `few_handles`
 most_present : {A : Type 0} (xs : List (Option A)) → total (λ x. 1) xs ≤ length xs
 unfolding total
 most_present [] = omega arith
@@ -122,7 +125,7 @@ few_handles n handle tenant live apart =
     let few = enough_present n handle tenant.maps live apart in
     let most = most_present tenant.maps in omega arith
 
--- if a list of options has Some at index k, k is less than the length of the list
+-- if the list xs has Some at index k, k is less than the length of xs. For `live_within`
 some_within : {A : Type 0} (k : ℕ) (xs : List (Option A))
     → IsSome (get_or xs k None)
     → k < length xs
@@ -167,7 +170,9 @@ pub same_free_handle : (old new : LiveMaps)
     → free_handle new ≡ free_handle old
 same_free_handle old new long same = same_lowest new.maps old.maps long same
 
--- the first index with None in a list of options is no higher than any index with None
+-- the first index with None in a list of options (`position_or_len`) is at most k, if the list has
+-- None at index k. k is less than the length, since `get_or` is None past the end too. For
+-- `some_handle_free`: if some handle is free, there is a lowest free one
 front_most : {A : Type 0} (k : ℕ) (xs : List (Option A))
     → k < length xs
     → get_or xs k None ≡ None

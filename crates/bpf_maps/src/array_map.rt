@@ -38,9 +38,9 @@ impl Model for ArrayMap {
 }
 
 impl ArrayMap {
-    /// Makes an array of this shape, whose keys are all its indices. `BpfMap` has tested that the kind is `Array`. The field `align` takes
-    /// no bytes, and gives the field `shape` the offset that it has in a `HashMap`: so the shape of a map is read without a test of the
-    /// kind.
+    /// Makes an array of this shape. From the start its keys are all its indices, 0 to `max_entries` - 1, each with itself for its element
+    /// (`new_keys`), so no table of keys is stored. `BpfMap` has tested that the kind is `Array`. The field `align` takes no bytes, and
+    /// gives the field `shape` the offset that it has in a `HashMap`: so the shape of a map is read without a test of the kind.
     #[inline(always)]
     pub(crate) fn new(shape: MapShape) -> ArrayMap
         requires { shape.kind ≡ Array }
@@ -49,7 +49,7 @@ impl ArrayMap {
         ArrayMap { shape, align: [] }
     }
 
-    /// The map's shape.
+    /// The shape with which the array was made: its kind, the sizes in bytes of a key and of a value, and `max_entries`.
     pub fn shape(&self) -> MapShape
         ensures { result ≡ self.now.shape }
     {
@@ -63,9 +63,10 @@ impl ArrayMap {
         self.shape.max_entries
     }
 
-    /// A law: the kind of the shape is `Array`, and the table of keys is always that of a new array (`whole`). So each index below
-    /// `max_entries` is a key, of four bytes; its element is the index, and no element is kept apart. The table is sound
-    /// (`IsSound`). The function does nothing when it runs.
+    /// A law: the map is an array (`kind`), and its table of keys is always that of a new array (`whole`). So each index below
+    /// `max_entries` is a key, of four bytes (`key_size`); its element is the index, and no element is kept apart. The table is sound
+    /// (`sound`): no two keys have the same element, and each element is below `max_entries`. The function does nothing when it runs: the
+    /// read of a field gives its proof the invariant of the type.
     #[inline(always)]
     fn keys_are_its_indices(&self)
         ensures kind { self.now.shape.kind ≡ Array }
@@ -76,7 +77,9 @@ impl ArrayMap {
         let _ = &self.shape;
     }
 
-    /// The index whose key has these four bytes. The array has it if it is less than `max_entries`.
+    /// The index that the bytes of `key` give, little-endian (`spelled`). `key` has the size of the map's keys, `INDEX_SIZE` bytes. The
+    /// array has the key only if the index is less than `max_entries`, and then the index is also the key's element (`found`).
+    /// `element_for`, the caller, tests this.
     #[inline(always)]
     fn index_spelled(&self, key: &[u8]) -> u32
         requires { length key.now ≡ self.now.shape.key_size }
@@ -88,7 +91,9 @@ impl ArrayMap {
         index_of(key)
     }
 
-    /// The element of a key of four bytes: the index in these bytes. `None` if this index is not below `max_entries`.
+    /// The element of a key of four bytes, which is the `key_size` of an array: the index in these bytes, little-endian. `None` if this
+    /// index is not below `max_entries`, since the array then does not have the key. So the result is that of a look-up in the array's
+    /// table of keys (`element`), an element is below `max_entries` (`within`), and its bytes as a key are `key` (`spelled`).
     #[inline(always)]
     fn element_of(&self, key: &[u8]) -> Option<u32>
         requires { length key.now ≡ self.now.shape.key_size }
@@ -105,12 +110,14 @@ impl ArrayMap {
         }
     }
 
-    /// The element that an update of `key` with `flags` claims. Its number is the index that the four bytes of the key spell.
+    /// The element that an update of `key` with `flags` claims, for `claim`. Its number is the index that the four bytes of the key spell.
+    /// `claimed`: the result is that of the definition of an update (`verdict`), and the table of keys is unchanged, so `self.now` is named
+    /// both as the table before the claim and as the one after it. `within`: the element is less than `max_entries`.
     ///
     /// # Errors
     ///
-    /// Those of an update: `Invalid` if `flags` is none of `ANY` (0), `NOEXIST` (1) and `EXIST` (2), else `TooBig` if the index is out of
-    /// range, else `Exists` if `flags` is `NOEXIST`.
+    /// Those of an update: `Invalid` if `flags` is none of `ANY` (0), `NOEXIST` (1) and `EXIST` (2), else `TooBig` if the index is not
+    /// below `max_entries`, else `Exists` if `flags` is `NOEXIST`, since an array has each of its indices as a key at any time.
     #[inline(always)]
     fn element_for(&self, key: &[u8], flags: u64) -> Result<u32, MapFault>
         requires size { length key.now ≡ self.now.shape.key_size }
@@ -133,8 +140,9 @@ impl ArrayMap {
         }
     }
 
-    /// The index that follows the index of `key`: `max_entries`, which is no index of the array, after the last key. If the array has no
-    /// such key, also if `key` has another size, the result is 0, the first index.
+    /// The index of the key after `key`, for `key_after`: the index of `key` plus 1. After the last key this is `max_entries`, which is no
+    /// index of the array, so no key follows. If the array does not have `key`, for example because its size is not `INDEX_SIZE`, the
+    /// result is 0, the first index.
     fn index_after(&self, key: &[u8]) -> u32
         ensures next { next_of (table_of self.now) key.now
             ≡ (if nat_lt result self.now.shape.max_entries then Some (index_key result) else None) }
@@ -149,8 +157,9 @@ impl ArrayMap {
         }
     }
 
-    /// The key after that of `element`, or the first key if no element is given, with the element of the key that is returned. `None` if
-    /// no key follows, or if no key has `element`.
+    /// The key after that of `element`, in the order of the indices, or the first key if `element` is `None`; and the element of the key
+    /// that is returned. In an array an element is the index that its key spells, so the result has the element `element` + 1, or 0. `None`
+    /// if no key follows, or if no key has `element`: then it is `max_entries` or more. So a save reads all entries of a map.
     pub(crate) fn entry_after(&self, element: Option<u32>) -> Option<(KeyRef<'_>, u32)>
         ensures { option_map shown_entry result ≡ next_entry element self.now.entries }
     {
@@ -164,8 +173,9 @@ impl ArrayMap {
     }
 }
 
-/// The index after that of an element: in an array an element's number is the index that its key spells. `None`, no element, gives the
-/// first index, 0. The result has 64 bits, since the element may be any number of 32 bits.
+/// The index that follows an element, at which `entry_after` looks for the next key: the element's number and one, since in an array this
+/// number is the index that the element's key spells. `None`, no element, gives the first index, 0. From the last key on the result is
+/// `max_entries` or more, which is no index of the array. It has 64 bits, since the element may be any number of 32 bits.
 fn index_after_element(element: Option<u32>) -> u64
     ensures { result ≡ option_map_or (λ p. p + 1) element 0 }
 {
@@ -178,30 +188,35 @@ fn index_after_element(element: Option<u32>) -> u64
 impl ValueMap for ArrayMap {
     ghost keys = { λ m. m };
 
-    // The element of a key is the index in the key's four bytes; `None` if this index is not below `max_entries`. The call of the law is
-    // for the proof of the clause `sound` of `ValueMap::find`.
+    // The element of a key is the index in the key's four bytes; `None` if this index is not below `max_entries`. The first line calls a
+    // law, which does nothing when it runs. By this law the `key_size` of an array, which is the length of the key (clause `size` of
+    // `ValueMap::find`), is 4, and the clause `sound` of `ValueMap::find` holds.
     #[inline(always)]
     fn find(&self, key: &[u8]) -> Option<u32> {
         self.keys_are_its_indices();
         self.element_of(key)
     }
 
-    // The element is the index in the key, so no update needs a free one; an index that is not below `max_entries` is rejected
-    // (`element_for`). The first call is of a law, for the proof.
+    // Returns the index in the four bytes of the key, which is its element. All indices of the array are present, so none is added and
+    // nothing changes. The errors, in this order, are `Invalid` if `flags` is none of `ANY`, `NOEXIST` and `EXIST`, `TooBig` if the index
+    // is not below `max_entries`, and `Exists` if `flags` is `NOEXIST`. The first call is of a law, for the proof of the clause `sound` of
+    // `ValueMap::claim`.
     #[inline(always)]
     fn claim(&mut self, key: &[u8], flags: u64) -> Result<u32, MapFault> {
         self.keys_are_its_indices();
         self.element_for(key, flags)
     }
 
-    // An array has all its indices at any time, so no key is removed.
+    // Rejects the deletion of any key with `Invalid`, as bpf(2) does: an array has all its indices at any time, so nothing changes. The
+    // first call is of a law, for the proof.
     fn remove(&mut self, _key: &[u8]) -> Result<(), MapFault> {
         self.keys_are_its_indices();
         Err(MapFault::Invalid)
     }
 
-    // The keys are the indices in ascending order; `None` after the last one. After an absent key, also one of another size, the index is
-    // 0 (`index_after`).
+    // Returns the key that follows `key`: the keys are the indices in ascending order, each as four bytes. `None` if `key` is the last one.
+    // If the array does not have `key`, also if `key` has another size, the first key, that of index 0, is returned (`index_after`). The
+    // first call is of a law, for the proof.
     fn key_after(&self, key: &[u8]) -> Option<KeyRef<'_>> {
         self.keys_are_its_indices();
         let index = self.index_after(key);
@@ -211,13 +226,14 @@ impl ValueMap for ArrayMap {
         Some(KeyRef::Short(ShortKey::of_word(u64::from(index), INDEX_SIZE)))
     }
 
-    // Changes nothing: no key of an array is removed, so no element is kept apart. The call is of a law, for the proof.
+    // The end of a run changes nothing in an array: no key is removed, so no element is kept apart. The call is of a law, for the proof.
     fn end_run(&mut self) {
         self.keys_are_its_indices();
     }
 }
 
-/// The index in the four bytes of a key, little-endian.
+/// The index that the four bytes of a key spell, little-endian: by the contract, the key is that of this index (`index_key`). The index may
+/// be `max_entries` or more; then the array does not have the key.
 #[inline(always)]
 pub(crate) fn index_of(key: &[u8]) -> u32
     requires { length key.now ≡ 4 }

@@ -24,7 +24,9 @@ pub enum BpfMap {
 }
 
 impl BpfMap {
-    /// Makes a map of this shape. An array takes neither the seed nor memory. `AllocError`: out of memory for a hash map.
+    /// Makes a map of this shape: an array has all its indices as keys, a hash map has no keys (`new_keys`). A hash map takes new memory,
+    /// and the seed to hash its keys; an array takes neither. This is for a map without a tenant: `Maps` calls `with_spares`, which may
+    /// reuse memory. `AllocError`: out of memory for a hash map.
     pub fn new(alloc: Global, shape: MapShape, seed: HashSeed) -> Result<BpfMap, AllocError>
         ensures { IfOk result (λ map. keys_in map ≡ new_keys shape) }
     {
@@ -34,10 +36,11 @@ impl BpfMap {
         }
     }
 
-    /// Makes a map of this shape. A hash map reuses the memory of one of `spares`, the hash maps that are no longer live, if one has its
-    /// key size and `max_entries`. Else it takes new memory, with `seed`, after spare maps are freed while they, the live hash maps
-    /// (`live`) and the new map exceed the bounds of `SpareMaps`. An array takes neither memory nor seed. `AllocError`: out of memory for a
-    /// hash map.
+    /// Makes a map of this shape: an array with all its indices, or a hash map without keys (`new_keys`). A hash map reuses the memory and
+    /// the seed of one of `spares`, the hash maps that are no longer live, if one has its key size and `max_entries`. Else it takes new
+    /// memory, with `seed`, after spare maps are freed while they, the live hash maps (`live`) and the new map are together more than 16,
+    /// or the sum of their `max_entries` is above `MOST_ENTRIES_TOGETHER` (`SpareMaps`). An array takes neither memory nor seed.
+    /// `AllocError`: out of memory for a hash map.
     pub(crate) fn with_spares(
         alloc: Global,
         shape: MapShape,
@@ -53,7 +56,8 @@ impl BpfMap {
         }
     }
 
-    /// The map's shape.
+    /// The map's shape: its kind, the sizes in bytes of a key and of a value, and `max_entries`. In the contract it is the shape of the
+    /// map's table of keys (`keys_in`).
     pub fn shape(&self) -> MapShape
         ensures { result ≡ (keys_in self.now).shape }
     {
@@ -63,7 +67,7 @@ impl BpfMap {
         }
     }
 
-    /// How many keys the map has.
+    /// How many keys the map has; an array always has `max_entries`.
     pub(crate) fn key_count(&self) -> u32
         ensures { result ≡ length (keys_in self.now).entries }
     {
@@ -73,8 +77,8 @@ impl BpfMap {
         }
     }
 
-    /// The key after that of `element`, or the first key if no element is given, with the element of the key that is returned. `None` if
-    /// no key follows, or if no key has `element`.
+    /// The key after that of `element` in the order of the map's keys, or the first key if no element is given, with the element of the key
+    /// that is returned. `None` if no key follows, or if no key has `element`.
     pub(crate) fn entry_after(&self, element: Option<u32>) -> Option<(KeyRef<'_>, u32)>
         ensures { option_map shown_entry result ≡ next_entry element (keys_in self.now).entries }
     {
@@ -89,6 +93,7 @@ impl BpfMap {
 impl ValueMap for BpfMap {
     ghost keys = { keys_in };
 
+    // The element of a key, which has the size of the map's keys; `None` if the key is absent. Calls `find` of the array or the hash map.
     #[inline(always)]
     fn find(&self, key: &[u8]) -> Option<u32> {
         match self {
@@ -97,6 +102,8 @@ impl ValueMap for BpfMap {
         }
     }
 
+    // Claims an element for a key: its own, or a free one. `Invalid` for unknown flags; `Exists` for a present key with `NOEXIST`;
+    // `NoEntry` for an absent key of a hash map with `EXIST`; `TooBig` for an index out of range or a full hash map.
     #[inline(always)]
     fn claim(&mut self, key: &[u8], flags: u64) -> Result<u32, MapFault> {
         match self {
@@ -105,6 +112,8 @@ impl ValueMap for BpfMap {
         }
     }
 
+    // Removes a key of the size of the map's keys, and keeps its element apart until `end_run`. The error, with which nothing changes, is
+    // `Invalid` for an array, which has all its keys at any time, and `NoEntry` for a hash map without the key.
     fn remove(&mut self, key: &[u8]) -> Result<(), MapFault> {
         match self {
             BpfMap::Array(map) => map.remove(key),
@@ -112,6 +121,8 @@ impl ValueMap for BpfMap {
         }
     }
 
+    // The key that follows `key`: the next index of an array, or the key that a hash map got after `key`; the first key if `key` is absent
+    // or has another size. `None` after the last key, and in a map without keys. The trait `ValueMap` has the contract.
     fn key_after(&self, key: &[u8]) -> Option<KeyRef<'_>> {
         match self {
             BpfMap::Array(map) => map.key_after(key),
@@ -119,7 +130,8 @@ impl ValueMap for BpfMap {
         }
     }
 
-    // Ends a run on the map: the elements of deleted keys, which were kept apart, become free.
+    // Ends a run on the map: the elements of deleted keys, which were kept apart, become free. No key of an array can be deleted, so an
+    // array is unchanged.
     fn end_run(&mut self) {
         match self {
             BpfMap::Array(map) => map.end_run(),

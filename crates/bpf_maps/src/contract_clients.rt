@@ -14,9 +14,11 @@ use seeded_hash::HashSeed;
 use std::alloc::Global;
 use tagged_model::{MapFault, MapShape};
 
-/// Updates a key: claims an element for it and writes the value there, in `part`, the tenant's part. The map changes as the verdict on the
-/// update (`verdict` of `tagged_model`) says, and no other map changes. If `claim` rejects the update, its error is returned, and no map
-/// changes.
+/// Updates a key of a live map: claims an element for it and writes the value there, in `part`, the bytes of the tenant's part. By `done`
+/// the map's keys, with their values in the part, change as the verdict on the update requires (`verdict` of `tagged_model`): a present key
+/// gets the new value, an absent key is added as the last. If `claim` rejects the update, its error is returned (`Invalid`, `Exists`,
+/// `NoEntry` or `TooBig`), and the map has the keys and values that it had before (`refused`). In both cases each other live map keeps its
+/// own (`others`).
 fn update(
     maps: &mut Maps,
     map: MapKey,
@@ -43,8 +45,10 @@ fn update(
     Ok(())
 }
 
-/// Deletes a key outside a run. So `end_run` follows at once, and makes the key's element free. The map loses the key, and no other map
-/// changes. If the deletion is rejected, no map changes: `Invalid` for an array, `NoEntry` if the key is absent.
+/// Deletes a key outside a run: `remove` keeps the key's element apart, and `end_run`, called at once, makes it free. `done`: the map loses
+/// the key, and no deleted value counts any more (`after_run`). `others`: no other map changes. `refused`: if the deletion is rejected,
+/// this map does not change either; the error is `Invalid` for an array, `NoEntry` if the key is absent. `part`, the tenant's part, is only
+/// for the contract, which sees the maps with the bytes of their values.
 fn delete(maps: &mut Maps, map: MapKey, key: &[u8], part: &[u8]) -> Result<(), MapFault>
     requires live { IsSome (live_at maps.old map) }
     requires key { length key.now ≡ (shape_at maps.old map).key_size }
@@ -59,8 +63,9 @@ fn delete(maps: &mut Maps, map: MapKey, key: &[u8], part: &[u8]) -> Result<(), M
     Ok(())
 }
 
-/// A law: if each value of each live map has the same bytes in the parts `before` and `after`, the map of handle `map` is the same in both.
-/// It does nothing when it runs.
+/// A law, which does nothing when it runs: the live map of handle `map`, its keys with their values, is the same in `before` and `after`,
+/// two contents of the tenant's part, if each value of each live map has the same bytes in both (`values`). So bytes that belong to no
+/// value do not matter. `SameValues` compares the live maps of two states; here both are `maps`, since only the part differs.
 fn is_unchanged(maps: &Maps, map: MapKey, before: &[u8], after: &[u8])
     requires live { IsSome (live_at maps.now map) }
     requires values { SameValues maps.now before.now maps.now after.now }
@@ -70,7 +75,8 @@ fn is_unchanged(maps: &Maps, map: MapKey, before: &[u8], after: &[u8])
     laws::values_agree();
 }
 
-/// Creates a tenant's first map: it has handle 0, and there is room for it, so the only error is `Memory`.
+/// Creates a tenant's first map: it has handle 0 (`first`), and there is room for it (`room`), so the only error is `Memory`. `part` is the
+/// tenant's part, `PART` bytes.
 fn make_first(alloc: Global, shape: MapShape, part: &mut [u8]) -> Result<MapKey, MapFault>
     requires { length part.old ≡ PART }
     ensures room { result ≢ Err NoSpace }
@@ -84,8 +90,9 @@ fn make_first(alloc: Global, shape: MapShape, part: &mut [u8]) -> Result<MapKey,
     maps.create(shape, part)
 }
 
-/// Frees a map by its last release, and creates another of its shape: there is room for it, and its handle is that of the freed map or a
-/// lower one. The other maps are unchanged. The only error is `Memory`: out of memory for a hash map.
+/// Drops the only reference to a live map (`last`), which frees it, and creates another map of its shape. The freed handle and area are
+/// enough for the new map (`room`), whose handle is that of the freed map or a lower one (`lowest`). The other live maps keep their keys
+/// and values (`others`), although areas move down in `part`, the tenant's part. The only error is `Memory`: out of memory for a hash map.
 fn make_again(maps: &mut Maps, map: MapKey, part: &mut [u8]) -> Result<MapKey, MapFault>
     requires live { IsSome (live_at maps.old map) }
     requires last { holds_at maps.old map ≤ 1 }
@@ -101,8 +108,9 @@ fn make_again(maps: &mut Maps, map: MapKey, part: &mut [u8]) -> Result<MapKey, M
     maps.create(shape, part)
 }
 
-/// Creates a map and, if `create` does not fail, releases it. The creation of any map then ends as it would have before: with the same
-/// fault (`create_fault`), or without one. Each map that was live is unchanged.
+/// Creates a map and, if `create` does not fail, releases it. There is then room for exactly the maps for which there was room before
+/// (`room`): the `create_fault` of the creation of a map, of any shape `other`, is what it was before, a fault or `None`. Each map that was
+/// live still is, with the same keys and values (`maps`).
 fn make_and_release(maps: &mut Maps, shape: MapShape, part: &mut [u8])
     requires { length part.old ≡ PART }
     ensures room { (other : MapShape) → create_fault maps.new other ≡ create_fault maps.old other }
@@ -115,8 +123,9 @@ fn make_and_release(maps: &mut Maps, shape: MapShape, part: &mut [u8])
     }
 }
 
-/// Adds a reference to a map and drops it: each map that was live still is, with the same keys and values. The map has a reference before
-/// (`held`), so the dropped one is not its last. It has fewer than 2^32 - 1 (`few`), so one more can be counted in 32 bits.
+/// Adds a reference to a live map and drops one: by `KeepsMaps` each map that was live still is, with the same keys and values. `holds_at`
+/// is the number of references. There is at least one before (`held`), so the dropped one is not the last, which would free the map. There
+/// are fewer than 2^32 - 1 (`few`), so one more can be counted in 32 bits. `release` needs the tenant's whole part (`part`).
 fn hold_and_release(maps: &mut Maps, map: MapKey, part: &mut [u8])
     requires live { IsSome (live_at maps.old map) }
     requires few { holds_at maps.old map < 2 ^ 32 - 1 }

@@ -12,7 +12,7 @@ use crate::spare_maps::{LiveHashMaps, NO_HASH_MAPS};
 use tagged_model::MapKind;
 
 impl Maps {
-    /// How many keys a map has: at most `MOST_ENTRIES` of `tagged_model`, and 0 if no map has this handle.
+    /// How many keys the map with this handle has: at most `MOST_ENTRIES` of `tagged_model`, and 0 if no map has the handle.
     pub fn key_count(&self, map: MapKey) -> u32
         ensures count { result ≡ length (keys_at self.now map).entries }
         ensures few { result ≤ most_entries }
@@ -24,7 +24,9 @@ impl Maps {
         self.stored(map).map.key_count()
     }
 
-    /// How many maps are live: at most `MAPS`.
+    /// How many maps are live, for the counts of a tenant: at most `MAPS`. `count` adds up 1 for each live map by `total`, for which a
+    /// handle without a map counts 0. The call of the law `maps_are_laid`, which does nothing, is for the proof: there are `MAPS` handles,
+    /// so the loop finds every map.
     pub fn live_count(&self) -> u32
         ensures count { result ≡ total (λ l. 1) self.now.maps }
         ensures few { result ≤ most_maps }
@@ -39,7 +41,9 @@ impl Maps {
         count
     }
 
-    /// How many keys all live maps have together: at most `MAPS` times `MOST_ENTRIES` of `tagged_model`.
+    /// How many keys all live maps have together, for the counts of a tenant: at most `MAPS` times `MOST_ENTRIES` of `tagged_model`. `sum`
+    /// adds up the keys of the live maps by `total`, for which a handle without a map counts 0. The call of the law `maps_are_laid`, which
+    /// does nothing, is for the proof: there are `MAPS` handles, so the loop finds every map.
     pub fn key_sum(&self) -> u32
         ensures sum { result ≡ total (λ l. length l.keys.entries) self.now.maps }
         ensures few { result ≤ most_maps * most_entries }
@@ -52,8 +56,9 @@ impl Maps {
         sum
     }
 
-    /// How many hash maps are live, and the sum of their `max_entries`, if a hash map is to be created: both numbers decide whether spare
-    /// maps are freed for it (`SpareMaps`). If an array is to be created, both are 0, since no spare map is freed for an array.
+    /// What the creation of a map of this `kind` has to know of the live hash maps. For a hash map it is how many of them are live, and the
+    /// sum of their `max_entries`: both numbers decide whether spare maps, which are no longer live, are freed for it (`SpareMaps`). For an
+    /// array both are 0, since no spare map is freed for an array.
     pub(crate) fn live_hash_maps_for(&self, kind: MapKind) -> LiveHashMaps {
         match kind {
             MapKind::Array => NO_HASH_MAPS,
@@ -61,7 +66,8 @@ impl Maps {
         }
     }
 
-    /// The hash maps that are live: how many they are, and the sum of their `max_entries`.
+    /// The hash maps that are live: how many they are, and the sum of their `max_entries`. Both decide which spare maps are freed for a new
+    /// hash map (`SpareMaps::hash_map`). No contract depends on these numbers.
     fn live_hash_maps(&self) -> LiveHashMaps {
         self.maps_are_laid();
         let mut live = NO_HASH_MAPS;
@@ -74,7 +80,8 @@ impl Maps {
         live
     }
 
-    /// How many bytes the values of all live maps take, each rounded up to a multiple of eight: at most `LARGEST_SUM`.
+    /// How many bytes the areas of all live maps take together (`sum`): for each of the `max_entries` elements of a map, also one without a
+    /// key, the size of a value, rounded up to a multiple of eight. At most `LARGEST_SUM` (`few`). `Tenant::counts` reports it.
     pub fn value_bytes(&self) -> usize
         ensures sum { result ≡ areas self.now }
         ensures few { result ≤ most_bytes }

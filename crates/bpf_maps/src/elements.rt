@@ -37,8 +37,8 @@ impl Elements {
         }
     }
 
-    /// The number of elements and the distance of their values as one number, which a row of a run's table of maps has: `count` is its low
-    /// 32 bits, and `stride` its high 32 bits.
+    /// The number of elements (`count`) and the distance from one value to the next in bytes (`stride`) as one number, which a row of a
+    /// run's table of maps has: `count` is its low 32 bits, and `stride` its high 32 bits. `of_word` is the inverse.
     #[inline(always)]
     pub fn word(self) -> u64
         ensures { result ≡ word_of self }
@@ -46,9 +46,10 @@ impl Elements {
         u64::from(self.count) + 0x1_0000_0000 * u64::from(self.stride)
     }
 
-    /// The elements of which `Elements::word` makes this number: `count` is its low 32 bits, `stride` its high 32 bits. If the number was
-    /// made for a map (`Elements::of`), these are the map's elements (`elements`). Then a count other than 0 means that the map is an
-    /// array, since a hash map has count 0; so its keys have `INDEX_SIZE` bytes (`size`).
+    /// The inverse of `Elements::word`, for any number (`word`): `count` is the number's low 32 bits, `stride` its high 32 bits. A run's
+    /// table of maps has one number for each map, which `Elements::of` and `Elements::word` made of the map's shape. The result is then the
+    /// `Elements` of this shape (`elements`), and if `count` is not 0, the map is an array, since a hash map has count 0; so its keys have
+    /// `INDEX_SIZE` bytes (`size`).
     #[inline(always)]
     pub fn of_word(word: u64) -> Elements
         ensures word { word_of result ≡ word }
@@ -63,9 +64,11 @@ impl Elements {
         }
     }
 
-    /// The address of the value of a key, modulo 2^64, if these are the elements of a live array whose first value has address `first`; 0
-    /// if the index is out of range, or the key does not have four bytes. It reads neither `maps` nor `map`, the array's handle: both are
-    /// for the contract.
+    /// The address, modulo 2^64, of the value of `key` in a live array, if `self` is the count and the stride of this array (`AreOfArray`),
+    /// and `first` the address of its first value; 0 if the index in `key` is out of range, or `key` does not have `INDEX_SIZE` bytes. The
+    /// function reads neither `maps` nor `map`, the array's handle: both are for the contract. There `part` is the address of the tenant's
+    /// part, so `first` is `part` plus the offset of the first value (`address`). If `key` has a value, the value lies in the part, after
+    /// the stack and the context (`inside`).
     #[inline(always)]
     pub fn address_of(self, maps: &Maps, map: MapKey, key: &[u8], first: u64) -> u64
         ensures address { AreOfArray self maps.now map → (part : ℕ)

@@ -57,15 +57,19 @@ impl HashMap {
         })
     }
 
-    /// Whether this map has the key size and the `max_entries` of the shape: then a new hash map of the shape can have this map's memory
-    /// (`renew`). The value size may differ, since the values are not in this memory, but in the map's area.
+    /// Whether a new hash map of shape `shape` can reuse the memory of this map (`renew`): this map has the key size and the `max_entries`
+    /// of `shape`. The value size may differ, since the values are not in this memory, but in the map's area. `SpareMaps` asks this of hash
+    /// maps that are no longer live. The clause: if the result is true, both numbers agree (`IsLike`, whose second argument is an option,
+    /// since it is also used for an index of a list).
     pub(crate) fn is_like(&self, shape: MapShape) -> bool
         ensures { IsTrue result → IsLike shape (Some self.now) }
     {
         self.shape.key_size == shape.key_size && self.shape.max_entries == shape.max_entries
     }
 
-    /// Makes this a new map, without keys, of another shape, which has the same key size and `max_entries` (`is_like`). Takes no memory.
+    /// Makes this a new hash map, without keys, of another shape. By the three preconditions the shape has the kind, the key size and the
+    /// `max_entries` of this map (`is_like`), and only the value size may differ. So `SpareMaps` gives the memory of a map that is no
+    /// longer live to a new one. Takes no memory.
     pub(crate) fn renew(&mut self, shape: MapShape)
         requires kind { shape.kind ≡ Hash }
         requires key_size { shape.key_size ≡ self.old.shape.key_size }
@@ -78,7 +82,7 @@ impl HashMap {
         self.shape = shape;
     }
 
-    /// The map's shape.
+    /// The map's shape: its kind, `Hash`, the sizes of its keys and its values in bytes, and `max_entries`, the most keys that it may have.
     pub fn shape(&self) -> MapShape
         ensures { result ≡ self.now.shape }
     {
@@ -92,7 +96,9 @@ impl HashMap {
         self.shape.max_entries - self.spare.len() as u32
     }
 
-    /// A law: the map's kind is `Hash`, and no two keys have the same element. It does nothing when it runs.
+    /// A law, which does nothing when it runs: the map's kind is `Hash` (`kind`), and its table of keys is sound (`sound`): no two keys
+    /// have the same element, no element of a key is also kept apart, each is less than `max_entries`, and each key has the map's key size.
+    /// `find` and `claim` call it for their proofs.
     #[inline(always)]
     fn elements_are_distinct(&self)
         ensures kind { self.now.shape.kind ≡ Hash }
@@ -101,7 +107,8 @@ impl HashMap {
         let _ = &self.shape;
     }
 
-    /// The element of a key, which has the size of the map's keys; `None` if the key is absent.
+    /// The element of a key, a number below `max_entries` (`within`); `None` if the map does not have the key. By the precondition the key
+    /// has the size of the map's keys. The function is inlined into `find` and `claim` of `ValueMap`.
     #[inline(always)]
     fn element_of(&self, key: &[u8]) -> Option<u32>
         requires { length key.now ≡ self.now.shape.key_size }
@@ -111,8 +118,9 @@ impl HashMap {
         self.index.get(key)
     }
 
-    /// The key that follows the key of `element` in the order of insertion, or the first key if `element` is `None`; and the element of the
-    /// returned key. `None` if no key follows, if no key has `element`, or if the map has no key.
+    /// The key after that of `element` in the order of insertion, or the first key if `element` is `None`. The key is returned with its
+    /// element; contracts see the key as its bytes (`shown_entry`). `None` if no key follows, if no key has `element`, or if the map has no
+    /// key. A caller that next passes the returned element gets all entries in order, as a save does.
     pub(crate) fn entry_after(&self, element: Option<u32>) -> Option<(KeyRef<'_>, u32)>
         ensures { option_map shown_entry result ≡ next_entry element self.now.entries }
     {
@@ -120,9 +128,11 @@ impl HashMap {
     }
 
     /// Adds an absent key as the last one, claims a free element for it, and returns this element. Of the spare elements, which no key has,
-    /// the first `kept` are kept apart and the others are free, so the last one is claimed. `TooBig`, and nothing has changed, if none is
-    /// free. The caller, `claim`, has checked the flags of the update: both `ANY` and `NOEXIST` allow an absent key, so the contract has
-    /// only `ANY` (0). Not inlined, unlike the rest of an update, as an update of a present key does not call this function.
+    /// the first `kept` are kept apart until the run ends, and the others are free, so the last one is claimed. `TooBig`, and nothing has
+    /// changed, if none is free: then the map is full (`is_full`). `claimed`: result and change are those of an update of an absent key
+    /// (`of_absent`). The caller, `claim`, has checked the flags of the update: both `ANY` and `NOEXIST` allow an absent key, so the
+    /// contract has only `ANY` (0). `sound`: no element has two keys, or a key while it is kept apart. Not inlined, unlike the rest of an
+    /// update, as an update of a present key does not call this function.
     #[cold]
     #[inline(never)]
     #[tactic(auto, using(crate::proofs::Kept::sound))]
@@ -146,8 +156,8 @@ impl HashMap {
 impl ValueMap for HashMap {
     ghost keys = { λ m. m };
 
-    // Returns the element of a key; `None` if the key is absent. The call of `elements_are_distinct` is for the contract (`sound`), and
-    // does nothing when it runs.
+    // Returns the element of a key; `None` if the key is absent. The call of `elements_are_distinct`, a law, is for the clause `sound` of
+    // the contract, for example that no two keys have one element (`IsSound`). It does nothing when it runs.
     // Not inlined: its machine code selects the index that has the keys (`KeyIndex`), and ends in a jump to the `get` of this index. So a
     // look-up of a short key does not save and restore the registers that only longer keys need.
     #[inline(never)]
@@ -156,8 +166,9 @@ impl ValueMap for HashMap {
         self.element_of(key)
     }
 
-    // A present key keeps its element, which is returned; only an absent one needs a free element, which `add` claims. `EXIST`, 2, is the
-    // largest flag. `elements_are_distinct` is a law, for the proof.
+    // `flags` is `ANY`, 0; `NOEXIST`, 1: the key must be absent, else `Exists`; or `EXIST`, 2: it must be present, else `NoEntry`. Any
+    // greater number is `Invalid`. A present key keeps its element, which is returned. Only an absent key needs a free element, which `add`
+    // claims; `TooBig` if none is free. After an error nothing has changed. `elements_are_distinct` is a law, for the proof.
     #[inline(always)]
     fn claim(&mut self, key: &[u8], flags: u64) -> Result<u32, MapFault> {
         self.elements_are_distinct();
@@ -182,6 +193,8 @@ impl ValueMap for HashMap {
         }
     }
 
+    // Removes a key, which has the size of the map's keys. Its element is kept apart: no key gets it until the run ends (`end_run`).
+    // `NoEntry` if the key is absent; then nothing has changed.
     fn remove(&mut self, key: &[u8]) -> Result<(), MapFault> {
         let Some(element) = self.index.remove(key) else {
             return Err(MapFault::NoEntry);
@@ -195,20 +208,22 @@ impl ValueMap for HashMap {
         Ok(())
     }
 
-    // The keys are in the order in which they were added; `None` after the last one. After an absent key, also one of another size, the
-    // result is the first key.
+    // The key that was added next after `key`; the first key of the map if `key` is absent or has another size. `None` if `key` is the last
+    // one, or if the map has no keys.
     fn key_after(&self, key: &[u8]) -> Option<KeyRef<'_>> {
         self.index.key_after(key)
     }
 
+    // Ends a run: the elements of the keys that were removed since the last `end_run`, which were kept apart, become free. `spare` has the
+    // elements that no key has. Its first `kept` are those that are kept apart, and `add` gives none of these to a key. Once `kept` is 0,
+    // `add` may give any element of `spare`, so no element has to be moved.
     fn end_run(&mut self) {
-        // `spare` has the elements that no key has. Its first `kept` are those of keys removed since the last `end_run`, and `add` gives
-        // none of these to a key. From now on `add` may give any element of `spare`.
         self.kept = 0;
     }
 }
 
-/// All elements less than `count`, each once. `AllocError`: out of memory.
+/// A list of all elements less than `count`, each once (`once`), so `count` of them (`length`): the free elements of a new hash map. It has
+/// room for all of them (`room`), so that an element that was taken out can be put back without memory. `AllocError`: out of memory.
 fn all_elements(alloc: Global, count: u32) -> Result<Vec<u32>, AllocError>
     ensures once { IfOk result (λ all. (p : ℕ) → occurrences p all.items
         ≡ (if nat_lt p count then 1 else 0)) }
@@ -220,7 +235,9 @@ fn all_elements(alloc: Global, count: u32) -> Result<Vec<u32>, AllocError>
     Ok(all)
 }
 
-/// Fills the list anew with all elements less than `count`, each once. The list has room for them, so this takes no memory.
+/// Fills the list `all` anew with all elements less than `count`, each once: the free elements of a hash map without keys. The list has
+/// room for them, so this takes no memory, and its capacity is unchanged (`room`). `once` counts how often an element `p` occurs: once if
+/// `p` is less than `count`, else never.
 fn put_elements(all: &mut Vec<u32>, count: u32)
     requires { count ≤ vec_capacity all.old }
     ensures once { (p : ℕ) → occurrences p all.new.items ≡ (if nat_lt p count then 1 else 0) }

@@ -47,7 +47,7 @@ impl<const N: usize> InlineKey<N> {
         }
     }
 
-    /// The bytes of the key, without the zeros after them.
+    /// The bytes of the key: the first `size` of the field `bytes`, without the zeros after them.
     #[inline(always)]
     pub(crate) fn bytes(&self) -> &[u8]
         ensures { result.now ≡ self.now }
@@ -77,8 +77,9 @@ impl<const N: usize> Hash for InlineKey<N> {
 
     ghost respects_eq = { λ x y h. ap (λ k. k ∷ []) ((bytes_decides x y).0 h) };
 
+    /// Hashes the bytes of the key, without the zeros after them, which fill its array. A key that is looked up, a `KeyBytes`, has no such
+    /// zeros, and needs the hash of the equal stored key.
     fn hash<H: Hasher>(&self, state: &mut H) {
-        // The bytes without the zeros after them: a look-up hashes only these bytes of its key (`KeyBytes`).
         state.write(self.bytes());
     }
 }
@@ -104,13 +105,14 @@ impl Eq for KeyBytes<'_> {
     ghost laws = { on_equiv (λ k. k.bytes.now) nat_list_eq_equiv };
 }
 
-// Writes all bytes to the hasher by one call, as the `Hash` of `InlineKey` does: a key that is looked up has to get the hash of the equal
-// key that is stored, and the hash depends on how bytes are divided into calls.
+// Contracts see what is hashed as `hash_input`, a list with an entry for each call of the hasher. Equal keys have one list (`respects_eq`).
 impl Hash for KeyBytes<'_> {
     ghost hash_input = { λ k. k.bytes.now ∷ [] };
 
     ghost respects_eq = { λ x y h. ap (λ k. k ∷ []) ((bytes_decides x.bytes.now y.bytes.now).0 h) };
 
+    /// Writes all bytes to the hasher by one call, as the `Hash` of `InlineKey` does: a key that is looked up has to get the hash of the
+    /// equal key that is stored, and the hash depends on how bytes are divided into calls.
     fn hash<H: Hasher>(&self, state: &mut H) {
         state.write(self.bytes);
     }
@@ -123,7 +125,8 @@ impl<const N: usize> Equivalent<InlineKey<N>> for KeyBytes<'_> {
 
     ghost respects_eq = { λ q x y. nat_list_eq_equiv.congr q.bytes.now x y };
 
-    // Whether the key that is looked up has the bytes of a stored key. So a look-up makes no `InlineKey` of its bytes.
+    // By this function the index map compares a key that is looked up, given as borrowed bytes, with a stored `key`: whether both have the
+    // same bytes. So a look-up does not copy its bytes into an `InlineKey`.
     fn equivalent(&self, key: &InlineKey<N>) -> bool {
         self.bytes == key.bytes()
     }

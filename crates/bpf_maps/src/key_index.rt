@@ -26,8 +26,10 @@ pub enum KeyIndex {
 }
 
 impl KeyIndex {
-    /// Makes an index without keys, for keys of `key_size` bytes and elements less than `bound`, the map's `max_entries`. No shape has a
-    /// `key_size` above `LONGEST_LONG`. Allocates memory for `bound` keys, which are hashed with the seed. `AllocError`: out of memory.
+    /// Makes an index without keys (`entries`), into which keys of `key_size` bytes (`takes`) and elements less than `bound`, the map's
+    /// `max_entries`, can be inserted. It is `Words` for keys of at most `LONGEST_WORD` bytes, `Middle` for at most `LONGEST_MIDDLE`, else
+    /// `Long`; no shape has a `key_size` above `LONGEST_LONG`. Allocates memory for `bound` keys, which are hashed with the seed.
+    /// `AllocError`: out of memory.
     pub(crate) fn new(
         alloc: Global,
         key_size: usize,
@@ -48,7 +50,9 @@ impl KeyIndex {
         }
     }
 
-    /// The size, in bytes, of the number or of the array in which an index keeps a key of `key_size` bytes (`KeyIndex`).
+    /// The size, in bytes, of the number or of the array in which an index keeps a key of `key_size` bytes: `LONGEST_WORD` for a key of at
+    /// most as many bytes, else `LONGEST_MIDDLE` for one of at most as many, else `LONGEST_LONG`. With this size `key_memory` computes the
+    /// memory for the keys of a map. The contract bounds the size, so that its product with a number of keys does not overflow 64 bits.
     pub(crate) fn room_of(key_size: usize) -> usize
         ensures { result ≤ LONGEST_LONG }
     {
@@ -61,7 +65,7 @@ impl KeyIndex {
         }
     }
 
-    /// Returns the element of a key, which has the size of the map's keys; `None` if the key is absent.
+    /// Returns the element of a key, which has the size of the map's keys (`TakesKeys`: the index can have it); `None` if it is absent.
     #[inline(always)]
     pub(crate) fn get(&self, key: &[u8]) -> Option<u32>
         requires { TakesKeys self.now (length key.now) }
@@ -86,8 +90,9 @@ impl KeyIndex {
         }
     }
 
-    /// The key that follows the key of `element`, in the order in which the keys were added, or the first key if no element is given; and
-    /// the element of the key that is returned. `None` if no key follows, or if no key has `element`.
+    /// Returns a key and its element: those of the key that was added next after the key of `element`, or of the first key if `element` is
+    /// `None`. `None` after the last key, if no key has `element`, and if there are no keys. A save reads a map's keys in turn by this
+    /// function: it passes the element that the call before returned. No key is hashed or searched for, unlike in `key_after`.
     pub(crate) fn entry_after(&self, element: Option<u32>) -> Option<(KeyRef<'_>, u32)>
         ensures { option_map shown_entry result ≡ next_entry element (entries_of self.now) }
     {
@@ -107,8 +112,10 @@ impl KeyIndex {
         }
     }
 
-    /// Adds a key at the end. The caller has found the key absent, and gives it an element less than the index's bound that no key has
-    /// (`HashMap::add`). It allocates nothing: `new` made room for `bound` keys.
+    /// Adds a key at the end. The caller, `HashMap::add`, has found the key absent (`absent`), and gives it an element less than the
+    /// index's bound that no key has (`within`, `free`). The key has the size of the map's keys, and the index takes keys of this size
+    /// before and after (`takes`). The index has fewer keys than its bound (`few`), which does not change (`bound`). The call allocates
+    /// nothing: `new` made room for `bound` keys.
     pub(crate) fn insert(&mut self, key: &[u8], element: u32)
         requires takes { TakesKeys self.old (length key.now) }
         requires absent { found key.now (entries_of self.old) ≡ None }
@@ -126,8 +133,8 @@ impl KeyIndex {
         }
     }
 
-    /// Removes all keys, and keeps the memory. The index takes keys of each size that it took before (`takes`), and elements less than the
-    /// bound that it had before (`bound`).
+    /// Removes all keys (`entries`), and keeps the memory, so that a new map can use it (`HashMap::renew`). The index can still have keys
+    /// of each size that it could have before (`takes`), and elements less than the same bound as before (`bound`).
     pub(crate) fn clear(&mut self)
         ensures entries { entries_of self.new ≡ [] }
         ensures takes { (size : ℕ) → TakesKeys self.old size → TakesKeys self.new size }
@@ -140,8 +147,9 @@ impl KeyIndex {
         }
     }
 
-    /// Removes a key, which has the size of the map's keys, and returns its element; `None` if the key is absent. The other keys keep their
-    /// order. The index can still have keys of this size (`takes`) and elements less than the map's `max_entries` (`bound`).
+    /// Removes a key, which has the size of the map's keys, and returns its element (`element`); `None` if the key is absent, and then
+    /// nothing changes. The other keys keep their elements and their order (`left`). As before the removal, the index can have keys of this
+    /// size (`takes`), and elements less than its bound, the map's `max_entries` (`bound`).
     pub(crate) fn remove(&mut self, key: &[u8]) -> Option<u32>
         requires { TakesKeys self.old (length key.now) }
         ensures element { result ≡ found key.now (entries_of self.old) }

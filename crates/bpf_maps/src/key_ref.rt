@@ -25,7 +25,8 @@ impl Model for ShortKey {
 }
 
 impl ShortKey {
-    /// Makes a key of the lowest `length` bytes of a number, at most eight, the lowest first.
+    /// Makes a key of the lowest `length` bytes of `word`, the lowest byte first. `length`, the size of the map's keys, is at most eight,
+    /// the number of bytes of a word.
     pub(crate) fn of_word(word: u64, length: usize) -> ShortKey
         requires { length ≤ 8 }
         ensures { result ≡ low_bytes length word }
@@ -52,7 +53,7 @@ pub enum KeyRef<'a> {
 }
 
 impl<'a> KeyRef<'a> {
-    /// The bytes of the key.
+    /// The bytes of the key: of a short one (`Short`) those that this value has, of a longer one (`Lent`) those in the map.
     pub fn bytes(&self) -> &[u8]
         ensures { result.now ≡ key_bytes self.now }
     {

@@ -5,54 +5,65 @@ ghost use Rattle.bpf_maps.specs.Laws.{SizesFitInParts, CallsAreThoseOfAMap, Writ
 ghost use Rattle.bpf_maps.specs.Laws.{ValuesAgree, ElementsAreWithin, AreasKeepElements, DeletesKeepElements};
 ghost use Rattle.bpf_maps.specs.InPart.{ValuesAreWritten, LiveMapsRefineValues};
 
-/// A law: `table_of` makes of a table of keys a map (`Table` of `tagged_model`) whose objects are elements. The map of a new table is a new
-/// map, and the map changes as `Table` defines for a map if the table gets a new key, loses a key or ends a run.
+/// A law: `table_of` makes a map (`Table` of `tagged_model`) of a table of keys; in this map the object of a key is the key's element. The
+/// map of a new table is a new map (`new`). If the table gets a new key (`update`), loses a key, whose element is then kept apart
+/// (`delete`), or ends a run (`end`), the map changes as `Table` defines these changes of a map.
 pub fn calls_are_those_of_a_map()
     ensures { CallsAreThoseOfAMap }
 {}
 
-/// A law: take a sound table of keys (`IsSound`) and the element that the table has for a key. If bytes are written as the value of this
-/// element, then in the map from keys to values the value of this key becomes these bytes, and nothing else changes. The argument of
-/// `WritesRefineValues` is the type of a value, a list of bytes.
+/// A law: if bytes are written as the value of a key's element, then in the map from keys to values this key has these bytes as its value,
+/// and nothing else changes. The table of keys has to be sound (`IsSound`), so that no two of its keys have the same element. The argument
+/// of `WritesRefineValues` is the type of a value: here a list of bytes. The law is a part of the refinement of maps: the table of
+/// elements, as stored, and the map of values, as meant, change alike.
 pub fn writes_refine_values()
     ensures { WritesRefineValues (List ℕ) }
 {}
 
-/// If two assignments of values to elements agree on each element that a key has, they make equal maps from keys to values: both if a value
-/// is a number (`numbers`) and if it is a list of bytes (`bytes`). In a sound table of keys (`IsSound`), an element that a key has, or that
-/// is kept apart, is less than `max_entries` (`within`).
+/// Laws: if two functions give the same value to each element that a key of a table has, the maps from keys to values that they make of the
+/// table are equal: `numbers` states this for values that are numbers, `bytes` for values that are lists of bytes. In a sound table
+/// (`IsSound`), an element that a key has, or that is kept apart, is less than `max_entries` (`within`).
 pub fn values_agree()
     ensures numbers { ValuesAgree ℕ }
     ensures bytes { ValuesAgree (List ℕ) }
     ensures within { ElementsAreWithin }
 {}
 
-/// If each live map has the shape, the start of its area and the distance from value to value that it had before, the value of each of its
-/// elements keeps its offset in the part.
+/// A law, for a change of a tenant's live maps. If each map that is live after the change was live before, with an equal shape, an equal
+/// start of its area and an equal distance from value to value (`SameAreas`), the value of each of its elements keeps its offset in the
+/// tenant's part (`offset_at`). Proofs use the law for an update and for the end of a run, which change no area.
 pub fn areas_keep_elements()
     ensures { AreasKeepElements }
 {}
 
 /// A law: a deletion frees no element. The element of the deleted key is kept apart, and only `end_run` frees it, after the run, or at once
-/// after a delete command. So how often an element belongs to a key or is kept apart, both counted together, does not change.
+/// after a delete command. So for each element the number of keys that have it, plus how often it is kept apart, is not changed by the
+/// removal of a key. Proofs about runs need this: an element to which a run has a pointer is still in use after the deletion of its key, so
+/// no other key gets it before the end of the run.
 pub fn deletes_keep_elements()
     ensures { DeletesKeepElements }
 {}
 
-/// For each shape of a map, the size of a key is at most `PART`, and the size of a value is at most `PART`.
+/// A law, for each shape that a map may have (`MapShape`): the size of a key and the size of a value are each at most `PART`, the size of a
+/// tenant's part. Helpers call it before they test whether the bytes of a key or a value lie in the part: the test compares their offset
+/// with `PART` less their size, a difference that can't be negative.
 pub fn sizes_fit_in_parts()
     ensures { SizesFitInParts }
 {}
 
-/// Once bytes are written as the value of an element of a live map, they are the value of this element, and of its key if it has one. No
-/// other value of a live map changes, nor do the stack and the context.
+/// A law, which `Tenant::update` of `tenant` needs: once bytes are written as the value of an element of a live map, they are the value of
+/// this element, and of its key if it has one. No other value of a live map changes, nor do the stack and the context. The premises
+/// (`IsValueAt`): the bytes are as many as a value of the map has, the element is less than `max_entries`, the part has `PART` bytes,
+/// values of live maps do not overlap, and no two keys of a map have the same element.
 pub fn values_are_written()
     ensures { ValuesAreWritten }
 {}
 
-/// A law, the refinement of maps, for a change after which each live map has the shape and the area that it had before. If the table of
-/// keys of a live map is unchanged, its map of values is, too; if the table loses a key or ends a run, so does the map of values; and if
-/// the table claims an element for a key, and the element's value is then written, the map of values gets this value for the key.
+/// A law, the refinement of maps, for a change after which each live map has the shape and the area that it had before. A live map has a
+/// table of keys, with elements, and a map of values, with the bytes of these elements in the tenant's part. If the table is unchanged, the
+/// map of values is, too; if the table loses a key or ends a run, so does the map of values; and if the table claims an element for a key,
+/// and the element's value is then written, the map of values gets this value for the key. The proofs of `Tenant::update` and
+/// `Tenant::delete` use the law.
 pub fn live_maps_refine_values()
     ensures { LiveMapsRefineValues }
 {

@@ -46,8 +46,9 @@ impl LongIndex {
         Ok(LongIndex { map })
     }
 
-    /// Returns the element of a key; `None` if the key is absent. It is not inlined: else its caller would push registers to the stack,
-    /// which the look-up of a key of at most eight bytes (`WordIndex`) does not need.
+    /// Returns the element of a key; `None` if the key is absent. It is not inlined: else its caller, the look-up of a key of any size
+    /// (`KeyIndex::get`), would push registers to the machine's stack, which the look-up of a key of at most `LONGEST_WORD` bytes
+    /// (`WordIndex`) does not need.
     #[inline(never)]
     pub(crate) fn get(&self, key: &[u8]) -> Option<u32>
         ensures { result ≡ found key.now self.now.entries }
@@ -55,8 +56,10 @@ impl LongIndex {
         self.map.get(KeyBytes { bytes: key })
     }
 
-    /// Returns the key that follows a key; `None` if the key is the last, or the index has no keys. After an absent key, also one of
-    /// another size, the result is the first key.
+    /// Returns the key after `key` in the order in which the keys were added; `None` if `key` is the last, or the index has no keys. If the
+    /// index does not have `key`, which may also be of another size, the result is the first key, so a caller can go through all keys. By
+    /// the contract, the bytes of the returned key (`lent_key`) are those that the definition `key_after` gives for the entries of the
+    /// index.
     pub(crate) fn key_after(&self, key: &[u8]) -> Option<&[u8]>
         ensures { option_map lent_key result ≡ key_after key.now self.now.entries }
     {
@@ -64,8 +67,9 @@ impl LongIndex {
         Some(following.bytes())
     }
 
-    /// The key after that of `element`, or the first key if no element is given, with the element of the key that is returned. `None` if
-    /// no key follows, or if no key has `element`.
+    /// The key that follows the key of `element` in the order in which the keys were added, or the first key if `element` is `None`; and
+    /// the element of the returned key, by which the next call continues. The result is `None` if no key follows, if no key has `element`,
+    /// or if there are no keys.
     pub(crate) fn entry_after(&self, element: Option<u32>) -> Option<(&[u8], u32)>
         ensures { option_map lent_entry result ≡ next_entry element self.now.entries }
     {
@@ -73,8 +77,9 @@ impl LongIndex {
         Some((key.bytes(), element))
     }
 
-    /// Adds a key of at most 512 bytes, with its element, after all other keys. The key is absent, the element is less than the index's
-    /// bound, and no key has this element: `HashMap::add` provides that. No memory is allocated: `new` made room for `bound` keys.
+    /// Adds a key of at most `LONGEST_LONG` bytes (`short`), with its element, after all other keys. The key is absent, the element is less
+    /// than the index's bound (`within`), no key has this element (`free`), and there are fewer keys than the bound (`few`): `HashMap::add`
+    /// provides that. No memory is allocated: `new` made room for `bound` keys.
     pub(crate) fn insert(&mut self, key: &[u8], element: u32)
         requires short { length key.now ≤ LONGEST_LONG }
         requires absent { found key.now self.old.entries ≡ None }
@@ -87,7 +92,8 @@ impl LongIndex {
         self.map.insert(InlineKey::copy_of(key), element);
     }
 
-    /// Removes all keys, and keeps the memory.
+    /// Removes all keys, and keeps the memory for the keys of a new map (`HashMap::renew`). The bound of the elements, which was given to
+    /// `new`, is unchanged (`bound`).
     pub(crate) fn clear(&mut self)
         ensures entries { self.new.entries ≡ [] }
         ensures bound { self.new.bound ≡ self.old.bound }

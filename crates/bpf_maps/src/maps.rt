@@ -79,8 +79,9 @@ impl Model for Maps {
 }
 
 impl Maps {
-    /// Makes `Maps` without a live map. The keys of its hash maps will be hashed with this seed. Allocates room for `MAPS` maps, but not
-    /// for their keys. `AllocError`: out of memory.
+    /// Makes `Maps` without a live map: none of the `MAPS` handles has a map (`maps`, `none`), the areas take 0 bytes (`bytes`), and no new
+    /// map was ever refused memory (`refused`). The keys of its hash maps will be hashed with this seed. Allocates room for `MAPS` maps,
+    /// but not for their keys. `AllocError`: out of memory.
     pub fn new(alloc: Global, seed: HashSeed) -> Result<Maps, AllocError>
         ensures maps { IfOk result (λ new. new.maps ≡ replicate most_maps None) }
         ensures none { IfOk result (λ maps. (k : ℕ) → live_at maps k ≡ None) }
@@ -100,9 +101,10 @@ impl Maps {
         })
     }
 
-    /// A law: the values of all live maps lie in the part and don't overlap, their areas lie without gaps after the stack and the
-    /// context and take at most `LARGEST_SUM` bytes, no two keys of a live map have the same element, and there are `MAPS` handles.
-    /// It does nothing when it runs.
+    /// A law: the values of all live maps lie in the part and don't overlap (`laid`), their areas lie without gaps after the stack and the
+    /// context (`packed`) and take at most `LARGEST_SUM` bytes together (`bytes`), the table of keys of each live map is sound, so no two
+    /// of its keys have the same element (`sound`), and there are `MAPS` handles (`maps`). It does nothing when it runs: only the proofs of
+    /// its callers use it.
     #[inline(always)]
     pub fn maps_are_laid(&self)
         ensures laid { IsLaid self.now }
@@ -114,8 +116,9 @@ impl Maps {
         let _ = &self.maps;
     }
 
-    /// The live map of a handle, as the slab `maps` stores it. The slab finds the map by a key that the slab chose (`SlabKeys`), not by the
-    /// handle; such a key is no key of an entry.
+    /// The live map of a handle, as the slab `maps` stores it. The contract requires that the handle has a live map; `live_of` is what
+    /// contracts see of a stored map. The slab finds the map not by the handle, but by a key that the slab chose for it (`SlabKeys`). Such
+    /// a key has nothing to do with the keys by which programs find values.
     #[inline(always)]
     pub(crate) fn stored(&self, map: MapKey) -> &StoredMap
         requires { IsSome (live_at self.now map) }
@@ -125,9 +128,10 @@ impl Maps {
         &self.maps[key]
     }
 
-    /// The offset of an element's value in the tenant's part, in bytes. `stored` is the live map that has the element; its handle, `map`,
-    /// is only for the contract. The value lies there after the stack and the context (`inside`). By `laid` the values of all live maps lie
-    /// in the part and do not overlap.
+    /// The offset of an element's value in the tenant's part, in bytes, for callers that have found the map in the slab. `stored` is this
+    /// live map, which has the element, a number less than its `max_entries`; its handle, `map`, is only for the contract. The value lies
+    /// in the part after the stack and the context, and the offset is a multiple of eight (`inside`). By `laid` the values of all live maps
+    /// lie in the part and do not overlap.
     #[inline(always)]
     fn offset_in(&self, map: MapKey, stored: &StoredMap, element: u32) -> usize
         requires stored { live_at self.now map ≡ Some (live_of stored.now) }
@@ -140,14 +144,16 @@ impl Maps {
         stored.start + element as usize * stored.stride
     }
 
-    /// Creates a map with one reference and the lowest free handle. In `part`, the tenant's part of `PART` bytes, the map gets its own area
-    /// after the areas of the live maps. A hash map has no keys, and the values of an array are zero bytes. The maps that were live, and
-    /// their values, are unchanged.
+    /// Creates a map with one reference and the lowest free handle (`created`). In `part`, the tenant's part of `PART` bytes, the map gets
+    /// its own area after the areas of the live maps (`last`), whose sum grows by it (`more`). A hash map has no keys, and the values of an
+    /// array are zero bytes (`cleared`, `fresh`). The maps that were live are unchanged (`older`), and so are their values (`values`,
+    /// `maps`), and the stack and the context before the areas (`front`). The values of all live maps do not overlap (`laid`).
     ///
     /// # Errors
     ///
-    /// `NoSpace` if no handle is free, or if the areas of all live maps and the new one would take more than `LARGEST_SUM` bytes together;
-    /// else `Memory` if out of memory for a hash map: then `refused` is true. On an error no map and no byte of `part` has changed.
+    /// `NoSpace` if no handle is free, or if the areas of all live maps and the new one would take more than `LARGEST_SUM` bytes together
+    /// (`create_fault`); else `Memory` if out of memory for a hash map: then `refused` is true. On an error no map and no byte of `part`
+    /// has changed.
     pub fn create(&mut self, shape: MapShape, part: &mut [u8]) -> Result<MapKey, MapFault>
         requires { length part.old ≡ PART }
         ensures created { Creates (create_fault self.old shape) self.old shape result self.new }
@@ -199,8 +205,10 @@ impl Maps {
         Ok(MapKey { handle })
     }
 
-    /// Adds one reference to a live map. The map has fewer than 2^32 - 1 references, so the sum fits in 32 bits; callers know this, since
-    /// each open object of a tenant refers to a map at most once.
+    /// Adds one reference to a live map, for a program that is opened and names the map. Only the number of references to this map changes
+    /// (`more`, `holds`): the other maps (`others`), all areas (`areas`, `room`) and the flag `refused` do not, and the values of all live
+    /// maps still lie in the part and don't overlap (`laid`). By `few` the map has fewer than 2^32 - 1 references, so the sum fits in 32
+    /// bits; callers know this, since each open object of a tenant refers to a map at most once.
     pub fn hold(&mut self, map: MapKey)
         requires live { IsSome (live_at self.old map) }
         requires few { holds_at self.old map < 2 ^ 32 - 1 }
@@ -221,8 +229,10 @@ impl Maps {
         stored.holds += 1;
     }
 
-    /// Drops one reference to a live map; the last frees the map, its handle and its area. In `part`, the tenant's part of `PART` bytes,
-    /// the later areas then move down by the size of the freed area, and their maps keep their elements, keys and values.
+    /// Drops one reference to a live map (`less`); the last (`holds_at`, their number, is at most 1) frees the map, its handle and area. In
+    /// `part`, the tenant's part of `PART` bytes, the later areas then move down by the size of that area (`moved`). Other maps keep their
+    /// elements, keys and values (`others`, `values`, `maps`), as does the map if it has more references (`kept`); then no area changes.
+    /// `held_at` is a map without its area: its table of keys, and `holds_at`. The stack, the context and `refused` do not change.
     pub fn release(&mut self, map: MapKey, part: &mut [u8])
         requires live { IsSome (live_at self.old map) }
         requires length { length part.old ≡ PART }
@@ -262,14 +272,17 @@ impl Maps {
         self.spares.keep(gone.map);
     }
 
-    /// Whether memory was ever refused to a new map.
+    /// Whether memory was ever refused to a new map: `create` returned `Memory` for a hash map. Once true, this is never false again. The
+    /// tenant's replies may then differ from those of its machine without refusals, so the crate `tenant` reads this
+    /// (`memory_was_refused`).
     pub fn refused(&self) -> bool
         ensures { result ≡ self.now.refused }
     {
         self.refused
     }
 
-    /// Whether the handle has a live map.
+    /// Whether the handle has a live map. It has none before its first map is created, and from the release that frees its map until a new
+    /// map gets the handle.
     #[inline(always)]
     pub fn is_live(&self, map: MapKey) -> bool
         ensures { result ≡ is_some (live_at self.now map) }
@@ -279,7 +292,7 @@ impl Maps {
         self.keys.get(map.handle).is_some()
     }
 
-    /// The shape of a live map.
+    /// The shape of a live map, by its handle: its kind, the sizes of its keys and of its values in bytes, and its maximum of entries.
     #[inline(always)]
     pub fn shape(&self, map: MapKey) -> MapShape
         requires { IsSome (live_at self.now map) }
@@ -288,9 +301,11 @@ impl Maps {
         self.stored(map).map.shape()
     }
 
-    /// The offset of a map's first value in the tenant's part, in bytes, and the map's `Elements` as one number (`Elements::word`). Its low
-    /// 32 bits are how many elements a run finds without reading the map, 0 for a hash map; its high 32 bits are the distance in bytes from
-    /// the start of one value to that of the next. `None` if the map is not live.
+    /// Returns what a run's table of maps has of a map: the offset of its first value in the tenant's part, in bytes and at most `PART`
+    /// (`inside`), and its `Elements` as one number (`Elements::word`). The low 32 bits of the number are how many elements a run finds
+    /// without reading the map: `max_entries` of an array, 0 of a hash map, as only that map itself finds the element of a key. The high 32
+    /// bits are the distance in bytes from the start of one value to that of the next. `None` exactly if the map is not live (`live`,
+    /// `none`).
     #[inline(always)]
     pub fn first_and_elements(&self, map: MapKey) -> Option<(usize, u64)>
         ensures live { IsSome (live_at self.now map)
@@ -306,8 +321,9 @@ impl Maps {
         Some((stored.start, stored.elements))
     }
 
-    /// The offset of an element's value in the tenant's part, in bytes. The map is live, and has the element: `find`, `claim` and
-    /// `entry_after` return such elements. The values of all live maps lie in the part, after the stack and the context, and don't overlap.
+    /// The offset of an element's value in the tenant's part, in bytes. The map is live, and `element` is below its `max_entries`, as are
+    /// the elements that `find`, `claim` and `entry_after` return. The value lies in the part, after the stack and the context, at a
+    /// multiple of eight (`inside`). So do the values of all live maps, and they don't overlap (`laid`).
     #[inline(always)]
     pub fn value_at(&self, map: MapKey, element: u32) -> usize
         requires live { IsSome (live_at self.now map) }
@@ -319,8 +335,9 @@ impl Maps {
         self.offset_in(map, self.stored(map), element)
     }
 
-    /// The element of a key in a live map; `None` if the map doesn't have the key. The caller has checked that the key has the size of
-    /// the map's keys.
+    /// The element of `key` in the live map of the handle `map`; `None` if the map doesn't have the key. The caller has checked that the
+    /// key has the size of the map's keys (`size`). The element is less than `max_entries` (`within`), as `value_at` requires, and no two
+    /// keys of the map have the same element (`sound`).
     #[inline(always)]
     pub fn find(&self, map: MapKey, key: &[u8]) -> Option<u32>
         requires live { IsSome (live_at self.now map) }
@@ -333,7 +350,8 @@ impl Maps {
     }
 
     /// The address of a key's value in a live map, modulo 2^64, if the tenant's part begins at address `part`; 0 if the map doesn't have
-    /// the key. The key has the size of the map's keys. The value lies in the part.
+    /// the key. A look-up by a run returns this word. The key has the size of the map's keys (`size`). By `inside` the value lies in the
+    /// part, after the stack and the context, at a multiple of eight bytes.
     #[inline(always)]
     pub fn address_of(&self, map: MapKey, key: &[u8], part: u64) -> u64
         requires live { IsSome (live_at self.now map) }
@@ -350,15 +368,17 @@ impl Maps {
         }
     }
 
-    /// Claims an element of a live map for a key, which has the size of the map's keys, and returns it; the caller then writes the value
-    /// there. A present key keeps its element. A new key becomes the last of the map's entries, and gets any element that is not in use.
+    /// Claims an element of a live map for a key, which has the size of the map's keys, and returns it, as the first step of an update: the
+    /// caller then writes the value there. A present key keeps its element. A new key becomes the last of the map's entries, and gets any
+    /// element that is not in use. The result and the new keys follow from the `verdict` on the update (`claimed`). The element is one of
+    /// the map (`within`). Only this map's keys and their elements may change (`rest`), not the flag of refused memory (`refused`).
     ///
     /// # Errors
     ///
     /// Those of an update (bpf(2), BPF_MAP_UPDATE_ELEM): `Invalid` if `flags` is none of `ANY`, `NOEXIST` and `EXIST`, 0 to 2; for a
-    /// present key, `Exists` if `flags` is `NOEXIST`; for an absent key of an array, `TooBig`; for an absent key of a hash map,
-    /// `NoEntry` if `flags` is `EXIST`, else `TooBig` if the map is full; elements that are kept apart count, too. Then no map has
-    /// changed. Takes no memory.
+    /// present key, `Exists` if `flags` is `NOEXIST`; for an absent key of an array, an index that is too large, `TooBig`; for an absent
+    /// key of a hash map, `NoEntry` if `flags` is `EXIST`, else `TooBig` if the map is full. An element that is kept apart counts as in
+    /// use. On an error no map has changed. Takes no memory.
     #[inline(always)]
     pub fn claim(&mut self, map: MapKey, key: &[u8], flags: u64) -> Result<u32, MapFault>
         requires live { IsSome (live_at self.old map) }
@@ -375,8 +395,9 @@ impl Maps {
         stored.map.claim(key, flags)
     }
 
-    /// Removes a key, which has the size of the map's keys, from a live map. Its element is kept apart: no key gets it until the caller
-    /// calls `end_run`, at the end of the run, or at once if no run is in progress. Takes no memory.
+    /// Removes a key, which has the size of the map's keys, from a live map. Its element is kept apart (`removed`): no key gets it until
+    /// the caller calls `end_run`, at the end of the run, or at once if no run is in progress. `rest`: the other maps, and this map's area
+    /// and references, are unchanged. It takes no memory, so `refused`, the flag that memory was refused to a new map, is unchanged too.
     ///
     /// # Errors
     ///
@@ -395,9 +416,10 @@ impl Maps {
         stored.map.remove(key)
     }
 
-    /// Returns the key of the map that follows `key`, or the first key if `key` is absent or has another size. The order is that of the
+    /// Returns the key that comes after `key` in `map`, or the first key if `key` is absent or has another size. The order is that of the
     /// indices in an array, and that in which the keys were added in a hash map. `None` after the last key, in a map without keys, and if
-    /// the map isn't live.
+    /// the map isn't live. `given`: the bytes of the result are those of the definition of MAP_GET_NEXT_KEY (`next_of`). `size`: a returned
+    /// key has the size of the map's keys. The result may be borrowed from the map (`KeyRef`); `next_key` copies the key into a buffer.
     pub fn key_after(&self, map: MapKey, key: &[u8]) -> Option<KeyRef<'_>>
         ensures given { option_map key_bytes result
             ≡ next_of (table_of (keys_at self.now map)) key.now }
@@ -410,8 +432,10 @@ impl Maps {
         self.stored(map).map.key_after(key)
     }
 
-    /// The key after that of `element`, or the first key if no element is given, with the element of the key that is returned. `None` if
-    /// no key follows, if no key has `element`, or if the map isn't live.
+    /// The key after that of `element`, or the first key if `element` is `None`; with the element of the returned key, which callers pass
+    /// to get the key after it. The order is that of the indices in an array, and that in which the keys were added in a hash map. `None`
+    /// if no key follows, if no key has `element`, or if the map isn't live. `entry` sees the returned key as its bytes (`shown_entry`). By
+    /// `within` the returned element is below `max_entries`, so it has a value in the map's area.
     pub fn entry_after(&self, map: MapKey, element: Option<u32>) -> Option<(KeyRef<'_>, u32)>
         ensures entry { option_map shown_entry result
             ≡ next_entry element (keys_at self.now map).entries }
@@ -424,8 +448,10 @@ impl Maps {
         self.stored(map).map.entry_after(element)
     }
 
-    /// Writes the key that follows `key` in a live map to the start of `next`, which has room for the longest key. If `key` is empty, or
-    /// the map does not have it, the first key is written. A `key` that is not empty has the size of the map's keys.
+    /// Writes the key that follows `key` in a live map to the start of `next`, which has room for the longest key; the bytes after it are
+    /// unchanged. The order is that of the indices in an array, and that of insertion in a hash map. If `key` is empty, or the map does not
+    /// have it, the first key is written. A `key` that is not empty has the size of the map's keys (`size`). While `key_after` lends the
+    /// stored key, this is a copy.
     ///
     /// # Errors
     ///
@@ -444,7 +470,9 @@ impl Maps {
         self.stored(map).map.next_key(key, next)
     }
 
-    /// Ends a run on a live map: the elements that were kept apart are free again. Takes no memory.
+    /// Ends a run on a live map: the elements that were kept apart, those of keys that the run deleted, are free again (`ended`). The
+    /// delete command, which is outside a run, calls this at once. Takes no memory, and leaves the flag of refused memory as it is
+    /// (`refused`). `rest`: no other map changes, and the map is live as before, with the same shape, area and number of references.
     pub fn end_run(&mut self, map: MapKey)
         requires { IsSome (live_at self.old map) }
         ensures ended { keys_at self.new map ≡ after_run (keys_at self.old map) }

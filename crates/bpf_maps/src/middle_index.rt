@@ -36,8 +36,8 @@ impl Model for MiddleIndex {
 }
 
 impl MiddleIndex {
-    /// Makes an index without keys, for elements less than `bound`. Allocates memory for `bound` keys, which are hashed with the seed.
-    /// `AllocError`: out of memory.
+    /// Makes an index without keys, for elements less than `bound`. Allocates memory for `bound` keys, one for each element, so that
+    /// `insert` needs none. The keys are hashed with `seed`. `AllocError`: out of memory.
     pub(crate) fn new(alloc: Global, bound: u32, seed: HashSeed) -> Result<MiddleIndex, AllocError>
         ensures bound { IfOk result (λ index. index.bound ≡ bound) }
         ensures entries { IfOk result (λ index. index.entries ≡ []) }
@@ -46,8 +46,9 @@ impl MiddleIndex {
         Ok(MiddleIndex { map })
     }
 
-    /// Returns the element of a key; `None` if the key is absent. It is not inlined: else its caller would push registers to the stack,
-    /// which the look-up of a key of at most eight bytes (`WordIndex`) does not need.
+    /// Returns the element of the key that has these bytes (`found`); `None` if the key is absent, as is each of more than `LONGEST_MIDDLE`
+    /// bytes. The function is not inlined: else its caller, which also looks up keys of at most `LONGEST_WORD` bytes (`WordIndex`), would
+    /// save machine registers on the machine's stack for these too, and their look-up does not need that.
     #[inline(never)]
     pub(crate) fn get(&self, key: &[u8]) -> Option<u32>
         ensures { result ≡ found key.now self.now.entries }
@@ -55,8 +56,9 @@ impl MiddleIndex {
         self.map.get(KeyBytes { bytes: key })
     }
 
-    /// Returns the key that follows a key; `None` if the key is the last, or the index has no keys. After an absent key, also one of
-    /// another size, the result is the first key.
+    /// Returns the key that follows `key` in the order in which the keys were added; `None` if `key` is the last, or the index has no keys.
+    /// After an absent key, also one of another size, the result is the first key. The result is borrowed from the index: `lent_key` is its
+    /// bytes. MAP_GET_NEXT_KEY replies with it.
     pub(crate) fn key_after(&self, key: &[u8]) -> Option<&[u8]>
         ensures { option_map lent_key result ≡ key_after key.now self.now.entries }
     {
@@ -64,8 +66,9 @@ impl MiddleIndex {
         Some(following.bytes())
     }
 
-    /// The key that follows the key of `element` in the order of insertion, or the first key if `element` is `None`; and the element of the
-    /// returned key. `None` if no key follows, if no key has `element`, or if the index has no keys.
+    /// Returns the key that follows the key of `element` in the order of insertion, or the first key if `element` is `None`, with the
+    /// element of the returned key. So a save lists all keys, by one call for each. `None` if no key follows, if no key has `element`, or
+    /// if the index has no keys. In the contract, `lent_entry` takes the borrowed key as its bytes.
     pub(crate) fn entry_after(&self, element: Option<u32>) -> Option<(&[u8], u32)>
         ensures { option_map lent_entry result ≡ next_entry element self.now.entries }
     {
@@ -73,8 +76,9 @@ impl MiddleIndex {
         Some((key.bytes(), element))
     }
 
-    /// Adds a key of at most 64 bytes at the end. The caller has found the key absent, and gives it an element less than the index's bound
-    /// that no key has (`HashMap::add`). It allocates nothing: `new` made room for `bound` keys.
+    /// Adds a key of at most `LONGEST_MIDDLE` bytes, with its element, after all other keys. The key is absent (`absent`), the element is
+    /// less than the index's bound (`within`), no key has this element (`free`), and the index has fewer keys than its bound (`few`):
+    /// `HashMap::add` provides that. No memory is allocated: `new` made room for `bound` keys.
     pub(crate) fn insert(&mut self, key: &[u8], element: u32)
         requires short { length key.now ≤ LONGEST_MIDDLE }
         requires absent { found key.now self.old.entries ≡ None }
@@ -87,7 +91,8 @@ impl MiddleIndex {
         self.map.insert(InlineKey::copy_of(key), element);
     }
 
-    /// Removes all keys, and keeps the memory that `new` allocated for `bound` keys. Elements are less than `bound`, as before the call.
+    /// Removes all keys. The memory that `new` allocated is kept, since a new map takes it over (`HashMap::renew`): as before the call, the
+    /// index has room for `bound` keys, each with an element less than `bound`.
     pub(crate) fn clear(&mut self)
         ensures entries { self.new.entries ≡ [] }
         ensures bound { self.new.bound ≡ self.old.bound }

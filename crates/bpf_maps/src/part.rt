@@ -25,7 +25,8 @@ pub const PART: usize = STACK_AND_CONTEXT + LARGEST_SUM;
 /// The room for the key that a request for the next key returns: the length of the longest key, in bytes.
 pub const KEY_ROOM: usize = LONGEST_KEY as usize;
 
-/// Writes `size` zeros at offset `start` of a part, in which they lie.
+/// Writes `size` zeros into a tenant's part, from the offset `start` on; the other bytes are unchanged. All zeros have to lie in the part.
+/// `Maps::create` clears the area of a new map by this, so that the values of a new array are zeros.
 pub(crate) fn clear(part: &mut [u8], start: usize, size: usize)
     requires { start + size ≤ length part.old }
     ensures { part.new ≡ take start part.old ++ (replicate size 0 ++ drop (start + size) part.old) }

@@ -28,7 +28,9 @@ impl Model for SlabKeys {
 }
 
 impl SlabKeys {
-    /// The slab's keys by handle, if the slab has no map yet: no handle has a key.
+    /// The keys of a slab that has no map yet: none of the `MAPS` handles has a key. A slab stores a tenant's live maps, and finds each by
+    /// a number that the slab chooses, here called its key: neither the handle of the map nor a key in the map. In the clause, `None` is a
+    /// handle without a key (`NO_KEY` in `words`).
     pub(crate) fn new() -> SlabKeys
         ensures { result ≡ replicate most_maps None }
     {
@@ -37,7 +39,9 @@ impl SlabKeys {
         }
     }
 
-    /// The key under which the slab has the map of a handle; `None` if the handle has no map, or is `MAPS` or more.
+    /// The key, a number, under which the slab stores the map of a handle; `None` if the handle has no map. It is `None` also if the handle
+    /// is `MAPS` or more: for an index past the end of the list `self.now`, `slice_index_or` gives its last argument. Callers use `get` if
+    /// the handle may have no map, and `key` if it has one.
     #[inline(always)]
     pub(crate) fn get(&self, handle: usize) -> Option<usize>
         ensures { result ≡ slice_index_or self.now handle None }
@@ -48,8 +52,10 @@ impl SlabKeys {
         }
     }
 
-    /// The key under which the slab has the map of a handle. The handle has a map: so it is less than `MAPS`, and its word is this key, not
-    /// `NO_KEY`.
+    /// The key under which the slab has the map of a handle. By the precondition the handle has a map: so it is less than `MAPS`, and its
+    /// word is this key, not `NO_KEY`. Contracts see the words as options: `slice_index_or self.now handle None` is the key of the handle,
+    /// or `None` if it has no map. `get` returns this option, for a caller that does not know whether the handle has a map; here nothing is
+    /// tested.
     #[inline(always)]
     pub(crate) fn key(&self, handle: usize) -> usize
         requires { IsSome (slice_index_or self.now handle None) }
@@ -59,14 +65,16 @@ impl SlabKeys {
         words[handle]
     }
 
-    /// The lowest handle without a map, for which the slab has no key; `None` if each of the `MAPS` handles has a map.
+    /// The lowest handle that has no map, and so no key of the slab: a new map gets it. `None` if each of the `MAPS` handles has a map.
     pub(crate) fn free_handle(&self) -> Option<usize>
         ensures { result ≡ position is_none self.now }
     {
         first_without_key(&self.words)
     }
 
-    /// Sets the slab's key of a handle, which is less than `MAPS`. The key is not `NO_KEY`.
+    /// Sets `key` as the key under which the slab has the map of `handle`, instead of any key that was set before. `create` of `Maps` calls
+    /// this for a new map. `handle`: it is less than `MAPS`. `key`: it is less than `NO_KEY`, the greatest `usize`, which means no key;
+    /// each key of a slab is less than the slab's capacity.
     pub(crate) fn put(&mut self, handle: usize, key: usize)
         requires handle { handle < most_maps }
         requires key { key < NO_KEY }
@@ -84,7 +92,8 @@ impl SlabKeys {
     }
 }
 
-/// The key of the slab in `word`, the word of a handle in `SlabKeys`; `None` if `word` is `NO_KEY`, since the handle then has no map.
+/// What `word`, the entry of a handle in `SlabKeys`, says: the key by which the slab finds the map of this handle, which is `word` itself;
+/// `None` if the handle has no map: then `word` is `NO_KEY`, which is no key of a slab.
 #[inline(always)]
 fn key_of(word: usize) -> Option<usize>
     ensures { result ≡ key_in word }
@@ -92,8 +101,9 @@ fn key_of(word: usize) -> Option<usize>
     if word == NO_KEY { None } else { Some(word) }
 }
 
-/// The index of the first word that is `NO_KEY`. The words are by handle, so this is the lowest handle without a map. `None` if each handle
-/// has a map.
+/// The lowest handle without a map; `None` if each of the `MAPS` handles has a map. `words` has for each handle the key under which the
+/// slab has its map, or `NO_KEY` if it has none, so this is the index of the first word that is `NO_KEY`. In the contract, `key_in` is the
+/// key of a word, `None` for `NO_KEY`.
 fn first_without_key(words: &[usize; MAPS]) -> Option<usize>
     ensures { result ≡ position (λ word. is_none (key_in word)) words.now }
 {

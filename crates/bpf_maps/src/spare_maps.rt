@@ -31,8 +31,9 @@ pub(crate) const NO_HASH_MAPS: LiveHashMaps = LiveHashMaps {
 };
 
 impl LiveHashMaps {
-    /// These live hash maps and one more, whose `max_entries` is `entries`. The additions saturate, but a tenant has at most `MAPS` live
-    /// maps, each with a `max_entries` of 32 bits, so its sums never reach the largest number.
+    /// The counts of these live hash maps and one more, whose `max_entries` is `entries`: one more map, and a sum of all `max_entries` that
+    /// is greater by `entries`. The additions saturate, but a tenant has at most `MAPS` live maps, each with a `max_entries` of 32 bits, so
+    /// its sums never reach the largest number.
     pub(crate) fn with(self, entries: u32) -> LiveHashMaps {
         LiveHashMaps {
             maps: self.maps.saturating_add(1),
@@ -52,14 +53,16 @@ pub struct SpareMaps {
 }
 
 impl SpareMaps {
-    /// No spare maps. Allocates room for `MAPS` of them. `AllocError`: out of memory.
+    /// Makes the list of a tenant's spare maps, without maps yet, and with room for `MAPS` (16) entries, so that `keep` allocates nothing
+    /// when a map is closed. `AllocError`: out of memory.
     pub(crate) fn with_room(alloc: Global) -> Result<SpareMaps, AllocError> {
         let maps = Vec::with_capacity(alloc, MAPS)?;
         Ok(SpareMaps { maps })
     }
 
-    /// Keeps a hash map that is no longer live, so that a new one can reuse its memory. An array has no memory to keep, and is dropped. The
-    /// call allocates nothing.
+    /// Keeps a hash map that is no longer live among the spare maps, so that a new one can reuse its memory. An array is dropped: it has no
+    /// memory of its own, since its values lie in the tenant's part. `release` of `Maps` calls this when the last reference to a map is
+    /// released. The call allocates nothing, since the list of spare maps has room from the start.
     #[inline(always)]
     pub(crate) fn keep(&mut self, map: BpfMap) {
         if let BpfMap::Hash(map) = map {
@@ -67,8 +70,9 @@ impl SpareMaps {
         }
     }
 
-    /// Keeps a hash map, if the list has room for one more, and else frees it. The list always has room (`SpareMaps`), which is not proved.
-    /// This function is not inlined, so that `keep`, if the map is an array, neither makes a call nor copies the map's struct.
+    /// Keeps a hash map, if the list has room for one more, and else frees it. The list always has room, since it has room for `MAPS` maps,
+    /// and the spare and the live hash maps of a tenant are together at most `MAPS`; this is not proved. The function is not inlined, so
+    /// that `keep`, if the map is an array, neither makes a call nor copies the map's struct.
     #[cold]
     #[inline(never)]
     fn keep_hash_map(&mut self, map: HashMap) {
@@ -77,9 +81,11 @@ impl SpareMaps {
         }
     }
 
-    /// Makes a hash map of this shape, without keys. If a spare map has the same key size and `max_entries`, the new map has the memory and
-    /// the seed of this spare map. Else the function frees spare maps while they, the live hash maps (`live`) and the new one are too many
-    /// (`has_room`), and allocates a map with `seed`. It is not inlined, since a new hash map is rare. `AllocError`: out of memory.
+    /// Makes a hash map of this shape, without keys (`new_keys`); the shape's kind has to be `Hash`. If a spare map, a hash map that is no
+    /// longer live, has the same key size and `max_entries`, the new map takes its memory and its seed. Otherwise the new map is allocated,
+    /// with `seed`. Before that, spare maps are freed until those left, the live hash maps (`live`) and the new map are at most `MAPS`, and
+    /// the sum of their `max_entries` is at most `MOST_ENTRIES_TOGETHER` (`has_room`), or no spare map is left. The function is not
+    /// inlined, since a new hash map is rare. `AllocError`: out of memory.
     #[cold]
     #[inline(never)]
     pub(crate) fn hash_map(
@@ -113,7 +119,9 @@ impl SpareMaps {
         None
     }
 
-    /// The sum of the `max_entries` of the spare maps, which `has_room` and `excess` compare with `MOST_ENTRIES_TOGETHER`.
+    /// The sum of the `max_entries` of the spare maps. `has_room` and `excess` add that of the live hash maps and a new one, and compare
+    /// the total with `MOST_ENTRIES_TOGETHER`. The additions saturate, but there are at most `MAPS` spare maps (`SpareMaps`), each with a
+    /// `max_entries` of 32 bits, so the sum never reaches the largest number; this is not proved.
     fn max_entries_sum(&self) -> usize {
         let mut sum: usize = 0;
         for at in 0..self.maps.len() {
@@ -122,22 +130,26 @@ impl SpareMaps {
         sum
     }
 
-    /// Whether the spare maps and the hash maps that `live` counts are together at most `MAPS`, and the sum of their `max_entries` is at
-    /// most `MOST_ENTRIES_TOGETHER`. Within these bounds a tenant takes no more memory than one whose hash maps are all live.
+    /// Whether the spare maps and the hash maps that `live` counts (the live ones, and a new one that needs memory) are together at most
+    /// `MAPS`, and the sum of their `max_entries` is at most `MOST_ENTRIES_TOGETHER`. Within these bounds a tenant takes no more memory
+    /// than one whose hash maps are all live. While the result is `false`, `make_room` frees spare maps, if any are left. A sum that
+    /// saturates exceeds its bound.
     fn has_room(&self, live: LiveHashMaps) -> bool {
         self.maps.len().saturating_add(live.maps) <= MAPS
             && self.max_entries_sum().saturating_add(live.entries) <= MOST_ENTRIES_TOGETHER
     }
 
-    /// By how much the sum of the `max_entries` of the spare maps and of these live ones exceeds `MOST_ENTRIES_TOGETHER`; 0 if it does not.
+    /// By how much the sum of the `max_entries` of the spare maps and of the maps that `live` counts exceeds `MOST_ENTRIES_TOGETHER`; 0 if
+    /// it does not. `next_to_free` chooses a spare map whose `max_entries` is at least the result, if there is one.
     fn excess(&self, live: LiveHashMaps) -> usize {
         let entries = self.max_entries_sum().saturating_add(live.entries);
         entries.saturating_sub(MOST_ENTRIES_TOGETHER)
     }
 
-    /// Frees spare maps until the spare maps left and the maps that `live` counts have room together (`has_room`), or no spare map is left.
-    /// `live` counts the live hash maps and the new one. Each turn of the loop frees at most one map, and once a turn frees none, no later
-    /// turn does.
+    /// Frees spare maps until they and the maps that `live` counts, the live hash maps and the new one, have room together (`has_room`), or
+    /// no spare map is left. They have room if they are at most `MAPS` and the sum of their `max_entries` is at most
+    /// `MOST_ENTRIES_TOGETHER`. Each turn of the loop frees at most one map, and once a turn frees none, no later turn does; so as many
+    /// turns suffice as there are spare maps.
     fn make_room(&mut self, live: LiveHashMaps) {
         for _ in 0..self.maps.len() {
             if !self.maps.is_empty() && !self.has_room(live) {
@@ -147,9 +159,11 @@ impl SpareMaps {
         }
     }
 
-    /// The index of the spare map to free if the sum of the `max_entries` of all maps is too large by `excess`: of the spare maps whose
-    /// `max_entries` is at least `excess`, the one whose keys take the least memory; if there is none, the one with the greatest
-    /// `max_entries`. If `excess` is 0, only the number of maps is too large. The caller has found that there is a spare map.
+    /// The index of the spare map to free next, if the `max_entries` of the spare maps and of the live hash maps have a sum that is too
+    /// large by `excess`. If `excess` is 0, only the number of maps is too large. A map suffices if its `max_entries` is at least `excess`
+    /// (`HasEntries`). Of the spare maps that suffice, the result is the one whose keys take the least memory when it is full; if none
+    /// suffices, the one with the greatest `max_entries`. By `suffices`, the result suffices if a spare map at any index (`at`) does. The
+    /// caller has found that there is a spare map.
     fn next_to_free(&self, excess: usize) -> usize
         requires { 0 < vec_len self.now.maps }
         ensures within { result < vec_len self.now.maps }
@@ -166,9 +180,11 @@ impl SpareMaps {
     }
 }
 
-/// Whether a map of `shape` is freed rather than one of `other`, if the sum of all `max_entries` is too large by `excess`. A map suffices
-/// if its `max_entries` is `excess` or more: without this map the sum is small enough. If both suffice, the one is freed whose keys take
-/// less memory. If only one suffices, or none, the one with the greater `max_entries` is freed. `false` if they are equal in that.
+/// Whether `next_to_free` chooses a map of `shape` rather than one of `other`, if the sum of all `max_entries` is too large by `excess`. A
+/// map suffices if its `max_entries` is `excess` or more: without this map the sum is small enough. If only the number of maps is too
+/// large, `excess` is 0, and each map suffices. If both suffice, the one is chosen whose keys take less memory (`key_memory`), else the one
+/// with the greater `max_entries`; if they are equal in that, `other` (false). `freed`, `stays`: the map that is chosen, `shape` if true
+/// and `other` if false, suffices if at least one of the two does.
 fn is_freed_before(shape: MapShape, other: MapShape, excess: usize) -> bool
     ensures freed { result ≡ true → excess ≤ other.max_entries → excess ≤ shape.max_entries }
     ensures stays { result ≡ false → excess ≤ shape.max_entries → excess ≤ other.max_entries }
@@ -181,7 +197,9 @@ fn is_freed_before(shape: MapShape, other: MapShape, excess: usize) -> bool
     }
 }
 
-/// The memory for the keys of a full map, in bytes, by which `is_freed_before` compares maps.
+/// The memory for the keys of a full map of this shape, in bytes: `max_entries` keys, each in a number or an array of `room_of` bytes, as
+/// the index of the map keeps it. If either of two maps is enough to free, `is_freed_before` chooses the one with the smaller result. The
+/// product fits in 64 bits, as a key takes at most `LONGEST_LONG` bytes.
 fn key_memory(shape: MapShape) -> u64 {
     KeyIndex::room_of(shape.key_size as usize) as u64 * shape.max_entries as u64
 }

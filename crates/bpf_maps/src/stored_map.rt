@@ -22,8 +22,9 @@ pub(crate) struct StoredMap {
 }
 
 impl StoredMap {
-    /// Lowers the start of the area by `size` if the area begins at offset `end` or after it: the area of another map, the `size` bytes
-    /// before `end`, is gone.
+    /// Lowers the start of this map's area by `size` bytes if the area begins at offset `end` or after it; else nothing changes. It closes
+    /// the gap that a freed map leaves, whose area was the `size` bytes before `end`. So `size` is at most `end`, and the new start is not
+    /// below 0.
     fn close_up(&mut self, end: usize, size: usize)
         requires { size ≤ end }
         ensures { self.new ≡ closed_up end size self.old }
@@ -34,8 +35,10 @@ impl StoredMap {
     }
 }
 
-/// Lowers the start of the area of each map by `size` if the area begins at offset `end` or after it: the area of a freed map, the `size`
-/// bytes before `end`, is gone. `keys` has the slab's key of each map, by handle.
+/// Corrects the starts of the areas after a map was freed, and the later areas were moved down over its area, the `size` bytes before
+/// offset `end` of the part. Each start at `end` or after it becomes lower by `size`; nothing else of a map changes (`each`, by handle).
+/// `keys` has, by handle, the key under which the slab `maps` has the handle's map; by the clauses `keys` that is so before and after. By
+/// `capacity`, the slab has room for as many maps as before.
 pub(crate) fn close_gap(keys: &SlabKeys, maps: &mut Slab<StoredMap>, end: usize, size: usize)
     requires size { size ≤ end }
     requires keys { AreKeys keys.now maps.old }

@@ -25,7 +25,9 @@ pub trait ValueMap {
     /// The keys in order, each with its element, and the elements that are kept apart.
     ghost keys: { Self → KeyTable };
 
-    /// Returns the element of a key, which has the size of the map's keys; `None` if the key is absent.
+    /// Looks up a key, which has the size of the map's keys (`size`): returns its element, by which the caller finds the value (`element`),
+    /// or `None` if the key is absent. The element is less than `max_entries` (`within`). For the proof, `sound` is the invariant of the
+    /// keys, by which no two keys have the same element.
     fn find(&self, key: &[u8]) -> Option<u32>
         requires size { length key.now ≡ (keys self.now).shape.key_size }
         ensures element { result ≡ look_up (table_of (keys self.now)) key.now }
@@ -33,14 +35,16 @@ pub trait ValueMap {
         ensures sound { IsSound (keys self.now) };
 
     /// Claims an element for a key, which has the size of the map's keys, and returns it; the caller then writes the value there. A present
-    /// key keeps its element. A new key becomes the last of the map's entries, and gets any element that is not in use.
+    /// key keeps its element. A new key becomes the last of the map's entries, and gets any element that is not in use. The result and the
+    /// change of the keys are as the `verdict` on the update requires (`claimed`). The element is less than `max_entries` (`within`).
+    /// Afterwards the keys are sound: for example, no two have the same element (`sound`).
     ///
     /// # Errors
     ///
-    /// Those of an update (bpf(2), BPF_MAP_UPDATE_ELEM): `Invalid` if `flags` is none of `ANY`, `NOEXIST` and `EXIST`, 0 to 2; for a
-    /// present key, `Exists` if `flags` is `NOEXIST`; for an absent key of an array, `TooBig`; for an absent key of a hash map,
-    /// `NoEntry` if `flags` is `EXIST`, else `TooBig` if the map is full; elements that are kept apart count, too. Then nothing has
-    /// changed. Takes no memory.
+    /// Those of an update (bpf(2), BPF_MAP_UPDATE_ELEM): `Invalid` if `flags` is none of `ANY`, `NOEXIST` and `EXIST`. Else, for a present
+    /// key, `Exists` if `flags` is `NOEXIST`; for an absent key of an array, `TooBig`; for an absent key of a hash map, `NoEntry` if
+    /// `flags` is `EXIST`, else `TooBig` if the map is full: its keys, and the elements that are kept apart, are together `max_entries`.
+    /// After an error nothing has changed. Takes no memory.
     fn claim(&mut self, key: &[u8], flags: u64) -> Result<u32, MapFault>
         requires size { length key.now ≡ (keys self.old).shape.key_size }
         ensures claimed { Claims (verdict (table_of (keys self.old)) key.now flags) key.now
@@ -49,13 +53,14 @@ pub trait ValueMap {
         ensures shape { (keys self.new).shape ≡ (keys self.old).shape }
         ensures sound { IsSound (keys self.new) };
 
-    /// Removes a key, which has the size of the map's keys. Its element is kept apart until the run ends (`end_run`): until then no key
-    /// gets it. Takes no memory.
+    /// Deletes a key, which has the size of the map's keys (`size`). The other keys keep their order. The key's element is kept apart until
+    /// the run ends (`end_run`): until then no key gets it. `removed`: the result and the new table are those of a deletion by definition
+    /// (`removal` of `tagged_model`). `sound`: no element belongs to two keys, or to a key while it is kept apart. The shape is unchanged.
+    /// Takes no memory.
     ///
     /// # Errors
     ///
-    /// Those of a deletion (bpf(2), BPF_MAP_DELETE_ELEM): `Invalid` for an array, `NoEntry` if the key is absent. Then nothing has
-    /// changed.
+    /// Those of a deletion (bpf(2), BPF_MAP_DELETE_ELEM): `Invalid` for an array, `NoEntry` if the key is absent. Then nothing has changed.
     fn remove(&mut self, key: &[u8]) -> Result<(), MapFault>
         requires size { length key.now ≡ (keys self.old).shape.key_size }
         ensures removed { Removes (removal (table_of (keys self.old)) key.now) key.now
@@ -63,8 +68,10 @@ pub trait ValueMap {
         ensures shape { (keys self.new).shape ≡ (keys self.old).shape }
         ensures sound { IsSound (keys self.new) };
 
-    /// Returns the key that follows `key`, or the first key if `key` is absent or has another size. `None` after the last key, and in a map
-    /// without keys.
+    /// Returns the key that follows `key` in the order of the keys, or the first key if `key` is absent or has another size. `None` after
+    /// the last key, and in a map without keys. `given`: it is the key that the definition `next_of` gives. `size`: it has the size of the
+    /// map's keys, and so at most `KEY_ROOM` bytes (`short`). A key of at most eight bytes is returned by value, a longer one is borrowed
+    /// from the map; `next_key` copies the key into a buffer instead.
     fn key_after(&self, key: &[u8]) -> Option<KeyRef<'_>>
         ensures given { option_map key_bytes result
             ≡ next_of (table_of (keys self.now)) key.now }
@@ -72,12 +79,13 @@ pub trait ValueMap {
             length (key_bytes given) ≡ (keys self.now).shape.key_size) }
         ensures short { IfSome result (λ given. length (key_bytes given) ≤ KEY_ROOM) };
 
-    /// Writes the key that follows `key` to the start of `next`, which has room for the longest key. If `key` is empty or absent, the first
-    /// key is written. A `key` that is not empty has the size of the map's keys.
+    /// Writes the key that follows `key` in the map's order (`next_of`) to the start of `next`, which has room for the longest key; the
+    /// bytes of `next` after it are unchanged. If `key` is empty or absent from the map, the first key is written. A `key` that is not
+    /// empty has the size of the map's keys (`size`).
     ///
     /// # Errors
     ///
-    /// `NoEntry` if no key follows. Then `next` is unchanged.
+    /// `NoEntry` if no key follows: `key` is the last one, or the map has no keys. Then `next` is unchanged. `given` has both cases.
     fn next_key(&self, key: &[u8], next: &mut [u8; KEY_ROOM]) -> Result<(), MapFault>
         requires size { (key.now ≡ []) ⊎ (length key.now ≡ (keys self.now).shape.key_size) }
         ensures given { GivesKey (next_of (table_of (keys self.now)) key.now) next.old result
@@ -90,13 +98,16 @@ pub trait ValueMap {
         Ok(())
     }
 
-    /// Ends a run: the elements that were kept apart are free again. Takes no memory.
+    /// Ends a run on this map: the elements that were kept apart, those of deleted keys, are free again, so that `claim` may give them to
+    /// new keys. Keys and shape are unchanged (`ended`), and no two keys have the same element (`sound`). It is called after a run that has
+    /// called the deletion, and at once after a delete command. Takes no memory.
     fn end_run(&mut self)
         ensures ended { keys self.new ≡ after_run (keys self.old) }
         ensures sound { IsSound (keys self.new) };
 }
 
-/// Writes a key, of at most `KEY_ROOM` bytes, to the start of `next`. The bytes after it are unchanged.
+/// Writes a key to the start of `next`, which gets the key after another one (`next_key`). The bytes of `next` after the key are unchanged.
+/// The key has at most `KEY_ROOM` bytes, so it fits: `key_after` promises that (`short`).
 fn put_key(key: &[u8], next: &mut [u8; KEY_ROOM])
     requires { length key.now ≤ KEY_ROOM }
     ensures { next.new ≡ key.now ++ drop (length key.now) next.old }

@@ -55,8 +55,9 @@ impl WordIndex {
         Ok(WordIndex { size, map })
     }
 
-    /// Returns the element of a key, which has the index's size; `None` if the key is absent. It is not inlined: in one function with the
-    /// look-up of a longer key, it would also save the registers that only the longer key needs.
+    /// Returns the element of a key, which is as long as the keys of this index; `None` if the key is absent. The function is not inlined:
+    /// if the look-ups of short and of longer keys (`MiddleIndex`, `LongIndex`) were in one function, a look-up of a short key would also
+    /// save the machine registers that only a longer key needs.
     #[inline(never)]
     pub(crate) fn get(&self, key: &[u8]) -> Option<u32>
         requires { length key.now ≡ self.now.size }
@@ -65,8 +66,9 @@ impl WordIndex {
         self.map.get(&word_of(key))
     }
 
-    /// Returns the key that follows a key; `None` if the key is the last, or the index has no keys. After an absent key, also one of
-    /// another size, the result is the first key.
+    /// Returns the key that follows `key` in the order in which the keys were added; `None` if `key` is the last one, or the index has no
+    /// keys. If `key` is absent, the result is the first key, with which a walk over all keys begins. A key of another size is absent. It
+    /// is not looked up by its number (`word_of`), which a key of this index may have too, as 5 is the number of both [5] and [5, 0].
     pub(crate) fn key_after(&self, key: &[u8]) -> Option<ShortKey>
         ensures { result ≡ key_after key.now self.now.entries }
     {
@@ -78,8 +80,8 @@ impl WordIndex {
         Some(ShortKey::of_word(*word, self.size))
     }
 
-    /// The key that was added next after the key of `element`, or the first key if no element is given; and the element of the key that is
-    /// returned. `None` if no key follows, or if no key has `element`.
+    /// The key that follows the key of `element` in the order of insertion, or the first key if `element` is `None`; and the element of the
+    /// returned key. `None` if no key follows, if no key has `element`, or if the index has no keys.
     pub(crate) fn entry_after(&self, element: Option<u32>) -> Option<(ShortKey, u32)>
         ensures { result ≡ next_entry element self.now.entries }
     {
@@ -87,8 +89,10 @@ impl WordIndex {
         Some((ShortKey::of_word(*word, self.size), element))
     }
 
-    /// Adds a key, which has the size of this index's keys, at the end. The caller has found the key absent, and gives it an element less
-    /// than the index's bound that no key has (`HashMap::add`). It allocates nothing: `new` made room for `bound` keys.
+    /// Adds a key, which has the size of this index's keys, after all its other keys (`added`). The key is absent: `HashMap::add`, which
+    /// calls this function through `KeyIndex`, requires that. The element of the key is one that no key has (`free`). It is less than the
+    /// index's bound (`within`), and so is the number of keys (`few`), so there is room: `new` allocated memory for `bound` keys, and
+    /// nothing is allocated here.
     pub(crate) fn insert(&mut self, key: &[u8], element: u32)
         requires size { length key.now ≡ self.old.size }
         requires absent { found key.now self.old.entries ≡ None }
@@ -102,7 +106,8 @@ impl WordIndex {
         self.map.insert(word_of(key), element);
     }
 
-    /// Removes all keys, and keeps the memory.
+    /// Removes all keys, and keeps the memory, so that a new hash map can use it (`HashMap::renew`). The index is as after `new`: for keys
+    /// of `size` bytes, with room for `bound` keys, whose elements are less than `bound`.
     pub(crate) fn clear(&mut self)
         ensures entries { self.new.entries ≡ [] }
         ensures size { self.new.size ≡ self.old.size }
@@ -111,8 +116,9 @@ impl WordIndex {
         self.map.clear();
     }
 
-    /// Removes a key, which is as long as the keys of this index, and returns its element; `None` if the key is absent. The other keys keep
-    /// their order.
+    /// Removes a key, which has the size of this index's keys, and returns its element (`element`); `None`, and nothing changes, if the key
+    /// is absent. The other keys keep their order (`left`). The index can still have keys of this size (`size`), with elements less than
+    /// the bound that it had before (`bound`).
     pub(crate) fn remove(&mut self, key: &[u8]) -> Option<u32>
         requires { length key.now ≡ self.old.size }
         ensures element { result ≡ found key.now self.old.entries }
@@ -124,7 +130,9 @@ impl WordIndex {
     }
 }
 
-/// The number that the bytes of a key make, little-endian. A key of four or eight bytes takes one load.
+/// The number that the bytes of a key make, little-endian: `WordIndex` stores the key as this number. The key has at most `LONGEST_WORD`
+/// bytes, so the number fits into 64 bits. A key of four or eight bytes is read by one load; the bytes of any other are first filled up
+/// with zeros.
 #[inline(always)]
 fn word_of(key: &[u8]) -> u64
     requires { length key.now ≤ LONGEST_WORD }

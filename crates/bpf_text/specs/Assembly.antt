@@ -18,8 +18,10 @@ use Rattle.bpf_text.specs.Lines.{text_lines}
 
 -- ---- slots and labels of lines; `None` is a line that has none of the forms
 
--- the number of slots of a line's instruction; 0 for a line without an instruction, and for a line
--- that has none of the forms (None)
+-- the number of slots of a line's instruction (`code`): 2 for a wide load, 1 for any other. 0 for a
+-- line without an instruction: a blank one, one that defines a label, and one that has none of the
+-- forms of the grammar (None). n is the name of a label, which does not matter. The sum over the
+-- lines before a line is the slot of its instruction or its label
 abbrev pub line_slots : Option Line → ℕ
 line_slots None = 0
 line_slots (Some blank) = 0
@@ -106,8 +108,9 @@ forms_from all slot (Some (label n) ∷ lines) = forms_from all slot lines
 forms_from all slot (Some (code form n) ∷ lines) =
     resolved (distance all slot n) form ∷ forms_from all (slot + form_slots form) lines
 
--- the second list has, in order, the reading of each line of the first: the line as which its bytes
--- are read, or None if they are read as no line (`ReadAs`)
+-- the second list has, in order, the reading of each line of the first: `Some` of the line as which
+-- its bytes are read, or None if they are read as no line (`ReadAs`). Lists of different lengths do
+-- not meet this
 abbrev pub AreRead : List (List ℕ) → List (Option Line) → Type 0
 AreRead [] [] = Unit {0}
 AreRead (bytes ∷ more) (line ∷ lines) = ReadAs bytes line × AreRead more lines

@@ -12,8 +12,8 @@ use Rattle.text_line.specs.Blanks.{stripped}
 use Rattle.bpf_text.specs.Fault.{IsFaultBy}
 use Rattle.bpf_text.specs.Lines.{text_lines}
 
--- each eight bytes as a line of sixteen lower-case digits, with a line feed; fewer than eight at
--- the end have no line
+-- the text of slots, given as their bytes: each eight bytes are a line of sixteen lower-case hex
+-- digits, which ends with a line feed (10). Bytes after the last eight, at most seven, have no line
 unfoldable pub hex_text : List ℕ → List ℕ
 hex_text (a ∷ b ∷ c ∷ d ∷ e ∷ f ∷ g ∷ h ∷ bytes) =
     encode_lower (a ∷ b ∷ c ∷ d ∷ e ∷ f ∷ g ∷ h ∷ []) ++ 10 ∷ hex_text bytes

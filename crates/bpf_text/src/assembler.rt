@@ -24,7 +24,9 @@ use std::alloc::{AllocError, Global};
 use std::collections::HashMap;
 use text_line::{Form, Line, read_line};
 
-/// Parses the lines of a text, given without their line feeds; `None` for a line that is neither blank, nor a label, nor an instruction.
+/// Parses the lines of a text, given without their line feeds. The result has an entry for each line, in order (`AreRead`). The entry is
+/// `None` if the line is neither blank, nor a label, nor an instruction: `instruction` later reports this as `Syntax`. `AllocError`: out of
+/// memory.
 fn read_lines<'a>(alloc: Global, text: &'a [&'a str]) -> Result<Vec<Option<Line<'a>>>, AllocError>
     ensures { IfOk result (λ lines. AreRead (map (λ line. line.now) text.now)
         (seen_lines lines.items)) }
@@ -48,7 +50,8 @@ struct LineStart {
     slot: usize,
 }
 
-/// The number of slots of a line's instruction; 0 if the line is blank, defines a label, or has none of the forms (`None`).
+/// The number of slots of a line's instruction, 1 or 2. 0 if the line has no instruction: it is blank, defines a label, or has none of the
+/// forms, in which case `line` is `None`. By it the assembler counts the slots before each line.
 fn line_slots(line: &Option<Line<'_>>) -> usize
     ensures value { result ≡ line_slots (seen_option line.now) }
     ensures bound { result ≤ 2 }
@@ -59,8 +62,8 @@ fn line_slots(line: &Option<Line<'_>>) -> usize
     }
 }
 
-/// The name of the label that a line defines. The result is `None` if it defines none, also if the line has none of the forms (the argument
-/// is `None`).
+/// The name of the label that a line defines, as `done` in `done:`. `None` if the line defines none: it is blank or an instruction, or it
+/// has none of the forms of a line, so that `line` is `None`. The contract has the name as its bytes (`n.now`).
 fn defined<'a>(line: &Option<Line<'a>>) -> Option<&'a str>
     ensures { option_map (λ n. n.now) result ≡ defined_label (seen_option line.now) }
 {
@@ -70,8 +73,10 @@ fn defined<'a>(line: &Option<Line<'a>>) -> Option<&'a str>
     }
 }
 
-/// Enters the label that a line defines into `labels`, with `definition`, the line's index and the slots before it. Nothing is entered if
-/// the line defines no label, or one that an earlier line defines: the first definition counts. Fails only if memory is refused.
+/// Adds the label that a line defines to `labels`, with `definition`: the line's index, and the number of slots of the instructions on the
+/// lines before it. Nothing is added if the line has none of the forms (`None`), or defines no label, or one that an earlier line defines:
+/// the first definition counts. The contract states this for each name `q`: its definition is the one that `labels` had before, or else
+/// (`or_else`) the argument `definition`, if the line defines `q`. Fails only if memory is refused.
 fn note<'a>(
     labels: &mut HashMap<&'a str, LineStart>,
     line: &Option<Line<'a>>,
@@ -90,7 +95,9 @@ fn note<'a>(
     Ok(())
 }
 
-/// For each label, the index of the first line that defines it, and the number of slots before it. Fails only if memory is refused.
+/// Finds for each label the first line that defines it: the line's index, from 0, and the number of slots before it. A label that no line
+/// defines has no entry. A line that has none of the forms (`None`) defines none and has no slots. `FindsLabels` states this for all lines
+/// (`length`). Jumps may name labels of later lines, so `instructions` needs this first. `AllocError`: out of memory.
 fn labels<'a>(
     alloc: Global,
     lines: &[Option<Line<'a>>],
@@ -114,9 +121,10 @@ fn definition_of_label(labels: &HashMap<&str, LineStart>, name: &str) -> Option<
     labels.get(name).copied()
 }
 
-/// The distance in slots to a label from slot `slot + 1`, the next after a jump at `slot`. A label past slot `MAX_SLOTS` counts as one at
-/// slot `MAX_SLOTS`, so that the distance fits 16 bits: the text then has a `TooLong` line. `None` counts as a label at slot 0: either no
-/// line defines the label, which is a fault, or the form names no label, and the distance is not used.
+/// The distance in slots to a label from slot `slot + 1`, the next after a jump at `slot`. `label` is the start of the first line that
+/// defines the label. A label past slot `MAX_SLOTS` counts as one at slot `MAX_SLOTS`, so that the distance fits 16 bits; such a text is
+/// rejected, since the slots of an earlier line go past `MAX_SLOTS` (`TooLong`, unless that line has another fault). `None` counts as a
+/// label at slot 0: either no line defines the label, which is a fault, or the form names no label, and the distance is not used.
 fn distance(label: Option<LineStart>, slot: usize) -> i16
     requires { slot ≤ MAX_SLOTS }
     ensures { result ≡ kept_distance label slot }
@@ -128,10 +136,12 @@ fn distance(label: Option<LineStart>, slot: usize) -> i16
     to as i16 - (slot as i16 + 1)
 }
 
-/// The instruction of a line's form, or the first fault that applies, in this order: `Range`, `UnknownLabel`, `TooLong`. As the form is
-/// that of a line, `Form::insn` is `None` only if a number is out of range. `label` is the definition of the label that the form names;
-/// `None` if the form names none, or no line defines it. `slot` is the number of slots before the form: at most `MAX_SLOTS`, as no earlier
-/// line is `TooLong`.
+/// The instruction of a line's form, or the first fault that applies (`fault`), in this order: `Range`, a number is out of range;
+/// `UnknownLabel`, no line defines the label; `TooLong`, the slots go past `MAX_SLOTS`. By `found` the instruction is written as the form,
+/// with the label's distance from the next slot as the target, and 0 for -0; by `none` no fault applies then. As the form is that of a
+/// line, `Form::insn` is `None` only if a number is out of range. `label` is the definition of the label that the form names; `None` if the
+/// form names none, or no line defines it. `slot` is the number of slots before the form: at most `MAX_SLOTS`, as no earlier line is
+/// `TooLong`.
 fn resolve(form: &Form, label: Option<LineStart>, slot: usize) -> Result<Insn, TextFaultKind>
     requires form { IsForm form.now }
     requires room { slot ≤ MAX_SLOTS }
@@ -152,10 +162,12 @@ fn resolve(form: &Form, label: Option<LineStart>, slot: usize) -> Result<Insn, T
     Ok(insn)
 }
 
-/// The instruction on a line, or the line's fault; `None` for a blank line, and for the first line that defines a label. The faults are
-/// `Syntax` if the line has none of the forms (`None`), `LabelTwice` if an earlier line defines its label, and those of `resolve`. `labels`
-/// has the first definition of each label. `here` is the line's index and the number of slots before it, at most `MAX_SLOTS`, since no
-/// earlier line is `TooLong`.
+/// The instruction on a line, with the distance to the label that it names (`found`), or the line's fault, if it has one (`kept_fault`).
+/// `Ok(None)` for a blank line, and for the first line that defines a label. `line` is `None` if the line has none of the forms: the fault
+/// is `Syntax`. A line whose label an earlier line also defines has the fault `LabelTwice`. An instruction has the first of these that
+/// applies: `Range` if a number is out of range, `UnknownLabel` if no line defines the label that it names, `TooLong` if the slots up to
+/// its end are more than `MAX_SLOTS`. `labels` has the first definition of each label. `here` is the line's index and the number of slots
+/// before it, at most `MAX_SLOTS`, since no earlier line is `TooLong`.
 fn instruction(
     labels: &HashMap<&str, LineStart>,
     line: &Option<Line<'_>>,
@@ -185,9 +197,11 @@ fn instruction(
     }
 }
 
-/// The instructions on the lines, as `read_lines` parsed them (`None`: a line with none of the forms). `labels` has the first definition of
-/// each label on these lines. The error is the fault of the first line that has one, or `Memory` at line 0 if out of memory. The result has
-/// at most `MAX_SLOTS` slots (`room`), since the line whose slots go past them has the fault `TooLong`.
+/// The instructions on the lines, in order. `lines` are as `read_lines` parsed them (`formed`), with `None` for a line that has none of the
+/// forms, and `labels` has the first definition of each label on them. The error is the fault of the first line that has one, or `Memory`
+/// at line 0 if out of memory (`fault`). On success no line has a fault (`none`), and the instructions are those of the lines' forms, in
+/// which the distance to a label replaces the label (`forms`). Their slots are as many as those of the lines (`count`), at most `MAX_SLOTS`
+/// (`room`), since the line whose slots go past them has the fault `TooLong`.
 fn instructions(
     alloc: Global,
     lines: &[Option<Line<'_>>],
@@ -217,8 +231,9 @@ fn instructions(
     Ok(insns)
 }
 
-/// The program of the instructions. `Empty` if there is no instruction, `Memory` if out of memory. `instructions` has checked that the
-/// slots are at most `MAX_SLOTS`, so `Program::new` fails only if out of memory.
+/// Makes the program of the instructions. It has them in their order, and at least one slot (`made`). The fault is `Empty` if there is no
+/// instruction, and so no slot, or `Memory` if out of memory, both at line 0 (`refused`). `instructions` has checked that the slots are at
+/// most `MAX_SLOTS`, so `Program::new` fails only if out of memory.
 fn program(alloc: Global, insns: &[Insn]) -> Result<Program, TextFault>
     requires { slot_count insns.now ≤ MAX_SLOTS }
     ensures made { IfOk result (λ program. (program ≡ insns.now) × (0 < slot_count insns.now)) }
@@ -234,9 +249,10 @@ fn program(alloc: Global, insns: &[Insn]) -> Result<Program, TextFault>
     }
 }
 
-/// The program to which a text assembles, for `assemble`. The error is the text's own fault, or `Memory`. Its own fault is that of the
-/// first line that has a fault, or `Empty` if no line has a fault and the text has no instruction. The contract of `assemble` adds that the
-/// text has no other program and no other fault of its own.
+/// Assembles the text, for `assemble`, whose only other calls are of laws. Returns the program of the text (`ok`), or an error (`fault`):
+/// either out of memory, `Memory` at line 0, or the text's own fault. This is the fault of the first line that has one; if no line has a
+/// fault and the text has no instruction, it is `Empty` at line 0. By the laws, the contract of `assemble` also says that the text has no
+/// other program and no other fault of its own.
 fn program_of(alloc: Global, text: &str) -> Result<Program, TextFault>
     ensures ok { IfOk result (λ program. IsAssembled text.now program) }
     ensures fault { IfErr result (λ e. (e ≡ memory_fault) ⊎ IsOwnFault text.now e) }
@@ -255,10 +271,10 @@ fn program_of(alloc: Global, text: &str) -> Result<Program, TextFault>
 ///
 /// # Errors
 ///
-/// The fault of the first line that has one, and of several there, the first of these kinds: `Syntax` if it has none of the
-/// forms, `Range` if a number is out of range, `UnknownLabel` if no line defines the label that its jump names, `LabelTwice`
-/// if it defines a label that an earlier line defines, `TooLong` if its slots go past `MAX_SLOTS`. If no line has a fault,
-/// `Empty` at line 0 if there is no slot. `Memory` at line 0 if out of memory.
+/// The fault of the first line that has one; lines are numbered from 1. If the line has several faults, it is the first of these kinds:
+/// `Syntax` if the line has none of the forms, `Range` if a number is out of range, `UnknownLabel` if no line defines the label that the
+/// line's jump names, `LabelTwice` if the line defines a label that an earlier line defines, `TooLong` if the line's slots go past
+/// `MAX_SLOTS`. Faults of the whole text have line 0: `Empty` if no line has a fault and there is no slot, and `Memory` if out of memory.
 pub fn assemble(alloc: Global, text: &str) -> Result<Program, TextFault>
     // A program that is returned is the one of the text.
     ensures ok { IfOk result (λ program. IsAssembled text.now program) }

@@ -21,7 +21,8 @@ use std::fmt::Write;
 
 // ---- names
 
-/// The name of a register's 64 bits. The last arm is 10, the highest register.
+/// The name of a register's 64 bits, `r0` to `r10`: in the contract `true` selects the letter `r`, not the `w` of the low 32. The last arm
+/// is 10, the highest register.
 fn wide_name(reg: Reg) -> &'static str
     ensures { result.now ≡ register_name true reg }
 {
@@ -40,7 +41,7 @@ fn wide_name(reg: Reg) -> &'static str
     }
 }
 
-/// The name of a register's low 32 bits. The last arm is 10, the highest register.
+/// The name of a register's low 32 bits, as `w3`; the contract has `false` for the low bits. The last arm is 10, the highest register.
 fn half_name(reg: Reg) -> &'static str
     ensures { result.now ≡ register_name false reg }
 {
@@ -59,7 +60,7 @@ fn half_name(reg: Reg) -> &'static str
     }
 }
 
-/// The name of a register: of its 64 bits if `wide`, else of its low 32.
+/// The name of a register in a line of text: `r0` to `r10` for its 64 bits if `wide`, else `w0` to `w10` for its low 32.
 fn register_name(wide: bool, reg: Reg) -> &'static str
     ensures { result.now ≡ register_name wide reg }
 {
@@ -68,7 +69,8 @@ fn register_name(wide: bool, reg: Reg) -> &'static str
 
 // ---- numbers and operands
 
-/// Appends a number in decimal, with a minus if it is negative.
+/// Appends a constant (an immediate, a descriptor, or the number of a helper) in decimal, with a minus before the digits if it is negative.
+/// The contract: these are the bytes that the grammar of a line has for the number (`constant_layout`), with nothing after it (`[]`).
 fn write_constant(text: &mut String, n: i32) -> Result<(), AllocError>
     ensures { OnOk result (string_bytes text.new ≡ string_bytes text.old
         ++ laid_out (constant_layout (number_of n) [])) }
@@ -76,7 +78,9 @@ fn write_constant(text: &mut String, n: i32) -> Result<(), AllocError>
     write!(text, "{n}")
 }
 
-/// The sign of a number, `+` or `-`, and the number without its sign, up to 2 ^ 31.
+/// The sign of a number as text, `-` if it is negative, else `+` (`sign`), and its magnitude, the number without its sign, up to 2^31. The
+/// distance of a jump and the offset of an address are written with a sign always, as in `goto +2` and `(r10 - 8)`. `digits`: the decimal
+/// digits of the second result are the bytes that the definition of a line has for the magnitude (`piece`).
 fn signed_parts(n: i32) -> (&'static str, u32)
     ensures sign { result.0.now ≡ sign_name (number_of n).negative }
     ensures digits { decimal result.1 ≡ piece (Some (number (number_of n).magnitude)) }
@@ -85,7 +89,9 @@ fn signed_parts(n: i32) -> (&'static str, u32)
     (sign, n.unsigned_abs())
 }
 
-/// Appends the second operand: a constant, or the name of a register, of its 64 bits if `wide`, else of its low 32.
+/// Appends `src`, the second operand of an instruction, as its line has it: a constant in decimal, or the name of a register. If `wide`,
+/// that is the name of its 64 bits, as `r1`, else that of the low 32, as `w1`. By the contract the text gets the bytes (`laid_out`) of the
+/// operand's tokens (`operand_layout`), and of no token after them (`[]`).
 fn write_operand(text: &mut String, wide: bool, src: Operand) -> Result<(), AllocError>
     ensures { OnOk result (string_bytes text.new ≡ string_bytes text.old
         ++ laid_out (operand_layout wide (source_of src) [])) }
@@ -98,8 +104,9 @@ fn write_operand(text: &mut String, wide: bool, src: Operand) -> Result<(), Allo
 
 // ---- lines of instructions
 
-/// Appends the line, without a line feed, of an operation of two operands or of a move: on 64-bit registers if `wide`, else on their low 32
-/// bits.
+/// Appends the line of an operation with the operands `dst` and `src`, as `r1 += r2`, or of a move of `src` to `dst`, as `r1 = 5`, without
+/// a line feed (`printed_insn`). `src` is a register or a constant. The operation is of 64 bits if `wide`; else of the low 32, and
+/// registers have the names of their low halves, as `w1`.
 #[tactic(auto, unfolding(text_line::specs::Written::printed_insn))]
 fn write_alu(
     text: &mut String,
@@ -116,7 +123,9 @@ fn write_alu(
     write_operand(text, wide, src)
 }
 
-/// Appends the line of a move with sign extension.
+/// Appends the line of a move with sign extension, without a line feed, as `r1 = (s16)r2`. The name in parentheses has the number of low
+/// bits whose sign is extended: `s8`, `s16` or `s32`. If the move has 32 bits (not `wide`), both registers have the names of their low
+/// halves, as `w1`.
 #[tactic(auto, unfolding(text_line::specs::Written::printed_insn))]
 fn write_movsx(text: &mut String, movsx: &Movsx) -> Result<(), AllocError>
     ensures { OnOk result (string_bytes text.new ≡ string_bytes text.old
@@ -158,7 +167,9 @@ fn write_jump(
     write!(text, " goto {sign}{slots}")
 }
 
-/// Appends the line of a load, without a line feed. The address is register `src` plus an offset.
+/// Appends the line of a load, without a line feed: `DST = *(SIZE *)(BASE SIGN OFFSET)`, as `r1 = *(s16 *)(r2 - 4)`. SIZE is the type of
+/// the number in memory, `u8` to `u64`, or `s8` to `s32` if its sign is extended (`signed`). DST and BASE are the registers `dst` and
+/// `src`, and SIGN and OFFSET the sign and the magnitude of `off`. In the contract, `printed_insn` is this line.
 #[tactic(auto, unfolding(text_line::specs::Written::printed_insn))]
 fn write_load(text: &mut String, load: &Load) -> Result<(), AllocError>
     ensures { OnOk result (string_bytes text.new ≡ string_bytes text.old
@@ -176,9 +187,9 @@ fn write_load(text: &mut String, load: &Load) -> Result<(), AllocError>
     write!(text, "{dst} = *({size} *)({base} {sign} {offset})")
 }
 
-/// Appends the line of a store, `*(SIZE *)(BASE SIGN OFFSET) = VALUE`. SIZE is the unsigned type of `size`, `u8` to `u64`. BASE is the
-/// register `dst`, and SIGN and OFFSET are the sign and the magnitude of `off`. VALUE is `src`: a constant, or a register by the name of
-/// its 64 bits, as `r1`, also if fewer bits are stored.
+/// Appends the line of a store, `*(SIZE *)(BASE SIGN OFFSET) = VALUE`, without a line feed. SIZE is the unsigned type of `size`, `u8` to
+/// `u64`. BASE is the register `dst`, and SIGN and OFFSET are the sign and the magnitude of `off`. VALUE is `src`: a constant, or a
+/// register by the name of its 64 bits, as `r1`, also if fewer bits are stored.
 #[tactic(auto, unfolding(text_line::specs::Written::printed_insn))]
 fn write_store(
     text: &mut String,
@@ -196,7 +207,8 @@ fn write_store(
     write_operand(text, true, src)
 }
 
-/// Appends the line of the atomic operation `op` with register `src`, on `size` bytes at the address in register `dst` plus `off`.
+/// Appends the line of the atomic operation `op` with register `src`, on `size` bytes at the address in register `dst` plus `off`, without
+/// a line feed. For example, an addition of eight bytes is `lock *(u64 *)(r10 - 8) += r1`.
 #[tactic(auto, unfolding(text_line::specs::Written::printed_insn))]
 fn write_atomic(
     text: &mut String,
@@ -215,7 +227,7 @@ fn write_atomic(
     write!(text, "lock *({size} *)({base} {sign} {offset}) {op} {src}")
 }
 
-/// Appends the line of a load into `dst` of the map with descriptor `fd`.
+/// Appends the line, without a line feed, of a wide load of the map with descriptor `fd` into register `dst`, as `r1 = map_fd 3 ll`.
 #[tactic(auto, using(crate::proofs::Printing::laid_out_constant), unfolding(text_line::specs::Written::printed_insn))]
 fn write_map_fd(text: &mut String, dst: Reg, fd: i32) -> Result<(), AllocError>
     ensures { OnOk result (string_bytes text.new ≡ string_bytes text.old
@@ -227,7 +239,8 @@ fn write_map_fd(text: &mut String, dst: Reg, fd: i32) -> Result<(), AllocError>
     text.push_str(" ll")
 }
 
-/// Appends the line of a load into `dst` of the address of the first value of the map with descriptor `fd`, plus `off` bytes.
+/// Appends the line, without a line feed, of a load into `dst` of an address: that of the first value of the map with descriptor `fd`, plus
+/// `off` bytes. An example is `r1 = map_value 3 + 8 ll`.
 fn write_map_value(text: &mut String, dst: Reg, fd: i32, off: u32) -> Result<(), AllocError>
     ensures { OnOk result (string_bytes text.new ≡ string_bytes text.old
         ++ printed_insn (Insn.MapValue dst fd off)) }

@@ -26,7 +26,8 @@ pub enum TextFaultKind {
 impl TextFaultKind {
     ghost use Rattle.bpf_text.specs.Fault.{kind_number};
 
-    /// The number of the kind, from 1 for the lowest kind, `Syntax`, to 7 for the highest, `Memory`.
+    /// The number of the kind, from 1 for the lowest kind, `Syntax`, to 7 for the highest, `Memory`. A line that has several faults has the
+    /// kind with the lowest number. Error texts print the number, as `line 3: fault 1`.
     pub fn number(self) -> u16
         ensures { result ≡ kind_number self }
     {
@@ -85,12 +86,15 @@ impl From<AllocError> for TextFault {
 
     ghost from_gives = { λ _ e. e ≡ memory_fault };
 
+    /// `OUT_OF_MEMORY`, which is at line 0, the whole text. It is the result for every error, since an `AllocError` has no data. The
+    /// contract is `from_gives`, in which `e` is the result.
     fn from(_e: AllocError) -> TextFault {
         OUT_OF_MEMORY
     }
 }
 
-/// With `?`, a refusal of memory that returns a value becomes the fault `Memory` at line 0; the value is dropped.
+/// For `?` after a call of std that is refused memory for a value and gives this value back in its error, `AllocFailed`: the error becomes
+/// the fault `Memory` at line 0 (`from_gives`), and the value is dropped.
 impl<T: Drop> From<AllocFailed<T>> for TextFault {
     ghost use Rattle.bpf_text.specs.Fault.{memory_fault};
 

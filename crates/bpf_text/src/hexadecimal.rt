@@ -17,7 +17,7 @@ use insn_codec::{MAX_SLOTS, Program, write_program};
 use std::alloc::{AllocError, Global};
 use text_line::stripped;
 
-/// The slots of a program, each as a line of sixteen lower-case hex digits and a line feed.
+/// The slots of a program in order, each as a line of sixteen lower-case hex digits and a line feed (`text`). `asm` writes these lines.
 ///
 /// # Errors
 ///
@@ -43,16 +43,15 @@ pub fn hex_lines(alloc: Global, program: &Program) -> Result<String, AllocError>
     Ok(text)
 }
 
-/// The bytes of the slots on the lines of a text, in order.
+/// The bytes of the slots on the lines of a text, eight for each slot, in order. `dis` and `verify` of `host` read their input with it.
 ///
-/// A line is sixteen hex digits in either case. Spaces, tabs and carriage returns at its ends are ignored, and a line
+/// A line is sixteen hex digits in either case, two for each byte. Spaces, tabs and carriage returns at its ends are ignored, and a line
 /// without anything else is skipped.
 ///
 /// # Errors
 ///
-/// The fault of the first line that has one: `Syntax` if it is no such line, `TooLong` if its slot is one more than a
-/// program may have. If no line has a fault, `Empty` at line 0 if there is no slot. `Memory` at line 0 if out of
-/// memory.
+/// The fault of the first line that has one, with the line's number, from 1: `Syntax` if it is no such line, `TooLong` if its slot is the
+/// first after `MAX_SLOTS` slots. If no line has a fault, `Empty` at line 0 if there is no slot. `Memory` at line 0 if out of memory.
 pub fn from_hex_lines(alloc: Global, text: &str) -> Result<Vec<u8>, TextFault>
     // Slots that are returned are those of the text.
     ensures found { IfOk result (λ bytes. IsHexText text.now bytes.items) }
@@ -73,8 +72,10 @@ pub fn from_hex_lines(alloc: Global, text: &str) -> Result<Vec<u8>, TextFault>
     Ok(bytes)
 }
 
-/// The bytes of the slots on the lines, in order; no bytes if no line has a slot. The error is the fault of the first line that has a
-/// fault, or `Memory` if out of memory.
+/// The bytes of the slots on the lines, in order, eight for each slot (`found`); no bytes if all lines are blank. If bytes are returned, no
+/// line has a fault (`none`). The error is `Memory` at line 0 if out of memory, else the fault of the first line that has one (`fault`):
+/// `Syntax` if the line is neither blank nor a slot in hex digits, `TooLong` if `MAX_SLOTS` slots come before its slot. `hex_fault_at` has
+/// the fault of a line by the line's index, from 0; the line's number in the error is one more.
 fn slots_on(alloc: Global, lines: &[&str]) -> Result<Vec<u8>, TextFault>
     ensures found { IfOk result (λ bytes. bytes.items
         ≡ hex_bytes (map (λ line. line.now) lines.now)) }
@@ -92,9 +93,11 @@ fn slots_on(alloc: Global, lines: &[&str]) -> Result<Vec<u8>, TextFault>
     Ok(bytes)
 }
 
-/// Appends the eight bytes of a line's slot to `bytes`, which has the slots of the earlier lines. `bytes` has at most `MAX_SLOTS` slots,
-/// also after a call without a fault. For a blank line nothing is appended. The error is the first fault that applies: `Syntax` if the line
-/// is neither blank nor a slot, `TooLong` if `bytes` has `MAX_SLOTS` slots, `Memory` if out of memory. Then `bytes` is of no further use.
+/// Appends the eight bytes of a line's slot, sixteen hex digits, with or without blanks around them, to `bytes`, which has the slots of the
+/// earlier lines: at most `MAX_SLOTS`, also after a call without a fault (`room`). For a blank line nothing is appended. The error is the
+/// first fault that applies: `Syntax` if the line is neither blank nor a slot, `TooLong` if `bytes` has `MAX_SLOTS` slots already, `Memory`
+/// if out of memory. Then the caller drops `bytes`. `none`, `fault`: the error is the line's fault by the definition `hex_fault`, unless it
+/// is `Memory`; if there is no error, the line has no such fault.
 fn append_slot(bytes: &mut Vec<u8>, line: &str) -> Result<(), TextFaultKind>
     requires { vec_len bytes.old ≤ 8 * MAX_SLOTS }
     ensures ok { OnOk result (bytes.new.items ≡ bytes.old.items

@@ -7,7 +7,8 @@ ghost use Rattle.bpf_text.specs.Law.{OneProgram, ProgramHasNoFault, OneFault, Pr
 
 use insn_codec::MAX_SLOTS;
 
-/// A law: a text has at most one program. So a program that `assemble` returns is the only one of the text.
+/// A law: a text has at most one program, the list of instructions to which it assembles (`IsAssembled`). So a program that `assemble`
+/// returns is the only one of the text.
 pub fn one_program()
     ensures { OneProgram }
 {
@@ -23,14 +24,17 @@ pub fn program_has_no_fault()
     text_line::laws::one_reading();
 }
 
-/// A law: a text has at most one fault of its own. So a fault that `assemble` returns is the only one, unless it is `Memory`.
+/// A law: a text has at most one fault of its own (`OneFault`): that of its first line that has a fault, or `Empty` if no line has one and
+/// the text has no slot. So a fault that `assemble` returns is the only one, unless it is `Memory`. The body calls the law that each line
+/// is read in one way, for the proof.
 pub fn one_fault()
     ensures { OneFault }
 {
     text_line::laws::one_reading();
 }
 
-/// A law: the text that `disassemble` prints of a program assembles to this program.
+/// A law: for each list of instructions that is a program, the text that `disassemble` prints of it is assembled to this program
+/// (`IsAssembled`). The proof of the clause `program` of `disassemble` needs it.
 pub fn printed_text_is_assembled()
     ensures { PrintedIsAssembled }
 {
@@ -38,19 +42,21 @@ pub fn printed_text_is_assembled()
     text_line::laws::written_in_range();
 }
 
-/// A law: the text that `hex_lines` writes for a program is read as the slots of this program.
+/// A law: the text that `hex_lines` writes for a program is read, by `from_hex_lines`, as the slots of this program.
 pub fn hex_lines_are_read()
     ensures { HexLinesAreRead }
 {}
 
-/// A law: 1 to `MAX_SLOTS` slots are read from their hex lines, whether they are a program's or not. `slots` is their number, and
-/// `bytes` has eight bytes for each.
+/// A law: if 1 to `MAX_SLOTS` slots are written as hex lines (`hex_text`), the slots of these lines are the written ones (`IsHexText`), so
+/// `from_hex_lines` returns them unless memory is refused. They need not be a program's, unlike in `hex_lines_are_read`. `slots` is their
+/// number, and `bytes` has eight bytes for each; `IsBytes` requires that each is below 256.
 pub fn hex_slots_are_read()
     ensures { (slots : ℕ) (bytes : List ℕ) → IsBytes bytes → length bytes ≡ 8 * slots → 1 ≤ slots
         → slots ≤ MAX_SLOTS → IsHexText (hex_text bytes) bytes }
 {}
 
-/// A law: a text of hex lines has only one list of slots. `a` and `b` are the bytes of two such lists.
+/// A law: a text is the hex lines of at most one list of slots. `a` and `b` are the bytes of two such lists, which are then equal. So the
+/// slots that `from_hex_lines` returns are the only ones of the text.
 pub fn one_hex_text()
     ensures { (text a b : List ℕ) → IsHexText text a → IsHexText text b → a ≡ b }
 {}

@@ -12,13 +12,15 @@ use Rattle.bpfhost_c.specs.declared.codes.TheConstants.{ERR_TENANT_COUNT, ERR_BU
 use Rattle.bpfhost_c.specs.declared.session.Session.{Session}
 use Rattle.bpfhost_c.specs.Contexts.{contexts_code}
 
--- the state of the host of a handle; for an empty handle (None) that of a host without tenants, so
--- that contracts can name the state before and after each call
+-- the state of the host of a handle, the C caller's pointer to a host. An empty handle (None) has
+-- that of a host without tenants, so that contracts can name the state before and after each call,
+-- also if a call finds or leaves no host
 abbrev pub host_of : Option Session → HostState
 host_of None = new_host 0
 host_of (Some s) = s.host
 
--- the states of the tenants of a handle's host; an empty handle has none
+-- the states of the tenants of the host in a handle's session, by tenant number; no states for an
+-- empty handle, which has no session (None)
 abbrev pub states : Option Session → List TenantState
 states None = []
 states (Some s) = s.host.states
@@ -31,9 +33,9 @@ IsReplyAt None reply at length = ⊥
 IsReplyAt (Some s) reply at length =
     (s.reply.items ≡ reply) × (at ≡ vec_ptr s.reply) × (length ≡ vec_len s.reply)
 
--- The frames of the latest part of a save lie at address `at`, with `length` bytes: they are the
--- bytes of the vector in which the session stores them (`saved`), and this vector begins at `at`.
--- False for an empty handle (None).
+-- `frames` are the bytes that the session stores (`saved`) of the part of a save that was made
+-- last: their vector begins at address `at` and has `length` bytes. So the caller in C can read
+-- these frames without a copy. False for an empty handle (None).
 abbrev pub SavedAt : Option Session → List ℕ → Ptr → ℕ → Type 0
 SavedAt None frames at length = ⊥
 SavedAt (Some s) frames at length =

@@ -5,8 +5,9 @@ use Rattle.host_core.specs.State.{TenantState}
 use Rattle.verifier.specs.declared.cost.Cost.{Cost}
 use Rattle.bpfhost_c.specs.declared.costs.ProgramCost.{ProgramCost}
 
--- the cost of a program as C has it: both numbers are 0 if there is none (None), and no program has
--- 0 instructions
+-- the cost of a program as C gets it: the most instructions, and the most calls of helpers, on a
+-- path through it. Without a program (None) both numbers are 0, by which C recognizes this: the
+-- cost of a program has at least one instruction
 abbrev pub shown_cost : Option Cost → ProgramCost
 shown_cost None = record { instructions = 0; calls = 0 }
 shown_cost (Some cost) = record { instructions = cost.instructions; calls = cost.calls }

@@ -24,8 +24,9 @@ use Rattle.bpfhost_c.specs.declared.session.Session.{Session}
 
 -- ---- the objects that descriptors are to name
 
--- the object of a new map, by its shape or the error that MAP_CREATE would return for it; None for
--- an error
+-- the object of a descriptor that is to name a new map, from what `asked_shape` gives for the map's
+-- fields: a map of the shape (Ok); None for the error with which MAP_CREATE would reject the fields
+-- (Err). For such a descriptor no program is prepared (`prepare_code`)
 abbrev pub map_of : Result MapShape Errno → Option Target
 map_of (Ok shape) = Some (target.Map shape)
 map_of (Err errno) = None
@@ -76,9 +77,10 @@ abbrev pub install_code : Option Session → Option Accepted → ℤ
 install_code session program =
     if is_none session then ERR_NO_HOST else (if is_none program then ERR_NO_PROGRAM else DONE)
 
--- the handle has a program (not None), and each descriptor of the program's maps names, for the
--- tenant, a map of the shape with which the program was accepted. A tenant that is not served has
--- no state (None): then it is enough that the handle has a program
+-- the handle has a prepared program (not None), and this fits the tenant in this state: each
+-- descriptor of the program's maps names a map of the shape with which the program was accepted. A
+-- tenant that is not served has no state (None): then any program fits, since none is opened there.
+-- If an install returns DONE, this holds; if it returns ERR_STALE, this does not hold
 abbrev pub FitsPrepared : Option Accepted → Option TenantState → Type 0
 FitsPrepared None s = ⊥
 FitsPrepared (Some a) s = FitsTenant a s

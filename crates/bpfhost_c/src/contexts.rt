@@ -14,8 +14,9 @@ use host_core::GIVEN_WORDS;
 use std::alloc::{AllocError, Global};
 use std::borrow::CowSlice;
 
-/// `words` as contexts of `GIVEN_WORDS` words each, without a copy; `None` if the last one is cut off. A run is given all words of such a
-/// context, so no context has further words, which would have to be 0 (`known`).
+/// `words` as contexts of `GIVEN_WORDS` words each, without a copy; `None` if the last one is cut off (`some`). A run is given exactly so
+/// many words: all of the context but the first, the packet's length. So each context is given as it is: no word is missing or left out
+/// (`contexts`). `known`: in no context a word after these is other than 0, since none has more words; `given_contexts` needs that.
 #[tactic(auto, using(crate::proofs::Given::as_given, crate::proofs::Given::all_known))]
 fn as_given(words: &[u32]) -> Option<&[[u32; GIVEN_WORDS]]>
     ensures some { is_some result ≡ nat_eq (length words.now % given_words) 0 }
@@ -30,8 +31,9 @@ fn as_given(words: &[u32]) -> Option<&[[u32; GIVEN_WORDS]]>
     Some(contexts)
 }
 
-/// The first `GIVEN_WORDS` words of a context, which a run is given; a shorter context is filled up with zeros. Later words are left out:
-/// `copied_contexts` has tested that they are zero.
+/// The words of one context from C as a run is given them (`fitted`): the first `GIVEN_WORDS` words, and 0 for each of these that a shorter
+/// context does not have. Later words are left out, whatever they are. No `requires` demands that they are 0: before this call,
+/// `copied_contexts` refuses a context in which one of them is not (`ERR_TOO_BIG`).
 fn fit(words: &[u32]) -> [u32; GIVEN_WORDS]
     ensures { result ≡ fitted words.now }
 {
@@ -41,9 +43,10 @@ fn fit(words: &[u32]) -> [u32; GIVEN_WORDS]
     context
 }
 
-/// Copies of the first `count` contexts in `words`, which has `size` words for each. A copy has `GIVEN_WORDS` words: the first words of the
-/// context, and zeros for those that the context does not have (`fit`). The caller counts only whole contexts, so `words` has all of them.
-/// `AllocError`: out of memory.
+/// Copies of the first `count` contexts in `words`, which has `size` words for each, one context after another. A copy has the
+/// `GIVEN_WORDS` words that a run is given (`fit`): the first words of the context, and zeros for those that the context does not have.
+/// Words after them are left out: `copied_contexts`, the caller, has tested that they are zero. The caller counts only whole contexts, so
+/// `words` has all of them (the precondition). `AllocError`: out of memory.
 #[tactic(auto, using(crate::proofs::Loops::fitted_more, crate::proofs::Loops::room_step))]
 fn fit_all(
     alloc: Global,
@@ -64,8 +67,8 @@ fn fit_all(
     Ok(contexts)
 }
 
-/// Whether all words of a context after the first `GIVEN_WORDS`, which are all that a run is given, are 0; true for a context with no more
-/// words.
+/// Whether all words of one context from C after its first ten (`GIVEN_WORDS`) are 0; true for a context with at most ten words. A run is
+/// given only the ten: so a context with another word than 0 after them is rejected (`ERR_TOO_BIG`).
 fn is_zero_after_given(words: &[u32]) -> bool
     ensures { result ≡ is_zero_after_given words.now }
 {
@@ -81,8 +84,9 @@ fn is_zero_after_given(words: &[u32]) -> bool
     true
 }
 
-/// Whether each of the first `count` contexts in `words`, of `size` words each, has only zeros after the words that a run is given. The
-/// caller counts only whole contexts, so `words` has all of them.
+/// Whether the library knows all words of the first `count` contexts in `words`, which has `size` words for each: in each context, all
+/// words after the first `GIVEN_WORDS`, which are all that a run is given, are 0. If not, the call from C returns `ERR_TOO_BIG`. The caller
+/// counts only whole contexts, so `words` has all of them, as the precondition requires.
 #[tactic(auto, using(crate::proofs::Loops::known_step, crate::proofs::Loops::room_step))]
 fn are_known(words: &[u32], size: usize, count: usize) -> bool
     requires { count * size ≤ length words.now }
@@ -99,11 +103,13 @@ fn are_known(words: &[u32], size: usize, count: usize) -> bool
     true
 }
 
-/// Copies of the contexts in `words`, of `size` words each, one after another. A copy has the words that a run is given: the first
-/// `GIVEN_WORDS` of the context, and zeros for those that it does not have.
+/// Copies of the contexts in `words`, of `size` words each, one after another (`contexts`). A copy has the words that a run is given: the
+/// first `GIVEN_WORDS` of the context, and zeros for those that it does not have. Called only if `size` is not `GIVEN_WORDS`.
 ///
-/// `Err`: the code that C gets: `ERR_SIZE` if `size` is 0 or the last context is cut off, `ERR_TOO_BIG` if one has a word that no run is
-/// given and that is not 0, or `ERR_NO_MEMORY`.
+/// `Err` is the code that C gets: `ERR_SIZE` if `size` is 0 or the last context is cut off; else `ERR_TOO_BIG` if a context has a word
+/// other than 0 after its first `GIVEN_WORDS`; else `ERR_NO_MEMORY` if out of memory. `contexts_code` is this code without regard to
+/// memory: `DONE` if neither of the first two applies, as when copies are returned (`known`) or the code is `ERR_NO_MEMORY` (`code`). Any
+/// other code in `Err` equals `contexts_code`, and none is `DONE` (`code`).
 fn copied_contexts(
     alloc: Global,
     words: &[u32],
@@ -128,11 +134,13 @@ fn copied_contexts(
     }
 }
 
-/// Contexts of `size` words, one after another, as a run is given them: the words themselves if `size` is `GIVEN_WORDS`, else copies
-/// with `GIVEN_WORDS` words each, the missing ones 0.
+/// The contexts in `words`, of `size` words each and one after another, as a run is given them: the first `GIVEN_WORDS` words of each, and
+/// 0 for each word that it does not have (`contexts`). If `size` is `GIVEN_WORDS`, the words are not copied.
 ///
-/// `Err`: the code that C gets: `ERR_SIZE` if `size` is 0 or the last context is cut off, `ERR_TOO_BIG` if a context has a word other than
-/// 0 after its first `GIVEN_WORDS`, or `ERR_NO_MEMORY`.
+/// `Err` is the code that C gets: `ERR_SIZE` if `size` is 0 or the last context is cut off, else `ERR_TOO_BIG` if a context has a word
+/// other than 0 after its first `GIVEN_WORDS`, else `ERR_NO_MEMORY` if out of memory. `contexts_code` is the code of `size` and `words` if
+/// memory is not refused, `DONE` if they have no fault: it is `DONE` if contexts are returned (`known`), and also if the error is
+/// `ERR_NO_MEMORY`; any other error is this code, and none is `DONE` (`code`).
 pub(crate) fn given_contexts(
     alloc: Global,
     words: &[u32],

@@ -25,7 +25,8 @@ impl Model for Handle {
 }
 
 impl Handle {
-    /// A handle with no session: its pointer is null, and it owns nothing. Nothing is allocated; `alloc` only fills the field.
+    /// A handle with no session, as `take` and `bpfhost_c_free` leave it: its pointer is null, and it owns nothing. Nothing is allocated;
+    /// `alloc` only fills the field.
     pub(crate) fn empty(alloc: Global) -> Handle
         ensures { result.session ≡ None }
     {
@@ -35,7 +36,9 @@ impl Handle {
         }
     }
 
-    /// A handle that owns the session of a box. `raw` is this box as a raw pointer.
+    /// Makes a handle that owns the session of a box; `put` stores the handle. `raw` is this box as a raw pointer (`RawBox::from_box`), and
+    /// `raw.value` its session. The handle has this pointer as a pointer to bytes. `into_raw_box` is the inverse; a handle that is dropped
+    /// frees its session.
     pub(crate) fn from_raw_box(raw: RawBox<Session, Global>) -> Handle
         ensures { result.session ≡ Some raw.value }
     {
@@ -46,8 +49,9 @@ impl Handle {
         }
     }
 
-    /// Consumes the handle, and returns the box of its session as a raw pointer. The caller then owns the session, and frees it by
-    /// `into_box`, which makes the pointer a box again. `None` if the handle is empty.
+    /// Consumes the handle, and returns the box of its session as a raw pointer. The caller then owns the session, and makes the pointer a
+    /// box again by `into_box`: `take` returns this box, and `drop` frees it. `None` if the handle is empty: its pointer is null. By the
+    /// contract, the box has the session that the handle had (`self.session`, `None` if it was empty).
     pub(crate) fn into_raw_box(self) -> Option<RawBox<Session, Global>>
         ensures { option_map (λ raw. raw.value) result ≡ self.session }
     {
@@ -61,7 +65,9 @@ impl Handle {
         })
     }
 
-    /// Takes the session out, which leaves the handle empty; `None` if it was empty. `alloc` only fills a field of the handle.
+    /// Takes the session out of the handle and returns it in a box (`session`), so that the handle is empty (`empty`); `None` if it was
+    /// empty before. A function of the library takes the session for its work, and then puts it back (`put`). `alloc` only fills a field of
+    /// the empty handle.
     pub(crate) fn take(&mut self, alloc: Global) -> Option<Box<Session>>
         ensures session { option_map (λ b. b.value) result ≡ self.old.session }
         ensures empty { self.new.session ≡ None }
@@ -72,7 +78,8 @@ impl Handle {
         }
     }
 
-    /// Puts a session into the handle, and drops the one that it had. In a call of the library it had none, since `take` was used before.
+    /// Makes `session` the session of the handle. A session that the handle had would be freed, but in each call of the library the handle
+    /// is empty here, since `take` was used before.
     pub(crate) fn put(&mut self, session: Box<Session>)
         ensures { self.new.session ≡ Some session.value }
     {
@@ -89,7 +96,9 @@ fn free(session: Box<Session>) {
 }
 
 impl Drop for Handle {
-    /// Frees the session, if there is one. It is inlined in each call, and `free`, which only a handle with a session needs, is not.
+    /// Frees the session of the handle, if it has one. Most handles that are dropped are empty: the functions for C take the session out,
+    /// and `put`, which puts it back, drops the empty handle. So this function, a test for null, is inlined, and `free`, which only a
+    /// handle with a session needs, is not.
     #[inline(always)]
     fn drop(self) {
         if let Some(raw) = self.into_raw_box() {

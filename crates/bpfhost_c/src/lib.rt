@@ -197,8 +197,8 @@ pub extern "C" fn bpfhost_c_new(
     }
 }
 
-/// Copies `bytes` to the front of `room`, and returns how many they are. They fit: the caller has tested that `room` has room for the
-/// longest reply.
+/// Copies `bytes` to the front of `room`, whose rest is unchanged (`room`), and returns their number (`count`). The contract requires that
+/// they fit: `bpfhost_c_handle`, the only caller, copies a reply, after it has tested that `room` has at least `LONGEST_REPLY` bytes.
 fn copy_to_front(bytes: &[u8], room: &mut [u8]) -> usize
     requires { length bytes.now ≤ length room.old }
     ensures count { result ≡ length bytes.now }

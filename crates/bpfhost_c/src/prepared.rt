@@ -35,7 +35,9 @@ impl Prepared {
         }
     }
 
-    /// A handle that owns the program of a box, which is given as a raw pointer.
+    /// A handle that owns the program of `raw`, a box as a raw pointer, which owned the program before. `program` of the handle, for
+    /// contracts only, is the program in the box (`raw.value`). The pointer is cast to a pointer to bytes, as a handle has it. `put` calls
+    /// this function.
     pub(crate) fn from_raw_box(raw: RawBox<Verified, Global>) -> Prepared
         ensures { result.program ≡ Some raw.value }
     {
@@ -47,7 +49,7 @@ impl Prepared {
     }
 
     /// Consumes the handle, and returns the box of its program as a raw pointer. The caller then owns the program, and frees it by
-    /// `into_box`, which makes the pointer a box again. `None` if the handle is empty.
+    /// `into_box`, which makes the pointer a box again. `None` if the handle is empty: its pointer is null.
     pub(crate) fn into_raw_box(self) -> Option<RawBox<Verified, Global>>
         ensures { option_map (λ raw. raw.value) result ≡ self.program }
     {
@@ -61,7 +63,9 @@ impl Prepared {
         })
     }
 
-    /// Takes the program out, which leaves the handle empty; `None` if it was empty. `alloc` only fills a field of the handle.
+    /// Takes the program out of the handle, and returns it in a box; `None` if the handle was empty (`program`). Afterwards the handle is
+    /// empty (`empty`). A caller that does not use up the program puts it back (`put`). `alloc` only fills the field `alloc` of the empty
+    /// handle: nothing is allocated.
     pub(crate) fn take(&mut self, alloc: Global) -> Option<Box<Verified>>
         ensures program { option_map (λ b. b.value) result ≡ self.old.program }
         ensures empty { self.new.program ≡ None }
@@ -72,7 +76,8 @@ impl Prepared {
         }
     }
 
-    /// Puts a program in. A program that the handle had would be dropped; it has none, since each caller has called `take` before.
+    /// Puts a program into the handle, which then owns it. A program that the handle had would be dropped; it has none, since each caller
+    /// has called `take` before.
     pub(crate) fn put(&mut self, program: Box<Verified>)
         ensures { self.new.program ≡ Some program.value }
     {
@@ -81,7 +86,8 @@ impl Prepared {
 }
 
 impl Drop for Prepared {
-    /// Frees the program, if there is one.
+    /// Frees the program that the handle owns, if there is one: `into_box` makes the pointer a box again, and the box is dropped. An
+    /// assignment to the handle calls this function for what the handle had before, for example in `bpfhost_c_prepared_free`.
     fn drop(self) {
         if let Some(raw) = self.into_raw_box() {
             drop(raw.into_box());

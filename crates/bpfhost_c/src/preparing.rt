@@ -45,8 +45,9 @@ pub struct PreparedRefusal {
     pub reason: u32,
 }
 
-/// The object that a descriptor is to name: a program, or a map as MAP_CREATE makes it with these fields and flags 0. `None` if MAP_CREATE
-/// has an error for them.
+/// The object that `descriptor` is to name, as the caller of the library says: a program if `kind` is 0, else a map as MAP_CREATE makes it
+/// with these fields and flags 0 (of `kind` 1, a hash map, or 2, an array). `None` if MAP_CREATE has an error for them; then no program is
+/// prepared. The definition `object_of` in the contract has these cases.
 fn object_of(descriptor: &Descriptor) -> Option<Target>
     ensures { result ≡ object_of descriptor.now }
 {
@@ -66,8 +67,9 @@ fn object_of(descriptor: &Descriptor) -> Option<Target>
     }
 }
 
-/// Whether the object that each descriptor is to name is a program, or a map whose fields MAP_CREATE accepts (`object_of`). True if there
-/// are no descriptors.
+/// Whether each of these descriptors can name its object: the object is a program (`kind` 0), or a map whose fields MAP_CREATE accepts, so
+/// `object_of` is not `None`. True if there are no descriptors. If it is false, `bpfhost_c_prepare` returns `ERR_DESCRIPTORS`; so the list
+/// that `named_by` makes afterwards leaves out no descriptor.
 fn are_objects(descriptors: &[Descriptor]) -> bool
     ensures { result ≡ are_objects descriptors.now }
 {
@@ -79,8 +81,9 @@ fn are_objects(descriptors: &[Descriptor]) -> bool
     true
 }
 
-/// Each descriptor with the object that it is to name (`object_of`). A descriptor for whose fields MAP_CREATE has an error is left out.
-/// After the test by `are_objects` there is no such descriptor. `AllocError`: out of memory.
+/// The descriptors in their order, each with the object that it is to name (`object_of`): a program, or a map with the fields of the
+/// descriptor. `verify_slots` verifies a program with this list. A descriptor is left out, also in the contract (`named_by`), if MAP_CREATE
+/// has an error for its fields. None is left out after the test of `bpfhost_c_prepare` (`are_objects`). `AllocError`: out of memory.
 fn named_by(alloc: Global, descriptors: &[Descriptor]) -> Result<Vec<Named>, AllocError>
     ensures { IfOk result (λ named. named.items ≡ named_by descriptors.now) }
 {
@@ -94,9 +97,10 @@ fn named_by(alloc: Global, descriptors: &[Descriptor]) -> Result<Vec<Named>, All
     Ok(named)
 }
 
-/// Verifies slots. Each of the descriptors names the object that its fields describe (`object_of`). The inner result is the program
-/// that the slots spell, or why they are refused. The program's `objects` are the descriptors of its maps, each with its object. The
-/// working memory is freed afterwards. `AllocError`: out of memory.
+/// Verifies slots without a host. The open descriptors are taken to be `descriptors`, and each names the object that its fields describe
+/// (`object_of`, `named_by`). The outer error is `AllocError`: out of memory. The inner result is the accepted program that the slots spell
+/// (`accepted`), or why they are refused (`refused`); `Judges` relates slots to their verdict, of which there is at most one. The program's
+/// `objects` are the descriptors of its maps, each with its object (`objects`). The working memory is freed afterwards.
 fn verified(
     alloc: Global,
     slots: &[u8],
@@ -124,8 +128,9 @@ const NOT_REFUSED: PreparedRefusal = PreparedRefusal {
     reason: 0,
 };
 
-/// Why slots are refused, as in the reply to PROG_LOAD; a slot above 2^32 - 1, which has no room in the field, is written as
-/// 2^32 - 1.
+/// Why slots are refused, as in the reply to PROG_LOAD: the negated error number (`status`), the slot (`slot`), and the number of the
+/// reason (`reason`). A slot above 2^32 - 1, which has no room in the field `slot`, is written as 2^32 - 1. Only bytes that end within a
+/// slot and are more than 2^35 are refused at such a slot: the number of their whole slots.
 fn shown_refusal(refusal: Refusal) -> PreparedRefusal
     ensures status { result.status ≡ status_of (cause_errno refusal.cause) }
     ensures slot { result.slot ≡ min refusal.slot 4294967295 }

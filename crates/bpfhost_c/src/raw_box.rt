@@ -18,7 +18,8 @@ impl<T, A: Allocator> Model for RawBox<T, A> {
 }
 
 impl<T: Drop, A: Allocator> RawBox<T, A> {
-    /// Makes a box a raw pointer. What is in the box is not freed until `into_box` makes it a box again.
+    /// Makes a box a raw pointer, which a handle that C holds can have as a field. The pointer leads to what was in the box (`value` of
+    /// both). That is not freed until `into_box` makes the pointer a box again.
     pub(crate) fn from_box(value: Box<T, A>) -> RawBox<T, A>
         ensures { result.value ≡ value.value }
     {

@@ -54,9 +54,10 @@ pub(crate) struct Ran {
     pub(crate) packets: usize,
 }
 
-/// The contexts of the first `count` of `packets` packets. If each packet has its own, these are the first `count` contexts; else they are
-/// all contexts: one for all packets, or a number of contexts for which the batch is rejected. `count` comes from `allowed_packets`, so it
-/// is at most `packets`.
+/// The contexts with which `run_bounded` runs the first `count` of the `packets` packets of a batch, as many as a bound on instructions
+/// allows. If `contexts` has one for each packet, the result is its first `count` contexts. Else the result is all of `contexts`: a single
+/// context is for all packets, and with any other number of contexts the batch is rejected as a whole. `count` is what
+/// `Session::allowed_packets` returns, so it is at most `packets`.
 fn front_contexts(
     contexts: &[[u32; GIVEN_WORDS]],
     packets: usize,
@@ -73,8 +74,9 @@ fn front_contexts(
 }
 
 impl Session {
-    /// A session with a new host for `tenants` tenants, a number that the caller has tested. It has no reply and no saved part yet.
-    /// `AllocError`: out of memory.
+    /// A session with a new host for `tenants` tenants, at least 1 (`some`) and at most `MOST_TENANTS` (`few`), as `bpfhost_c_new` tests.
+    /// The keys of the host's hash maps will be hashed with `seed`. The session has no reply and no saved part yet. `AllocError`: out of
+    /// memory.
     pub(crate) fn new(
         alloc: Global,
         tenants: usize,
@@ -96,8 +98,10 @@ impl Session {
         Ok(Box::new(alloc, session)?)
     }
 
-    /// Handles a frame, whose reply is then in `reply`. The births of the frame's tenant change as its command says, and no other births
-    /// change (`recorded`).
+    /// Handles a frame (what follows its length field), whose reply is then in `reply`, with at most `LONGEST_REPLY` bytes (`bound`). The
+    /// reply and the next state of the frame's tenant are those of its machine, all other tenants are unchanged, and no test run faults
+    /// (`handled`). The tenant's births, the record of its live maps and open programs, change as the command says; no other births change
+    /// (`recorded`).
     pub(crate) fn handle(&mut self, frame: &[u8])
         ensures handled { Handles self.old.host.states frame.now self.new.reply.items
             self.new.host.states }
@@ -114,9 +118,10 @@ impl Session {
         self.reply = reply.into_vec();
     }
 
-    /// Makes part `part`, counted from 0, of a save of a tenant. True: the part's frames are in `saved`. False: there is no such part, or
-    /// the tenant is not served. `AllocError`: out of memory. After false, and after `AllocError`, `saved` is empty. The frames of all
-    /// parts restore the tenant: a new tenant that has handled them replies as the saved one does (`restored`).
+    /// Makes part `part`, counted from 0, of a save of a tenant. True: the field `saved` has the frames of the part, each after its length
+    /// (`saved_part` of `host_core`). False: there is no such part, or the tenant is not served. `AllocError`: out of memory. After false,
+    /// and after `AllocError`, the field is empty. The host is unchanged (`host`). The frames of all parts, in order, restore the tenant: a
+    /// new tenant that has handled them replies as the saved one does, unless memory is refused to it (`restored`).
     pub(crate) fn save(&mut self, tenant: usize, part: usize) -> Result<bool, AllocError>
         ensures saved { IfOk result (λ found. saved_part self.old.host tenant part
             ≡ (if found then Some self.new.saved.items else None)) }
@@ -136,10 +141,11 @@ impl Session {
         }
     }
 
-    /// Opens, at a descriptor of `tenant`, a program that was verified without a host. Returns the status of the reply to the frame that
-    /// would load it: the descriptor, or the negated error number. For a tenant that is not served the program is dropped, and the status
-    /// is that of `NotPermitted`. `Err`: a descriptor of the program's maps names no map of the shape with which the program was accepted.
-    /// Then the program is given back, and the session is unchanged.
+    /// Opens a program that was verified without a host, at the lowest free descriptor of `tenant`. `Ok` has the status of the reply to the
+    /// frame that would load the program: the descriptor, or the negated number of an error, after which the program is dropped. The host
+    /// changes as by this frame (`loaded`). If the tenant is not served, the error is `NotPermitted`. `Err` gives the program back, and the
+    /// session is unchanged: a descriptor of the program's maps names no map of the shape with which the program was accepted (`stale`).
+    /// After `Ok` each of these descriptors names such a map, if the tenant is served (`fits`).
     pub(crate) fn install(
         &mut self,
         tenant: u16,
@@ -157,8 +163,10 @@ impl Session {
 
     /// Runs the program at descriptor `fd` of a tenant on the packets of a batch, writes the results to the front of `results`, and returns
     /// 0. In `batch`, the packets lie one after another in `bytes`, `ends` has for each the number of bytes up to its end, and `contexts`
-    /// has one context for all packets, or one for each. If the batch is rejected, the call returns the status of the error, the negated
-    /// error number; then no packet was run, and nothing has changed.
+    /// has one context for all packets, or one for each. For a rejected batch no packet is run, nothing changes, and the result is the
+    /// negated number of the first of these errors: `NotPermitted` (the tenant is not served), `BadDescriptor` (`fd` is not open),
+    /// `Invalid` (it names a map, `results` is too short, or `contexts` has another length), and for the first wrong packet `Invalid` (its
+    /// end is before the previous one or outside `bytes`) or `TooBig` (it is too long). The births for a save never change (`births`).
     pub(crate) fn run_packets(
         &mut self,
         tenant: usize,
@@ -186,10 +194,11 @@ impl Session {
     }
 
     /// How many packets at the front of a batch a `bound` on executed instructions allows. The batch has `contexts` contexts and `packets`
-    /// packets, for the program at descriptor `fd` of `tenant`. The result is `bound` divided by the weight of a run, but at least 1, and
-    /// at most `packets`; the weight is the most instructions that a run executes, plus a fixed number for each of the most calls that a
-    /// run makes (`Host::allowed_packets`). The result is `packets` if `bound` is 0, or if the batch is rejected as a whole: the batch has
-    /// neither one context nor one for each packet, `fd` names no program, or `tenant` is not served.
+    /// packets, for the program at descriptor `fd` of `tenant`. By `allowed` (`Host::allowed_packets`) the result is `bound` divided by the
+    /// weight of a run and rounded down, but at least 1, and at most `packets` (`few`); the weight is the most instructions that a run
+    /// executes, plus `CALL_WEIGHT` of `tenant` for each of the most calls that a run makes. The result is `packets` if `bound` is 0, or if
+    /// the batch is rejected as a whole: `fd` names no program, `tenant` is not served, or the batch has neither one context nor one for
+    /// each packet (`whole`). With fewer packets such a batch could have one context for each, and would be run.
     fn allowed_packets(
         &self,
         tenant: usize,
@@ -209,10 +218,11 @@ impl Session {
         self.host.allowed_packets(tenant, fd, bound, packets)
     }
 
-    /// Runs the program at descriptor `fd` of a tenant on the packets at the front of a batch, as many as `bound`, a bound on executed
-    /// instructions, allows (`allowed_packets`); 0 is no bound. Their results are written to the front of `results`, and `Ran` has status 0
-    /// and the number of these packets.
-    /// If `run_packets` rejects these packets, `Ran` has the status of the error and 0 packets; then nothing has changed.
+    /// Runs the program at descriptor `fd` of a tenant on the first packets of a batch, as many as `allowed_packets` returns for `bound`.
+    /// This is a bound on the instructions that all runs together may execute, in which a call of a helper counts for more than one; one
+    /// packet is always allowed, and 0 is no bound. The results are written to the front of `results`, and `Ran` has status 0 and the
+    /// number of these packets. If `run_packets` rejects these packets, `Ran` has the status of the error, its negated number, and 0
+    /// packets; then nothing has changed. The record of births, which a save needs, never changes (`births`).
     pub(crate) fn run_bounded(
         &mut self,
         tenant: usize,
@@ -240,14 +250,15 @@ impl Session {
         Ran { status, packets }
     }
 
-    /// Runs the program at descriptor `fd` of a tenant on the packets at the front of a batch, as many as `allowed_packets` returns for
-    /// `bound` instructions; 0 is no bound. Each context has `batch.size` words, and a run is given `GIVEN_WORDS`: missing words are 0, and
-    /// words beyond that number are left out, and have to be 0. The results are written to the front of `results`, and `Ran` has status 0
-    /// and the number of these packets. If `run_bounded` rejects the packets, `Ran` has the status of the error and 0 packets; then nothing
-    /// has changed.
+    /// Runs the program at descriptor `fd` of a tenant on the first packets of a batch: as many as `bound`, a number of instructions,
+    /// allows (`allowed_packets`); 0 is no bound. Each context has `batch.size` words, and a run is given `GIVEN_WORDS`: missing words are
+    /// 0, and words beyond that number are left out, and have to be 0 (`contexts_of`). Returns `Ran` with status 0 and the number of
+    /// packets that were run; their results are at the front of `results`. If `run_bounded` rejects the batch, `Ran` has the negated error
+    /// number and 0 packets, and nothing has changed (`done`). No births of the host change, since a run opens nothing (`births`).
     ///
     /// `Err`: the code that C gets. `ERR_SIZE`: the size is 0 or the last context is cut off. `ERR_TOO_BIG`: a context has a word that no
-    /// run is given and that is not 0. `ERR_NO_MEMORY`: out of memory. Then nothing is changed.
+    /// run is given and that is not 0. `ERR_NO_MEMORY`: out of memory, for contexts without these faults (`code`). After `Err` nothing is
+    /// changed (`session`, `results`); after `Ok` the contexts have neither fault (`known`).
     pub(crate) fn run_sized(
         &mut self,
         tenant: usize,

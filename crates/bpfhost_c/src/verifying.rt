@@ -21,7 +21,8 @@ pub struct Logged {
     pub is_accepted: bool,
 }
 
-/// The style of a number: 0 for lines with what is new, 1 for lines with all that is known, 2 for a graph; `None` for another one.
+/// The style of a log by the number that a caller of `bpfhost_c_verify` gives: 0 for lines with what is new before each instruction, 1 for
+/// lines with all that is known, 2 for a graph; `None` for any other number, for which that call returns `ERR_STYLE`.
 fn style_of(number: u32) -> Option<LogStyle>
     ensures { result ≡ style_of number }
 {
@@ -33,8 +34,8 @@ fn style_of(number: u32) -> Option<LogStyle>
     }
 }
 
-/// Writes as much of a text as fits to the front of `room`, and a zero byte after it, as C ends a string. In an empty room there is no byte
-/// for the zero, and nothing is written.
+/// Writes as much of `text`, a log, as fits to the front of `room`, the caller's buffer, and a zero byte after it, as C ends a string. The
+/// bytes of `room` after the zero are unchanged. In an empty room there is no byte for the zero, and nothing is written.
 fn write_text(text: &[u8], room: &mut [u8])
     ensures { room.new ≡ text_in text.now room.old }
 {
@@ -46,9 +47,11 @@ fn write_text(text: &[u8], room: &mut [u8])
     room[count] = 0;
 }
 
-/// The log of the program that the bytes of `slots` spell, or the line of their refusal if they spell none; and whether the program is
-/// accepted. By `style` the log has lines or is a graph. The program is verified with the objects that the descriptors of `tenant` name;
-/// for a tenant that is not served nothing is open. `AllocError`: out of memory.
+/// The log of the program that the bytes of `slots` spell, and whether the program is accepted. By `style` the log has a line for each
+/// instruction with what is new before it (`New`) or with all that is known (`Whole`), or it is a graph (`Graph`). If the bytes spell no
+/// program, the log is one line, their refusal, and `is_accepted` is false. The program is verified with the objects that the descriptors
+/// of `tenant` name; for a tenant that is not served no descriptor is open. The contract says whether the program is accepted, and of
+/// lines, but not of a graph, that they end in the verdict. `AllocError`: out of memory, which is never a refusal.
 fn log_in(
     alloc: Global,
     host: &Host,

@@ -17,8 +17,9 @@ pub struct Descriptors {
     named: Vec<Named>,
 }
 
-/// The shape that a text `KIND:KEY:VALUE:MAX` means. The error is `Map` if the text means none, or `Memory`. `read_shape` reads a whole map
-/// argument, which begins with a descriptor: 3 is written before the text, and the descriptor is not returned.
+/// The shape that a text `KIND:KEY:VALUE:MAX` means: `array` or `hash`, the sizes of a key and of a value in bytes, and `max_entries`. The
+/// error is `Map` if the text is anything else, or if no map may have this shape; `Memory` if out of memory. `read_shape` of `host` reads a
+/// whole map argument, which begins with a descriptor: so `3:` is written before the text, and the descriptor 3 is not returned.
 pub fn shape_of(alloc: Global, text: &str) -> Result<MapShape, CaseError> {
     let argument = format!(in alloc; "3:{text}")?;
     match read_shape(argument.as_str())?.target {
@@ -28,8 +29,10 @@ pub fn shape_of(alloc: Global, text: &str) -> Result<MapShape, CaseError> {
     }
 }
 
-/// The map that `FD:KIND:KEY:VALUE:MAX` names. Unlike in a map argument, FD may be any number of 32 bits. `Notation` without a colon, `Map`
-/// if the rest is no shape, `Number` if FD is no such number.
+/// The map of the line `map FD:KIND:KEY:VALUE:MAX`: the descriptor FD, and the shape of the map that it names (`array` or `hash`, the sizes
+/// of a key and of a value in bytes, and `max_entries`). Unlike in a map argument of the host, FD may be any number of 32 bits. The error
+/// is the first that applies: `Notation` if `text`, what follows `map`, has no colon; `Map` if what follows its first colon is no shape of
+/// a map, or `Memory` if out of memory; `Number` if FD is no number of 32 bits.
 fn named_map(alloc: Global, text: &str) -> Result<Named, CaseError> {
     let (fd, shape) = text.split_once(':').ok_or(CaseError::Notation)?;
     let shape = shape_of(alloc, shape)?;
@@ -39,7 +42,8 @@ fn named_map(alloc: Global, text: &str) -> Result<Named, CaseError> {
     })
 }
 
-/// An open descriptor that names a program. The text is the descriptor, any number of 32 bits; `Number` if the text is no such number.
+/// An open descriptor that names a program. The text, which follows `program` in a line, is the descriptor, any number of 32 bits in
+/// decimal; `Number` if the text is no such number.
 fn named_program(text: &str) -> Result<Named, CaseError> {
     Ok(Named {
         fd: text.parse()?,
@@ -56,20 +60,23 @@ impl Descriptors {
         }
     }
 
-    /// The open descriptors with what each names, in the order in which the lines opened them. One that two lines opened is listed twice.
+    /// The open descriptors with what each names, a map of some shape or a program, in the order in which the lines opened them. One that
+    /// two lines opened is listed twice, and the verifier takes its first object. Players verify programs with this list.
     pub fn named(&self) -> &[Named] {
         &self.named
     }
 
-    /// Appends an open descriptor with the object that it names (`new`). Returns the text `open`, which is written below the line that
-    /// opens the descriptor. The error is out of memory.
+    /// Appends an open descriptor with the object that it names (`new`). If its number is open already, the first one with this number
+    /// counts. Returns the text `open`, which is written below the line that opens the descriptor. The error is out of memory.
     fn open(&mut self, new: Named) -> Result<String, CaseError> {
         self.named.push(new)?;
         Ok("open".to_string(self.alloc)?)
     }
 
-    /// Plays a line that opens a descriptor, or `new`, which closes all. Returns what is written below the line. `UnknownWord` if the line
-    /// has another first word; the errors of `map` and `program` are those of `named_map` and `named_program`.
+    /// Plays a line `map FD:KIND:KEY:VALUE:MAX` or `program FD`, which opens a descriptor, or a line `new`, which closes all. Returns the
+    /// text that is written below the line: `open`, or for `new` the text `none open`. `UnknownWord` if the line has another first word.
+    /// The errors of a `map` line are `Notation`, `Map` and `Number` (`named_map`), that of a `program` line is `Number` (`named_program`);
+    /// any line may be out of memory (`Memory`).
     pub fn play(&mut self, line: &str) -> Result<String, CaseError> {
         let (word, rest) = first_word(line);
         match word {

@@ -5,7 +5,9 @@ use crate::notation::text_of;
 use std::alloc::{AllocError, Global};
 use std::fmt::Write;
 
-/// Appends equal lines, at least one, after a line feed: one unchanged, more as a repetition in the notation of cases.
+/// Appends a line feed and then lines that are equal: one line unchanged, more as the repetition `{COUNT*LINE;}` of the notation of cases,
+/// in which `;` is a line feed. There is at least one line, as the caller's `chunk_by` gives no empty slice; without one, `{0*;}` would be
+/// appended. `AllocError`: out of memory.
 fn append_equal(text: &mut String, lines: &[&str]) -> Result<(), AllocError> {
     let line = lines.first().copied().unwrap_or("");
     match lines.len() {
@@ -14,8 +16,9 @@ fn append_equal(text: &mut String, lines: &[&str]) -> Result<(), AllocError> {
     }
 }
 
-/// Appends the lines of `output`, each after a line feed. Equal lines that follow each other become one line, a repetition in the notation
-/// of cases. If the last line of `output` has no line feed, appends a line that states this. `AllocError`: out of memory.
+/// Appends to `text` the lines of a program's `output`, each after a line feed. Equal lines that follow each other become one line, a
+/// repetition in the notation of cases. If the last line of `output` has no line feed, appends a line that states this. `AllocError`: out
+/// of memory.
 fn append_output(alloc: Global, text: &mut String, output: &str) -> Result<(), AllocError> {
     let lines: Vec<&str> = output.lines().collect(alloc)?;
     for equal in lines.chunk_by(|a, b| a == b) {
@@ -27,9 +30,10 @@ fn append_output(alloc: Global, text: &mut String, output: &str) -> Result<(), A
     Ok(())
 }
 
-/// The text of how a program ended: its status, then the lines of `output`, then each line of `faults` with `fault: ` before it. Equal
-/// lines of `output` that follow each other become one repetition, and if its last line has no line feed, one more line states this.
-/// `faults` is what the program wrote as its fault. `NoText` if `faults` are not UTF-8, `Memory` if out of memory.
+/// The text of how a program ended: `status`, its exit status, then the lines of `output`, then each line of `faults` with `fault: ` before
+/// it. Equal lines of `output` that follow each other become one repetition, `{COUNT*LINE;}`, and if the last line of `output` has no line
+/// feed, one more line states this. `faults` is what the program wrote as its fault. `NoText` if `faults` are not UTF-8, `Memory` if out of
+/// memory.
 pub fn outcome(
     alloc: Global,
     status: u8,

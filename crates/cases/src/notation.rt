@@ -14,7 +14,8 @@ pub const GROUP: usize = 4;
 /// The greatest COUNT of a repetition `{COUNT*PART}`: as many as the program's longest input has bytes.
 const MOST_TIMES: u32 = 1_048_576;
 
-/// A number of repetitions, from its decimal digits. `Notation` if they are no number, or it is above `MOST_TIMES`.
+/// A number of repetitions, the COUNT of `{COUNT*PART}`, from its decimal digits, before which a `+` is allowed; 0 is allowed too. A line
+/// `exits` of `cases_texts` has such a number of exits. `Notation` if `digits` is no such number, or it is above `MOST_TIMES`.
 pub fn times(digits: &str) -> Result<u32, CaseError> {
     match digits.parse::<u32>() {
         Ok(times) if times <= MOST_TIMES => Ok(times),
@@ -22,7 +23,9 @@ pub fn times(digits: &str) -> Result<u32, CaseError> {
     }
 }
 
-/// Appends the characters of a text without escapes and repetitions: `;` as a line feed, others unchanged.
+/// Appends the bytes of `text` to `bytes`, with a line feed for each `;`; other bytes are unchanged. `text` is a piece of a line in the
+/// notation of cases that has no escape `\xHH` and no repetition, since the callers have split the line at these. `AllocError`: out of
+/// memory.
 fn append_characters(bytes: &mut Vec<u8>, text: &str) -> Result<(), AllocError> {
     for byte in text.bytes() {
         bytes.push(if byte == b';' { b'\n' } else { byte })?;
@@ -31,8 +34,8 @@ fn append_characters(bytes: &mut Vec<u8>, text: &str) -> Result<(), AllocError> 
 }
 
 /// Appends the byte that the two hex digits at the front of `text` name, and then the characters after the digits, with `;` as a line feed.
-/// In the line, `text` follows a `\x`. `Notation` if `text` can't be split after two bytes, `Digits` if these are no hex digits, `Memory`
-/// if out of memory.
+/// In the line, `text` follows a `\x`. `Notation` if `text` can't be split after two bytes, since it has fewer, or a character would be
+/// cut; `Digits` if the two bytes are no hex digits, `Memory` if out of memory.
 fn append_escaped(bytes: &mut Vec<u8>, text: &str) -> Result<(), CaseError> {
     let (digits, rest) = text.split_at_checked(2).ok_or(CaseError::Notation)?;
     let byte = <[u8; 1] as FromHex>::from_hex(digits)?;
@@ -41,8 +44,9 @@ fn append_escaped(bytes: &mut Vec<u8>, text: &str) -> Result<(), CaseError> {
     Ok(())
 }
 
-/// Appends the bytes of a text without repetitions. The text is split at each `\x`, and each piece but the first has to begin with two hex
-/// digits. `Notation` if such a piece can't be split after two bytes, `Digits` if these are no hex digits, `Memory` if out of memory.
+/// Appends the bytes of a text without repetitions: a line feed for `;`, the byte of the two hex digits for `\xHH`, and all others
+/// unchanged. The text is split at each `\x`, and each piece but the first has to begin with two hex digits. `Notation` if such a piece
+/// can't be split after two bytes, `Digits` if these are no hex digits, `Memory` if out of memory.
 fn append_text(bytes: &mut Vec<u8>, text: &str) -> Result<(), CaseError> {
     for (index, piece) in text.split("\\x").enumerate() {
         if index == 0 {
@@ -82,9 +86,10 @@ fn append_times(
     Ok(())
 }
 
-/// Appends the bytes of a repetition, `{COUNT*PART}`, and of the text after the repetition; `text` begins after the `{`. `Notation` if the
-/// `}` or the `*` is missing, COUNT is wrong (`times`), or two bytes can't be split off after a `\x`; `Digits` if the two bytes are no hex
-/// digits; `Memory` if out of memory.
+/// Appends the bytes of a repetition, `{COUNT*PART}`, and of the text after the repetition. `text` is what follows the `{`, up to the next
+/// `{` or the end. The bytes of PART are appended COUNT times, and each `#` in them becomes the number of repetitions before. `Notation` if
+/// the `}` or the `*` is missing, COUNT is no number or above `MOST_TIMES`, or two bytes can't be split off after a `\x`; `Digits` if the
+/// two bytes are no hex digits; `Memory` if out of memory.
 fn append_repeated(alloc: Global, bytes: &mut Vec<u8>, text: &str) -> Result<(), CaseError> {
     let (repetition, rest) = text.split_once('}').ok_or(CaseError::Notation)?;
     let (digits, part) = repetition.split_once('*').ok_or(CaseError::Notation)?;
@@ -95,10 +100,11 @@ fn append_repeated(alloc: Global, bytes: &mut Vec<u8>, text: &str) -> Result<(),
 }
 
 /// The bytes that a text in the notation of cases gives. `;` gives a line feed, `\xHH` the byte with these two hex digits, and
-/// `{COUNT*PART}` the bytes of PART, COUNT times, in which each `#` is the number of repetitions before, from 0 on. All other bytes are
-/// unchanged. PART may have `;` and `\xHH` but no repetition, since it ends at the first `}`.
+/// `{COUNT*PART}` the bytes of PART, COUNT times, in which each `#` is the number of repetitions before, in decimal, from 0 on. All other
+/// bytes are unchanged. PART may have `;` and `\xHH` but no repetition, since it ends at the first `}`.
 ///
-/// `Notation` if a `}` or `*` is missing, COUNT is no number or too large (`times`), or the text can't be split two bytes after a `\x`;
+/// `Notation` if the `}` or the `*` of a repetition is missing, if COUNT is no number of at most `MOST_TIMES`, or if two bytes can't be
+/// split off after a `\x`: fewer are left before the next `\x`, the next brace of a repetition or the end, or they end within a character.
 /// `Digits` if these two bytes are no hex digits; `Memory` if out of memory.
 pub fn written(alloc: Global, text: &str) -> Result<Vec<u8>, CaseError> {
     let mut bytes = Vec::new(alloc);
@@ -112,14 +118,15 @@ pub fn written(alloc: Global, text: &str) -> Result<Vec<u8>, CaseError> {
     Ok(bytes)
 }
 
-/// The bytes as text. `NoText` if they are not UTF-8.
+/// The bytes as text; `NoText` if they are not UTF-8. Callers have the bytes of `written`, in which `\xHH` may give any byte, or those that
+/// a program has written, and need text to read or to print.
 pub fn text_of(bytes: &[u8]) -> Result<&str, CaseError> {
     str::from_utf8(bytes).map_err(|_| CaseError::NoText)
 }
 
-/// The bytes of the hex digits that `text` represents in the notation of cases (`written`), so a repetition may stand for digits. Blanks
-/// between the digits are left out. The errors are those of `written`, then `NoText` if the bytes that `written` returns are not UTF-8,
-/// then `Digits` if one of their characters is neither a blank nor a hex digit, or if the number of digits is odd.
+/// The bytes of the hex digits that `text` represents in the notation of cases (`written`): a repetition may give digits, as `{2*0a}` gives
+/// `0a0a`, two bytes. Blanks between the digits are left out. The errors are those of `written`, then `NoText` if the bytes that `written`
+/// returns are not UTF-8, then `Digits` if one of their characters is neither a blank nor a hex digit, or if the number of digits is odd.
 pub fn bytes_of(alloc: Global, text: &str) -> Result<Vec<u8>, CaseError> {
     let text = written(alloc, text)?;
     let digits = text_of(&text)?;
@@ -128,9 +135,10 @@ pub fn bytes_of(alloc: Global, text: &str) -> Result<Vec<u8>, CaseError> {
     Ok(bytes)
 }
 
-/// The bytes of a map's key or value, from hex digits in the notation of cases. Blanks may separate the digits. The errors are those of
-/// `bytes_of`, for example `Digits` if a character is no hex digit or the number of digits is odd, then `Size` if there are not `size`
-/// bytes.
+/// The bytes of a map's key or value, `size` bytes, from hex digits in the notation of cases (`bytes_of`): blanks may separate the digits,
+/// and a repetition `{COUNT*PART}` may give them. `Notation` if the notation is wrong; `NoText` if the digits are not UTF-8; `Digits` if a
+/// character is no hex digit or the number of digits is odd; then `Size` if there are not `size` bytes. If out of memory, `Memory`, or
+/// `Digits` from the decoder of the digits.
 pub fn bytes_of_size(alloc: Global, text: &str, size: u32) -> Result<Vec<u8>, CaseError>
     ensures { IfOk result (λ bytes. length bytes.items ≡ size) }
 {
@@ -141,8 +149,8 @@ pub fn bytes_of_size(alloc: Global, text: &str, size: u32) -> Result<Vec<u8>, Ca
     Ok(bytes)
 }
 
-/// The hex digits of bytes, in groups of `size` bytes with a blank between them; the last group has the bytes that are left, which may be
-/// fewer. A size of 0 counts as 1. `AllocError`: out of memory.
+/// The hex digits of bytes, in lower case, in groups of `size` bytes with a blank between them; the last group has the bytes that are left,
+/// which may be fewer. A `size` of 0, which `chunks` does not take, counts as 1. `AllocError`: out of memory.
 pub fn hex_groups(alloc: Global, bytes: &[u8], size: usize) -> Result<String, AllocError> {
     let mut text = String::new(alloc);
     for group in bytes.chunks(size.max(1)) {
@@ -154,8 +162,9 @@ pub fn hex_groups(alloc: Global, bytes: &[u8], size: usize) -> Result<String, Al
     Ok(text)
 }
 
-/// Appends equal lines, at least one, to `shown`, with `;` for the line feed at their end: one line as it is, more as `{COUNT*PART}`.
-/// `AllocError`: out of memory.
+/// Appends `lines`, which are equal, to the text `shown`, with `;` for the line feed at their end, if they have one: one line as it is,
+/// more as `{COUNT*PART}` with their number and one of them. The caller passes at least one; for none, `{0*}` is appended, which `written`
+/// reads as no byte. `AllocError`: out of memory.
 fn append_lines(alloc: Global, shown: &mut String, lines: &[&str]) -> Result<(), AllocError> {
     let line = lines.first().copied().unwrap_or("");
     let line = line.replace(alloc, '\n', ";")?;
@@ -165,8 +174,9 @@ fn append_lines(alloc: Global, shown: &mut String, lines: &[&str]) -> Result<(),
     }
 }
 
-/// A text on one line: `;` for each line feed, and equal lines, one after another, as a repetition `{COUNT*PART}`. A `;`, `\` or brace that
-/// the text itself has is not escaped, so two texts may be shown alike.
+/// A text on one line, for the outcome of a case: `;` for each line feed, and equal lines, one after another, as a repetition
+/// `{COUNT*PART}`. A `;`, `\`, `#` or brace that the text itself has is not escaped, so two texts may be shown alike. `AllocError`: out of
+/// memory.
 pub fn shown(alloc: Global, text: &str) -> Result<String, AllocError> {
     let lines: Vec<&str> = text.split_inclusive('\n').collect(alloc)?;
     let mut shown = String::new(alloc);

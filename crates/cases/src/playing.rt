@@ -6,8 +6,9 @@ use std::io;
 
 /// Plays the lines of a file of cases in order. Its state is what earlier lines have made.
 pub trait Player {
-    /// Does what a line that is no remark asks for. Returns the lines of its outcome, the empty text if it has none, or an error.
-    /// `play_lines` writes the lines or the error below the line.
+    /// Plays a line: does what its first word says with the rest. Returns the lines of its outcome as one text, which is empty if it has
+    /// none. The error is what is wrong with the line, or with what it names, or out of memory. `play_lines` calls this for each line that
+    /// is no remark (empty, or begun with `#`), and writes the lines or the error below it.
     fn play(&mut self, line: &str) -> Result<String, CaseError>;
 }
 
@@ -19,8 +20,9 @@ fn print_indented<R: Print>(rt: &R, answer: &str) -> io::Result<()> {
     Ok(())
 }
 
-/// Writes each line of standard input, and below it, indented, its outcome or the error of playing it; nothing below a remark. After such
-/// an error the next line is played. Returns an error only if standard input or output fails: then no further line is played.
+/// Plays the lines of standard input: writes each line, and below it, indented, its outcome or its error, which `player` returns. A remark,
+/// which is an empty line or one that begins with `#`, is written, but not played. After the error of a line the next line is played.
+/// Returns an error only if standard input or output fails: then no further line is played.
 pub fn play_lines<R: AllocGlobal + Input + Print, P: Player>(
     rt: &R,
     player: &mut P,

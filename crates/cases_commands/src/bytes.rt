@@ -7,7 +7,7 @@ use std::alloc::{AllocError, Global};
 const MOST_WRITTEN: usize = 64;
 
 /// The hex digits of bytes, with a blank between groups of `GROUP` bytes. Of more than `MOST_WRITTEN` bytes, only those of the first 16,
-/// and then the number of all bytes. `AllocError`: out of memory.
+/// and then the number of all bytes, so that the line of an outcome is short. `AllocError`: out of memory.
 pub fn shown(alloc: Global, bytes: &[u8]) -> Result<String, AllocError> {
     if bytes.len() <= MOST_WRITTEN {
         return hex_groups(alloc, bytes, GROUP);

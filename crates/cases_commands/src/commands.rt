@@ -5,8 +5,9 @@ use cases::{CaseError, bytes_of};
 use command_frames::{BadFrame, Command, GIVEN_WORDS, HEAD_LENGTH, head, parse};
 use std::alloc::{AllocError, Global};
 
-/// The tenant and the command number of a frame, as text, or `no head` if the frame is too short for a head. `digits` are the frame's bytes
-/// in hex. The errors are those of `bytes_of`, and out of memory.
+/// A case of `head`: the tenant and the command number of a frame, as `tenant 1, command 5`, or `no head` if the frame has fewer than four
+/// bytes. `digits` are the frame's bytes in hex digits; `Notation`, `NoText` or `Digits` if they are anything else (`bytes_of`), `Memory`
+/// if out of memory.
 pub fn head_line(alloc: Global, digits: &str) -> Result<String, CaseError> {
     let frame = bytes_of(alloc, digits)?;
     let Some(head) = head(&frame) else {
@@ -16,7 +17,8 @@ pub fn head_line(alloc: Global, digits: &str) -> Result<String, CaseError> {
     Ok(format!(in alloc; "tenant {tenant}, command {command}")?)
 }
 
-/// The context words of a test run, in decimal, with a blank between them.
+/// The text of the `GIVEN_WORDS` context words that the frame of a test run has: numbers in decimal, with a blank between them. The first
+/// word of the context, the packet's length, is not among them, since the host writes it. `AllocError`: out of memory.
 fn words_text(alloc: Global, words: [u32; GIVEN_WORDS]) -> Result<String, AllocError> {
     let mut text = String::new(alloc);
     for word in words {
@@ -28,8 +30,9 @@ fn words_text(alloc: Global, words: [u32; GIVEN_WORDS]) -> Result<String, AllocE
     Ok(text)
 }
 
-/// The text of a command whose fields are a number (`fd`: a descriptor, or the program type of a load) and bytes: the command's name, the
-/// number, and the bytes (`shown`) in brackets.
+/// The text of a command whose fields are one number and bytes, as `lookup 3 [01020304]`. `name` is the command's name. `fd` is the number:
+/// a descriptor, or for a load the type of the program. `bytes` are written in brackets as hex digits, of more than 64 only the first 16,
+/// with the number of all (`shown`). `AllocError`: out of memory.
 fn number_and_bytes(
     alloc: Global,
     name: &str,
@@ -40,7 +43,8 @@ fn number_and_bytes(
     format!(in alloc; "{name} {fd} [{bytes}]")
 }
 
-/// The text of a command: its name and its fields.
+/// The text of a command, for the outcome of a case: its name, then its fields in the order of `Command`. Numbers are in decimal. Bytes, as
+/// `shown` writes them, and the context words of a test run are in brackets. `AllocError`: out of memory.
 fn command_text(alloc: Global, command: Command<'_>) -> Result<String, AllocError> {
     match command {
         Command::MapCreate {
@@ -71,8 +75,10 @@ fn command_text(alloc: Global, command: Command<'_>) -> Result<String, AllocErro
     }
 }
 
-/// The hex digits are a frame's bytes. The result is the text of the frame's command with its fields, or why `parse` rejects the frame. For
-/// a frame without a head, which `parse` does not take, the text is `no head`. Fails as `bytes_of` does, or if out of memory.
+/// A case of `parse`: the text of the command that a frame has, with its fields, as `close 3`. If `parse` rejects the frame, the text is
+/// why: `too long`; `unknown` if no command has the frame's number; or `wrong body` if its body has another length than the command needs.
+/// For a frame of fewer than four bytes `parse` is not called, and the text is `no head`. `digits` are the frame's bytes in hex digits;
+/// `Notation`, `NoText` or `Digits` if they are anything else (`bytes_of`), `Memory` if out of memory.
 pub fn parse_line(alloc: Global, digits: &str) -> Result<String, CaseError> {
     let frame = bytes_of(alloc, digits)?;
     if frame.len() < HEAD_LENGTH {

@@ -21,6 +21,8 @@ use cases::play_lines;
 use player::CommandPlayer;
 use std::io;
 
+/// Plays the lines of standard input: writes each line, and below it its outcome or its error (`play_lines`). Fails only if memory for the
+/// player is refused, or if standard input or output fails.
 fn main(rt: HostRuntime) -> io::Result<()> {
     let mut player = CommandPlayer::new(rt.alloc())?;
     play_lines(&rt, &mut player)

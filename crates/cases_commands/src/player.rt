@@ -16,7 +16,8 @@ pub struct CommandPlayer {
 }
 
 impl CommandPlayer {
-    /// A player with nothing open. `AllocError`: out of memory.
+    /// A player whose table of descriptors (`numbers`) has none open, with the buffer into which it writes replies (`room`). `AllocError`:
+    /// out of memory.
     pub fn new(alloc: Global) -> Result<CommandPlayer, AllocError> {
         Ok(CommandPlayer {
             alloc,
@@ -25,9 +26,11 @@ impl CommandPlayer {
         })
     }
 
-    /// The bytes of a reply, for the words of a line: a tenant, a command, a status, and the hex digits of the payload. `Number` if one of
-    /// the first three is no number of its type, `OutOfRange` if the payload is longer than `LONGEST_PAYLOAD`. It also fails as `bytes_of`
-    /// does, or if out of memory.
+    /// Plays the line `reply TENANT COMMAND STATUS HEX`; `rest` is what follows `reply`. Returns the bytes that `write_reply` writes for
+    /// these three numbers and the payload HEX, as hex digits (`shown`, which shortens a long text). The error is the first that applies:
+    /// `Number` if the tenant or the command is no number of 16 bits; `Notation`, `NoText` or `Digits` if HEX is not an even number of hex
+    /// digits in the notation of cases; `OutOfRange` if the payload is longer than `LONGEST_PAYLOAD`; `Number` if the status is no signed
+    /// number of 32 bits. `Memory` if out of memory.
     fn reply(&mut self, rest: &str) -> Result<String, CaseError> {
         let (tenant, rest) = first_word(rest);
         let (command, rest) = first_word(rest);
@@ -44,8 +47,9 @@ impl CommandPlayer {
         Ok(shown(self.alloc, self.room.bytes())?)
     }
 
-    /// Opens the lowest free descriptor, which then names `number`, and returns the descriptor as text. The objects of this table are
-    /// numbers. If no descriptor is free, the text says that `number` is handed back.
+    /// Opens the lowest free descriptor of the table, whose objects are numbers: the descriptor then names `number`. Returns the descriptor
+    /// as text. If none is free, the table returns `number` as its error, and the text says that it is handed back. `AllocError`: out of
+    /// memory for the text.
     fn place(&mut self, number: u32) -> Result<String, AllocError> {
         match self.numbers.place(number) {
             Ok(fd) => fd.to_string(self.alloc),
@@ -61,8 +65,9 @@ impl CommandPlayer {
         }
     }
 
-    /// Closes a descriptor, and returns, as text, the number that the descriptor named: in this table descriptors name plain numbers, no
-    /// maps or programs. Returns the text `nothing` if the descriptor was not open.
+    /// Closes descriptor `fd`, and returns, as decimal text, the number that `fd` named: in the table of this player descriptors name plain
+    /// numbers, no maps or programs. Returns the text `nothing` if `fd` was not open. `AllocError`: out of memory for the text; `fd` is
+    /// closed then, too.
     fn close(&mut self, fd: u32) -> Result<String, AllocError> {
         match self.numbers.close(fd) {
             Some(number) => number.to_string(self.alloc),
@@ -70,8 +75,10 @@ impl CommandPlayer {
         }
     }
 
-    /// The results, with commas between them, of the function that `word` names, for each number in `rest`. `play` gives only the words
-    /// `place`, `get` and `close`, so the last arm is that of `close`. `Number` if a word of `rest` is no number of 32 bits.
+    /// Calls the function that `word` names for each number in `rest`, and returns the results with commas between them. `place` opens a
+    /// descriptor for the number; for `get`, which reads what a descriptor names, and for `close` the number is the descriptor. `play`
+    /// gives only these three words, so the last arm is that of `close`. `Number` if a part of `rest` between blanks is no number of 32
+    /// bits, `Memory` if out of memory.
     fn each(&mut self, word: &str, rest: &str) -> Result<String, CaseError> {
         let mut text = String::new(self.alloc);
         for number in rest.split_whitespace() {
@@ -91,8 +98,10 @@ impl CommandPlayer {
 }
 
 impl Player for CommandPlayer {
-    // The first word of the line selects the function, which gets the rest. `full` shows whether no descriptor is free (`is_full`).
-    // `UnknownWord` if no arm has the word.
+    // Plays a line: its first word selects what is called, with the rest of the line. `head` and `parse` read a frame in hex digits, and
+    // `reply` makes the bytes of a reply. For each number in the rest, `each` opens a descriptor, or reads or closes one. `full` returns
+    // `true` if no descriptor is free, else `false`, and does not read the rest. `UnknownWord` for any other word; the other errors are
+    // those of the function that is called, and out of memory.
     fn play(&mut self, line: &str) -> Result<String, CaseError> {
         let (word, rest) = first_word(line);
         match word {

@@ -26,6 +26,8 @@ use cases::play_lines;
 use player::HostPlayer;
 use std::io;
 
+/// Plays the lines of standard input on a new host for one tenant: writes each line, and below it its outcome or its error (`play_lines`).
+/// Fails only if out of memory for the host and its context words, or if standard input or output fails.
 fn main(rt: HostRuntime) -> io::Result<()> {
     let mut player = HostPlayer::new(rt.alloc())?;
     play_lines(&rt, &mut player)

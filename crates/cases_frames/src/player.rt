@@ -37,8 +37,8 @@ const SOCKET_FILTER: u32 = 1;
 /// The length in bytes of the context words that a frame of PROG_TEST_RUN has: ten of the eleven, as the host writes the packet's length.
 const WORDS: usize = 40;
 
-/// A new host, with a seed that is always the same, for as many tenants as the decimal digits of `tenants` say. `Number` if they are no
-/// number, `OutOfRange` if the number is not from 1 to `MOST_TENANTS`.
+/// A new host for as many tenants as the decimal number `tenants` says. The seed of its hash maps is always the same. `Number` if `tenants`
+/// is no number, `OutOfRange` if it is not from 1 to `MOST_TENANTS`, 64, `Memory` if out of memory.
 pub fn new_host(alloc: Global, tenants: &str) -> Result<Host, CaseError> {
     let tenants: usize = tenants.parse()?;
     if tenants < 1 || tenants > MOST_TENANTS {
@@ -47,8 +47,9 @@ pub fn new_host(alloc: Global, tenants: &str) -> Result<Host, CaseError> {
     Ok(Host::new(alloc, tenants, HashSeed::new(1, 2))?)
 }
 
-/// A frame without its length field: the tenant, the command, a number at the front of the body, and the rest of the body. `AllocError`:
-/// out of memory.
+/// A frame without its length field, for a command whose body begins with a number: a descriptor, the kind of a map or the type of a
+/// program. It has the tenant and the command in two bytes each, `number` in four, all little-endian, and then `rest`, the other bytes of
+/// the body. `AllocError`: out of memory.
 fn frame(
     alloc: Global,
     tenant: u16,
@@ -64,7 +65,8 @@ fn frame(
     Ok(frame)
 }
 
-/// The bytes of decimal numbers, four bytes for each number, as the body of a frame has them. `Number` if a word is no number of 32 bits.
+/// The bytes of numbers as the body of a frame has them: four bytes for each number, little-endian. `words` has the numbers in decimal
+/// digits, with white space between them. `Number` if a word is no number of 32 bits, `Memory` if out of memory.
 fn numbers(alloc: Global, words: &str) -> Result<Vec<u8>, CaseError> {
     let mut bytes = Vec::new(alloc);
     for word in words.split_whitespace() {
@@ -74,8 +76,9 @@ fn numbers(alloc: Global, words: &str) -> Result<Vec<u8>, CaseError> {
     Ok(bytes)
 }
 
-/// The bytes of `front`, and after them the bytes that `digits` gives, hex digits in the notation of cases (`bytes_of`). The errors are
-/// those of `bytes_of`, and `Memory` if out of memory.
+/// The bytes of `front`, and after them the bytes that `digits` gives, hex digits in the notation of cases (`bytes_of`). `front` has the
+/// flags of an update, which are before its key and value in the frame, or the context words of a run, which are before its packet. The
+/// errors are those of `bytes_of`, and `Memory` if out of memory.
 fn prefixed_bytes(alloc: Global, front: &[u8], digits: &str) -> Result<Vec<u8>, CaseError> {
     let rest = bytes_of(alloc, digits)?;
     let mut bytes = Vec::new(alloc);
@@ -85,8 +88,9 @@ fn prefixed_bytes(alloc: Global, front: &[u8], digits: &str) -> Result<Vec<u8>, 
 }
 
 /// The bytes of a program's slots. `text` is the program's text in the notation of cases: `written` resolves its `;`, `\xHH` and
-/// `{COUNT*PART}`, and the resulting text is assembled. The errors are those of `written`, `NoText` if its bytes are not UTF-8, and `Text`
-/// if the resulting text does not assemble.
+/// `{COUNT*PART}`, and the resulting text is assembled. The errors, in this order: `Notation` or `Digits` if the notation is wrong,
+/// `NoText` if the bytes that `written` returns are not UTF-8, `Text` if the resulting text does not assemble. If out of memory, the error
+/// is `Memory`, or `Text` from the assembler.
 fn slots_of(alloc: Global, text: &str) -> Result<Vec<u8>, CaseError> {
     let text = written(alloc, text)?;
     let program = assemble(alloc, text_of(&text)?)?;
@@ -102,7 +106,8 @@ pub struct HostPlayer {
 }
 
 impl HostPlayer {
-    /// A player with a host for one tenant, and zeros as context words.
+    /// A player with a new host for one tenant, which a line `new` replaces, and zeros as context words, which a line `words` replaces. The
+    /// seed of the host is always the same. `AllocError`: out of memory.
     pub fn new(alloc: Global) -> Result<HostPlayer, AllocError> {
         Ok(HostPlayer {
             alloc,
@@ -119,14 +124,17 @@ impl HostPlayer {
         hex_groups(self.alloc, reply.bytes(), GROUP)
     }
 
-    /// The reply to a frame that is given as hex digits. It fails like `bytes_of`, which reads them.
+    /// The host's reply, as hex digits, to the frame that `digits` has as hex digits in the notation of cases. `Notation` if `digits`
+    /// breaks the rules of this notation, `NoText` if it gives no UTF-8, `Digits` if a character that it gives is neither a blank nor a hex
+    /// digit, the number of digits is odd, or the two bytes after a `\x` are no hex digits; `Memory` if out of memory.
     fn reply_to_digits(&mut self, digits: &str) -> Result<String, CaseError> {
         let frame = bytes_of(self.alloc, digits)?;
         Ok(self.reply(&frame)?)
     }
 
-    /// The reply, as hex digits, to the command of `tenant` with the number `command`. Its body is `number`, four bytes, and then `rest`.
-    /// `tenant` and `number` are decimal digits; `Number` if `tenant` is no number of 16 bits, or `number` none of 32 bits.
+    /// The reply, as hex digits, to a frame of `tenant` with the command number `command`. The body of the frame is `number` in four bytes,
+    /// the lowest first, and then the bytes of `rest`. `tenant` and `number` are given in decimal digits: `Number` if `tenant` is no number
+    /// of 16 bits, or `number` none of 32 bits. `Memory` if out of memory.
     fn command(
         &mut self,
         tenant: &str,
@@ -139,8 +147,10 @@ impl HostPlayer {
         Ok(self.reply(&frame)?)
     }
 
-    /// The reply to a command on a descriptor, as hex digits. `rest` has a tenant, the descriptor, and the hex digits of the bytes that
-    /// follow the descriptor in the frame. It fails like `bytes_of` and `command`.
+    /// The reply, as hex digits, to the command with the number `command`: a look-up, a delete, the next key, or a close. `rest` has a
+    /// tenant and the descriptor, in decimal digits, and the hex digits of the bytes that follow the descriptor in the frame: the key, or
+    /// none. The errors are those of `bytes_of` for these digits, then `Number` if the tenant is no number of 16 bits, or the descriptor
+    /// none of 32 bits; `Memory` if out of memory.
     fn on_descriptor(&mut self, command: u16, rest: &str) -> Result<String, CaseError> {
         let (tenant, rest) = first_word(rest);
         let (descriptor, digits) = first_word(rest);
@@ -148,9 +158,10 @@ impl HostPlayer {
         self.command(tenant, command, descriptor, &bytes)
     }
 
-    /// The reply to MAP_CREATE, as hex digits, for the words of a line: a tenant, the number of the map's kind, the sizes of a key and of a
-    /// value, `max_entries`, and the flags, all in decimal digits. `Number` if the tenant is no number of 16 bits, or another word none of
-    /// 32 bits.
+    /// The reply to MAP_CREATE, as hex digits. `rest` has the words of a line, in decimal digits: a tenant, the number of the map's kind,
+    /// the sizes of a key and of a value in bytes, `max_entries`, and the flags. Each word after the tenant becomes four bytes of the
+    /// frame, and no word but the first two has to be present, so a case may have a body of a wrong length. `Number` if the tenant is no
+    /// number of 16 bits, or another word none of 32 bits; `Memory` if out of memory.
     fn create(&mut self, rest: &str) -> Result<String, CaseError> {
         let (tenant, rest) = first_word(rest);
         let (kind, sizes) = first_word(rest);
@@ -158,8 +169,9 @@ impl HostPlayer {
         self.command(tenant, MAP_CREATE, kind, &bytes)
     }
 
-    /// The reply to an update, for the words of a line: a tenant, a descriptor, the flags, and the bytes of the key and the value. `Number`
-    /// if the flags are no number; other errors are those of `prefixed_bytes` and `command`.
+    /// The reply to MAP_UPDATE_ELEM, as hex digits, for the words of a line: a tenant, a descriptor and the flags, in decimal digits, and
+    /// the bytes of the key and then the value, in hex digits. `Number` if the flags are no number of 64 bits, the tenant none of 16 bits,
+    /// or the descriptor none of 32 bits; other errors are those of `bytes_of` for the key and the value, and `Memory` if out of memory.
     fn update(&mut self, rest: &str) -> Result<String, CaseError> {
         let (tenant, rest) = first_word(rest);
         let (descriptor, rest) = first_word(rest);
@@ -169,15 +181,17 @@ impl HostPlayer {
         self.command(tenant, MAP_UPDATE_ELEM, descriptor, &bytes)
     }
 
-    /// The reply, as hex digits, to PROG_LOAD for `tenant`, with the type of socket filters and `slots`, the bytes of a program's slots.
-    /// `AllocError`: out of memory.
+    /// Lets the host handle a PROG_LOAD of `tenant`, for a socket filter with `slots`, the bytes of its slots, and returns the reply as hex
+    /// digits. Two lines call this: `load`, with a program's text, and `slots`, with the bytes in hex digits. `AllocError`: out of memory.
     fn load_slots(&mut self, tenant: u16, slots: &[u8]) -> Result<String, AllocError> {
         let frame = frame(self.alloc, tenant, PROG_LOAD, SOCKET_FILTER, slots)?;
         self.reply(&frame)
     }
 
-    /// The reply to a load, for the words of a line: a tenant, and the program's text. `Number` if the tenant is no number of 16 bits, else
-    /// the errors of `slots_of`, as `Text` if the text does not assemble.
+    /// The reply to PROG_LOAD, as hex digits, for a program that a line has as text; `load_digits` is for its slots in hex digits. `rest`
+    /// has a tenant in decimal digits, and the text in the notation of cases (`slots_of`). The error is the first that applies: `Number` if
+    /// the tenant is no number of 16 bits, `Notation` or `Digits` if the notation is wrong, `NoText` if the text's bytes are not UTF-8,
+    /// `Text` if the text does not assemble. Out of memory is `Text` in the assembler, else `Memory`.
     fn load(&mut self, rest: &str) -> Result<String, CaseError> {
         let (tenant, text) = first_word(rest);
         let tenant = tenant.parse()?;
@@ -185,8 +199,10 @@ impl HostPlayer {
         Ok(self.load_slots(tenant, &slots)?)
     }
 
-    /// The reply to PROG_LOAD, as hex digits. `rest` has a tenant, and the bytes of the program's slots in hex digits. `Number` if the
-    /// tenant is no number of 16 bits, else the errors of `bytes_of` for the slots; `Memory` if out of memory.
+    /// The reply to PROG_LOAD, as hex digits, for the words of a line: a tenant, and the bytes of the program's slots as hex digits in the
+    /// notation of cases (`bytes_of`). Unlike `load`, which assembles a text, it can also load bytes that are no program. `Number` if the
+    /// tenant is no number of 16 bits; else, of the digits, `Notation` if an escape or a repetition is wrong, `NoText` if they are not
+    /// UTF-8, and `Digits` if a character is neither a blank nor a hex digit, or the number of digits is odd; `Memory` if out of memory.
     fn load_digits(&mut self, rest: &str) -> Result<String, CaseError> {
         let (tenant, digits) = first_word(rest);
         let tenant = tenant.parse()?;
@@ -194,9 +210,10 @@ impl HostPlayer {
         Ok(self.load_slots(tenant, &slots)?)
     }
 
-    /// The reply to PROG_TEST_RUN, as hex digits, for the words of a line: a tenant, the descriptor of a program, and the hex digits of a
-    /// packet. In the frame the bytes of the context words are before those of the packet: the bytes that the last line `words` gave, or
-    /// zeros if there was none. The errors are those of `bytes_of` for the packet, and of `command`; `Memory` if out of memory.
+    /// The reply to PROG_TEST_RUN, as hex digits, for a line `run`. `rest` has the words after `run`: a tenant, the descriptor of a
+    /// program, and the hex digits of a packet in the notation of cases. In the frame the packet follows the bytes of the context words:
+    /// those that the last line `words` gave, or zeros if there was none. `Notation`, `NoText` or `Digits` if the packet is no such digits;
+    /// then `Number` if the tenant is no number of 16 bits, or the descriptor none of 32 bits; `Memory` if out of memory.
     fn run(&mut self, rest: &str) -> Result<String, CaseError> {
         let (tenant, rest) = first_word(rest);
         let (descriptor, packet) = first_word(rest);
@@ -204,8 +221,10 @@ impl HostPlayer {
         self.command(tenant, PROG_TEST_RUN, descriptor, &input)
     }
 
-    /// The reply to the frame that a line asks for: `word` is the line's first word, `rest` the text after it. `UnknownWord` if a line with
-    /// this first word asks for no frame; the other errors are those of the function that makes the frame.
+    /// The reply of this player's host, as hex digits, to the frame that a line asks for, a line of its own or one in a line `rounds`.
+    /// `word` is the line's first word, `rest` the text after it. `UnknownWord` if a line with this first word asks for no frame; else
+    /// `Number` if a number is missing or wrong, `Notation`, `Digits` or `NoText` if hex digits or a program's text break the notation of
+    /// cases, `Text` if the text does not assemble, and `Memory` if out of memory.
     fn reply_to_line(&mut self, word: &str, rest: &str) -> Result<String, CaseError> {
         match word {
             "frame" => self.reply_to_digits(rest),
@@ -222,8 +241,9 @@ impl HostPlayer {
         }
     }
 
-    /// The replies to lines that are separated by `|`, which also separates the replies. The error is that of `reply_to_line` for the first
-    /// line that has one, or out of memory.
+    /// Plays one round of a line `rounds`: the lines that `lines` has, with `|` between them, each a first word and the text after it.
+    /// Returns their replies as hex digits, also with `|` between them. The error is that of the first line that has one (`reply_to_line`),
+    /// as `UnknownWord` if its first word asks for no frame; `Memory` if out of memory.
     fn round(&mut self, lines: &str) -> Result<String, CaseError> {
         let mut replies = String::new(self.alloc);
         for line in lines.split('|') {
@@ -236,9 +256,10 @@ impl HostPlayer {
         Ok(replies)
     }
 
-    /// Plays rounds 1 to `count` - 1 of the lines, and stops at the first round whose replies differ from `first`, the replies of round 0.
-    /// Returns the number and the replies of that round, as one text; `None` if no round differs, also for a `count` of 0 or 1. The errors
-    /// are those of `round`.
+    /// Plays rounds 1 to `count` - 1, in each all of `lines`, which `|` separates. The caller, `rounds`, has played round 0, with the
+    /// replies `first`. Stops at the first round with other replies, and returns `after N rounds: REPLIES`, with the number and the replies
+    /// of this round. `None` if no round has others, also for a `count` of 0 or 1. The error is that of `reply_to_line` for the first line
+    /// that has one, or out of memory.
     fn other_round(
         &mut self,
         lines: &str,
@@ -254,10 +275,10 @@ impl HostPlayer {
         Ok(None)
     }
 
-    /// Plays lines COUNT times, but at least once. `rest` has COUNT, in decimal digits, and then the lines, with `|` between them. Returns
-    /// `COUNT rounds: REPLIES` if each round has the replies of round 0; otherwise `after N rounds: REPLIES`, with the number of the first
-    /// round that has others, and its replies. `Number` if COUNT is missing or no number of 32 bits; other errors are those of
-    /// `reply_to_line`.
+    /// Plays lines COUNT times, but at least once, on this player's host: so a case shows that earlier rounds change no reply. `rest` has
+    /// COUNT, in decimal digits, and then the lines, with `|` between them. Returns `COUNT rounds: REPLIES` if each round has the replies
+    /// of round 0. Otherwise it stops after the first round that has others, and returns `after N rounds: REPLIES`, with the number of this
+    /// round and its replies. `Number` if COUNT is missing or no number of 32 bits; other errors are those of `reply_to_line`.
     fn rounds(&mut self, rest: &str) -> Result<String, CaseError> {
         let (count, lines) = first_word(rest);
         let count: u32 = count.parse()?;
@@ -268,15 +289,18 @@ impl HostPlayer {
         }
     }
 
-    /// Makes a new host for a number of tenants, in decimal digits, for the lines that follow. Fails like `new_host`. Returns the empty
-    /// text, so nothing is written below the line.
+    /// Plays `new TENANTS`: replaces the host by a new one for `tenants` tenants, in decimal digits, on which the lines that follow are
+    /// played. The context words are kept. `Number` if `tenants` is no number, `OutOfRange` if it is not from 1 to `MOST_TENANTS`, `Memory`
+    /// if out of memory. Returns the empty text, so nothing is written below the line.
     fn begin(&mut self, tenants: &str) -> Result<String, CaseError> {
         self.host = new_host(self.alloc, tenants)?;
         Ok(String::new(self.alloc))
     }
 
-    /// Sets the context words of the runs that follow, as bytes. `digits` has these bytes as hex digits in the notation of cases. The
-    /// errors are those of `bytes_of`, which reads the digits. Returns the empty text, since this line has no output.
+    /// Sets the bytes of the context words in the frames of later test runs; their number is not checked. `digits` has these bytes as hex
+    /// digits in the notation of cases. `Notation` if that notation is wrong, `NoText` if what it gives is not UTF-8, `Digits` if a
+    /// character is no hex digit or the number of digits is odd, `Memory` if out of memory; after an error the words are unchanged. Returns
+    /// the empty text, since this line has no output.
     fn set_words(&mut self, digits: &str) -> Result<String, CaseError> {
         self.words = bytes_of(self.alloc, digits)?;
         Ok(String::new(self.alloc))
@@ -284,8 +308,10 @@ impl HostPlayer {
 }
 
 impl Player for HostPlayer {
-    /// Plays a line by its first word (the table in `main.rt`). `stream`, `cut`, `relay` and `program` do not use this player's host. The
-    /// errors are those of the function that plays the line, and `UnknownWord` for any other first word.
+    /// Plays a line of cases and returns its outcome as text. Its first word is in the table of `main.rt`: `new` makes a new host for this
+    /// player, and `words` sets the context words of later runs, both with an empty outcome; `rounds` plays other lines several times.
+    /// `stream`, `cut`, `relay` and `program` do not use this player's host. Any other word asks for the reply to one frame, or is unknown
+    /// (`UnknownWord`). The other errors are those of the function that plays the line.
     fn play(&mut self, line: &str) -> Result<String, CaseError> {
         let (word, rest) = first_word(line);
         match word {

@@ -10,8 +10,8 @@ use std::alloc::{AllocError, Global};
 /// The size in bytes of the buffer for one call of a reader: small, so that a short case has more bytes than it takes.
 const ROOM: usize = 4;
 
-/// The text of how a stream ended: `ok` or the program's fault line, each with the number of frames that had a reply. `AllocError`: out of
-/// memory.
+/// The text of how a stream ended, with the number of frames that had a reply: `ok 3` without a fault, else the program's fault line, a
+/// colon and `3 answered`. `AllocError`: out of memory.
 fn end_of(alloc: Global, end: Result<u32, ServeFault>) -> Result<String, AllocError> {
     match end {
         Ok(frames) => format!(in alloc; "ok {frames}"),
@@ -23,17 +23,19 @@ fn end_of(alloc: Global, end: Result<u32, ServeFault>) -> Result<String, AllocEr
     }
 }
 
-/// How a stream ended, as text, and in the next line the hex digits of `output`, the bytes that were written. `end` is the result of
-/// `serve`: the number of frames that had a reply, or the fault. `AllocError`: out of memory for the text.
+/// How a stream ended, as text (`ok` or the fault line, with the number of frames that had a reply), and in the next line the hex digits of
+/// `output`, the bytes that were written. `end` is the result of `serve`: the number of frames that had a reply, or the fault.
+/// `AllocError`: out of memory for the text.
 fn ended(alloc: Global, end: Result<u32, ServeFault>, output: &[u8]) -> Result<String, AllocError> {
     let end = end_of(alloc, end)?;
     let output = hex_groups(alloc, output, GROUP)?;
     format!(in alloc; "{end}\n{output}")
 }
 
-/// Serves the stream `input`, at most `limit` frames, a number in decimal digits. The text says how `serve` ended: `ok` or the fault line,
-/// with the number of frames that had a reply. Below this are the hex digits of what `serve` wrote. A fault is in the text, no error.
-/// `Number` if `limit` is no number of 32 bits, `OutOfRange` if `limit` is above `MOST_FRAMES`, `Memory` if out of memory for the text.
+/// Serves the stream `input` on `host`; `limit` has, in decimal digits, the number of frames that are served at most. The result is a text
+/// of two lines. The first has how `serve` ended: `ok N`, or the fault line and `: N answered`, with the number N of frames that had a
+/// reply. The second has the hex digits of what `serve` wrote. So a fault of `serve` is no error of this function. `Number` if `limit` is
+/// no number of 32 bits, `OutOfRange` if it is above `MOST_FRAMES`, `Memory` if out of memory for the text.
 fn served(alloc: Global, host: &mut Host, limit: &str, input: &[u8]) -> Result<String, CaseError> {
     let limit: u32 = limit.parse()?;
     if limit > MOST_FRAMES {
@@ -45,9 +47,11 @@ fn served(alloc: Global, host: &mut Host, limit: &str, input: &[u8]) -> Result<S
     Ok(ended(alloc, end, &writer.into_inner())?)
 }
 
-/// Serves a stream in a new host. Returns how `serve` ended, and in the next line the hex digits of what it wrote (`served`). The words of
-/// `line` are the number of tenants, the most frames that are served, and the stream's bytes as hex digits. The errors are those of
-/// `new_host`, `bytes_of` and `served`.
+/// Serves a stream in a new host. The words of `line` are the number of tenants, the most frames that are served, and the stream's bytes as
+/// hex digits. Returns how `serve` ended, `ok` or the fault line, with the number of frames that had a reply, and in the next line the hex
+/// digits of what `serve` wrote. A fault of `serve` is no error. `Number` if the first word is no number of 64 bits or the second none of
+/// 32, `OutOfRange` if the first is not 1 to `MOST_TENANTS` or the second is above `MOST_FRAMES`, `Notation`, `NoText` or `Digits` if the
+/// hex digits are wrong (`bytes_of`), `Memory` if out of memory.
 pub fn stream(alloc: Global, line: &str) -> Result<String, CaseError> {
     let (tenants, rest) = first_word(line);
     let (limit, digits) = first_word(rest);
@@ -56,17 +60,20 @@ pub fn stream(alloc: Global, line: &str) -> Result<String, CaseError> {
     served(alloc, &mut host, limit, &input)
 }
 
-/// Of the bytes that the hex digits represent, the first `count`, a number in decimal digits; all of them if there are fewer. `Number` if
-/// `count` is no number, and the errors of `bytes_of`.
+/// Decodes the bytes of a stream from hex digits, and returns the first `count` of them, or all if there are fewer: the stream that `cut`
+/// serves. `Notation`, `NoText` or `Digits` if `digits` are not hex digits (`bytes_of`), then `Number` if `count` is no number in decimal
+/// digits that fits a `usize`; `Memory` if out of memory.
 fn front(alloc: Global, count: &str, digits: &str) -> Result<Vec<u8>, CaseError> {
     let mut input = bytes_of(alloc, digits)?;
     input.truncate(count.parse()?);
     Ok(input)
 }
 
-/// How `serve` ends in a new host on the front of a stream, and below it what it wrote (`served`). The words of `line` are a number of
-/// tenants, a limit of frames, how many bytes the front has, and the bytes of the whole stream as hex digits. The errors are those of
-/// `new_host`, `front` and `served`.
+/// Serves the front of a stream in a new host, so that a case can end a stream at any byte. The words of `line` are the number of tenants,
+/// the most frames that are served, and how many bytes the front has, in decimal digits, and then the bytes of the whole stream as hex
+/// digits; if there are fewer bytes, all are served. Returns how `serve` ended, and in the next line the hex digits of what it wrote
+/// (`served`). `Number` if one of the first three words is no number, `OutOfRange` if the tenants are not from 1 to `MOST_TENANTS` or the
+/// frames above `MOST_FRAMES`, `Memory` if out of memory; other errors are those of `bytes_of` for the hex digits.
 pub fn cut(alloc: Global, line: &str) -> Result<String, CaseError> {
     let (tenants, rest) = first_word(line);
     let (limit, rest) = first_word(rest);
@@ -76,9 +83,10 @@ pub fn cut(alloc: Global, line: &str) -> Result<String, CaseError> {
     served(alloc, &mut host, limit, &input)
 }
 
-/// A case of `Counted`, as a reader and as a writer: reads the bytes of hex `digits` by one call, into a buffer of `ROOM` bytes, and writes
-/// the bytes read by one call. Returns the text of how many bytes the writer took, how many the reader gave, and the writer's bytes in hex
-/// digits; or of which call failed. The errors are those of `bytes_of`.
+/// A case of `Counted`, as a reader and as a writer: reads up to `ROOM` of the bytes of hex `digits` by one call, writes the bytes read by
+/// one call, and flushes. Returns the text `WRITTEN of READ [HEX]`: how many bytes the writer took, how many the reader gave, and all bytes
+/// that the writer has. If a call fails, the text is `no read`, `no write` or `no flush`, and not an error. The errors are those of
+/// `bytes_of`, for example `Digits` if a character is no hex digit, and `Memory` if out of memory.
 pub fn relay(alloc: Global, digits: &str) -> Result<String, CaseError> {
     let input = bytes_of(alloc, digits)?;
     let mut reader = Counted::new(input.as_slice());
@@ -97,13 +105,14 @@ pub fn relay(alloc: Global, digits: &str) -> Result<String, CaseError> {
     Ok(format!(in alloc; "{written} of {count} [{output}]")?)
 }
 
-/// The argument that a word of a line represents: `""` is the empty one.
+/// The argument that a word of a line represents: the empty one for `""`, since no word between blanks is empty, else the word itself.
 fn word_of(word: &str) -> &str {
     if word == "\"\"" { "" } else { word }
 }
 
-/// How a run of the program on these arguments and this input ends: its status, its output in hex digits, and its fault line. The seed,
-/// which only `serve` needs, is always the same.
+/// How a run of the program on the arguments `words`, those after its name, and on this input ends, as text: its status, its output in hex
+/// digits, and its fault line, if it wrote one. The seed, which only `serve` needs, is a constant. `NoText` if the fault line is not UTF-8,
+/// `Memory` if out of memory.
 fn ran(alloc: Global, words: &[&str], input: &[u8]) -> Result<String, CaseError> {
     let mut output = Vec::new(alloc);
     let mut faults = Vec::new(alloc);
@@ -122,9 +131,11 @@ fn ran(alloc: Global, words: &[&str], input: &[u8]) -> Result<String, CaseError>
     outcome(alloc, status, &output, &faults)
 }
 
-/// How the host's command line (`run_words`) ends: its status, its output in hex digits, and its fault line (`ran`). The line of the case
-/// has the arguments and, after `<`, the input in hex digits; `Notation` if the line has no `<`. Other errors are those of `bytes_of` for
-/// the input, and of `ran`.
+/// Plays a line `program`: calls `run_words`, the host's command line, and returns as text how it ended: the exit status, the output in hex
+/// digits, and the fault line (`ran`). `line` is the line of the case after its first word: the arguments, separated by blanks, then `<`
+/// and the input in hex digits. The argument `""` is empty. `Notation` if there is no `<`, or the input breaks the notation of cases;
+/// `Digits` if it is not hex digits, or their number is odd; `NoText` if the input or the fault line is not UTF-8; `Memory` if out of
+/// memory.
 pub fn program(alloc: Global, line: &str) -> Result<String, CaseError> {
     let (words, digits) = input_of(line)?;
     let words: Vec<&str> = words.split_whitespace().map(word_of).collect(alloc)?;

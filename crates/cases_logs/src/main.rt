@@ -17,6 +17,8 @@ use cases::play_lines;
 use player::LogPlayer;
 use std::io;
 
+/// Plays the lines of standard input: writes each line, and below it its outcome or its error (`play_lines`). Fails only if standard input
+/// or output fails.
 fn main(rt: HostRuntime) -> io::Result<()> {
     let mut player = LogPlayer::new(rt.alloc());
     play_lines(&rt, &mut player)

@@ -21,8 +21,10 @@ impl LogPlayer {
         }
     }
 
-    /// The log of the program to which `text`, in the notation of `cases`, assembles, verified with the open descriptors. A rejected
-    /// program has a log too. The errors are those of `written` and `text_of`, and `Text` if the text does not assemble.
+    /// The log of a program, verified with the open descriptors: lines or a graph (`style`). The program's text is what `text` means in the
+    /// notation of `cases`. A rejected program has a log too. The errors are `Notation` or `Digits` if `text` breaks the notation, `NoText`
+    /// if it means bytes that are not UTF-8, `Text` if they do not assemble or memory runs out in the assembler, and `Memory` if it runs
+    /// out elsewhere.
     fn log(&self, text: &str, style: LogStyle) -> Result<String, CaseError> {
         let source = written(self.alloc, text)?;
         let program = assemble(self.alloc, text_of(&source)?)?;
@@ -34,9 +36,10 @@ impl LogPlayer {
         Ok(text)
     }
 
-    /// Runs the program `verifier_log` on the arguments of a line and on its input, which follows `<` in the notation of cases. Returns the
-    /// program's exit status, its output and its fault as a text (`outcome`). `Notation` if `<` is missing, the errors of `written` for the
-    /// input, `NoText` if the output or the fault is not UTF-8, or out of memory.
+    /// Plays a line `run`: runs the program `verifier_log` on the arguments of `case`, the rest of the line, and on its input, which
+    /// follows `<` in the notation of cases. Returns how the program ends, as a text: its exit status, its output, and its fault
+    /// (`outcome`). `Notation` if `<` is missing; `Notation` or `Digits` if the input is not in the notation (`written`); `NoText` if the
+    /// output or the fault is not UTF-8; `Memory` if out of memory.
     fn run(&self, case: &str) -> Result<String, CaseError> {
         let (arguments, text) = input_of(case)?;
         let arguments: Vec<&str> = arguments.split_whitespace().collect(self.alloc)?;
@@ -55,9 +58,10 @@ impl LogPlayer {
 }
 
 impl Player for LogPlayer {
-    /// `log`, `all` and `dot`, with the text of a program after them, return its log: in lines with what is new before each instruction,
-    /// in lines with all facts before it, or as a graph. `run`, with arguments and an input, returns how `verifier_log` ends on them. Any
-    /// other line is played on the descriptors.
+    /// Plays a line, and returns its outcome. `log`, `all` and `dot`, with the text of a program after them, return its log: in lines with
+    /// what is new before each instruction (`log`), in lines with all facts before it (`all`), or as a graph (`dot`). `run`, with arguments
+    /// and an input, returns how `verifier_log` ends on them. `map` and `program` open a descriptor, and `new` closes all, for the programs
+    /// of later lines (`play` of `Descriptors`). `UnknownWord` if the line has another first word.
     fn play(&mut self, line: &str) -> Result<String, CaseError> {
         let (word, rest) = first_word(line);
         match word {
@@ -65,7 +69,6 @@ impl Player for LogPlayer {
             "all" => self.log(rest, LogStyle::Whole),
             "dot" => self.log(rest, LogStyle::Graph),
             "run" => self.run(rest),
-            // `map` and `program` open a descriptor, `new` closes all. `UnknownWord` for any other word.
             _ => self.descriptors.play(line),
         }
     }

@@ -34,8 +34,8 @@ impl Model for LiveMapsPlayer {
     ghost invariant = { λ p. IsPartOf 0 p.arena };
 }
 
-/// Creates a map with its area in `part`, the tenant's part, and adds `holds` references to the one that it has. Returns its handle, or the
-/// fault of the creation.
+/// Creates a map with its area in `part`, the tenant's part, and adds `holds` references to the one that a new map has. Returns the handle
+/// of the map, which is live, or the fault of the creation: `NoSpace` or `Memory`.
 fn create_held(
     maps: &mut Maps,
     shape: MapShape,
@@ -64,14 +64,16 @@ impl LiveMapsPlayer {
         })
     }
 
-    /// Starts anew without maps, for the lines that follow. Returns the empty text.
+    /// Plays the line `maps new`: the lines that follow find no live maps, a part of zero bytes, and numbers of maps that begin again at 0.
+    /// Returns the empty text, since this line has no output. `Memory` if out of memory.
     fn begin(&mut self) -> Result<String, CaseError> {
         *self = LiveMapsPlayer::new(self.alloc)?;
         Ok(nothing(self.alloc))
     }
 
-    /// The handle of the live map whose number in the lines is `number`, in decimal digits: its index in `handles`. `NoMap` if `handles`
-    /// has no such index, or the map is not live; `Number` if the text is no number.
+    /// The handle of the live map that a line names by `number`: the index of the map's handle in `handles`, in decimal digits. `NoMap` if
+    /// `handles` has no such index, or the map is no longer live; `Number` if the text is no number. The contract: if a handle is returned,
+    /// its map is live.
     fn live_map(&self, number: &str) -> Result<MapKey, CaseError>
         ensures { IfOk result (λ map. IsSome (live_at self.now map)) }
     {
@@ -82,8 +84,9 @@ impl LiveMapsPlayer {
         }
     }
 
-    /// The number by which lines of cases name a map: the index of its handle in `handles`. If `handles` does not have the handle, this
-    /// function appends it. The live maps, which are all that contracts see, are unchanged.
+    /// The number by which lines of cases name a map, from 0: the index of its handle in `handles`. If `handles` does not have the handle,
+    /// this function appends it; so a new map with the handle of a freed one also has its number. The live maps, which are all that
+    /// contracts see, are unchanged. `AllocError`: out of memory.
     fn number_of(&mut self, map: MapKey) -> Result<usize, AllocError>
         ensures { self.new ≡ self.old }
     {
@@ -94,9 +97,10 @@ impl LiveMapsPlayer {
         Ok(self.handles.len() - 1)
     }
 
-    /// Makes a new map, for the words of a line: the shape, and how many references are added to the one that a new map has. Returns the
-    /// map's number in the lines and the offset of its first value in the part, or the name of the fault of the creation, as text. `Map` if
-    /// the first word means no shape, `Number` if the second is no number of 8 bits.
+    /// Makes a new map. The words of `rest` are its shape, as `KIND:KEY:VALUE:MAX`, and how many references are added to the one that each
+    /// new map has. Returns the text `map NUMBER at OFFSET`: the number by which later lines name the map, and the offset of its first
+    /// value in the tenant's part. If the map can't be created, the text is the name of the `MapFault`. The errors are `Map` if the first
+    /// word means no shape, `Number` if the second is no number of 8 bits, and `Memory` if memory is refused to anything but the map.
     fn create(&mut self, rest: &str) -> Result<String, CaseError> {
         let (shape, holds) = first_word(rest);
         let shape = shape_of(self.alloc, shape)?;
@@ -112,8 +116,9 @@ impl LiveMapsPlayer {
         }
     }
 
-    /// Drops a reference to the map whose number in the lines is `number`. Returns `live`, or `gone` if that was the last reference. The
-    /// errors are those of `live_map`, and `Memory`.
+    /// Drops one reference to the map whose number in the lines is `number`, the index of its handle in `handles`. Returns `live` if the
+    /// map has another reference, or `gone` if that was the last one, so that the map is freed. `NoMap` if `handles` has no such index, or
+    /// the map is not live; `Number` if `number` is no number; `Memory` if out of memory for the text.
     fn release(&mut self, number: &str) -> Result<String, CaseError> {
         let map = self.live_map(number)?;
         // A law, which does nothing when it runs: the size of the memory is that of its part.
@@ -127,8 +132,8 @@ impl LiveMapsPlayer {
         Ok(text.to_string(self.alloc)?)
     }
 
-    /// The shape of the live map with this number, as text: kind, sizes, `max_entries`. `NoMap` if no live map has the number, `Number` if
-    /// the text is no number.
+    /// The shape of the live map with this number in the lines, as text: its kind, the sizes of a key and of a value in bytes, and
+    /// `max_entries`. `NoMap` if no live map has the number, `Number` if the text is no number, `Memory` if out of memory.
     fn shape(&self, number: &str) -> Result<String, CaseError> {
         let map = self.live_map(number)?;
         let shape = self.maps.shape(map);
@@ -141,7 +146,8 @@ impl LiveMapsPlayer {
         Ok(format!(in self.alloc; "{kind:?} {key} {value} {entries}")?)
     }
 
-    /// The offset of an element's value in the tenant's part; `OutOfRange` if the map has no such element.
+    /// The offset, in bytes from the start of the tenant's part, of the value of `element` in `map`, which is live (the precondition).
+    /// `OutOfRange` if `element` is not below the map's `max_entries`.
     fn offset(&self, map: MapKey, element: u32) -> Result<usize, CaseError>
         requires { IsSome (live_at self.now map) }
     {
@@ -151,8 +157,10 @@ impl LiveMapsPlayer {
         Ok(self.maps.value_at(map, element))
     }
 
-    /// The offset of an element's value in the part, as text, for the words of a line: the number of the map, and the element. The errors
-    /// are those of `live_map`, `OutOfRange` if the map has no such element, and `Number` if the second word is no number.
+    /// The outcome of a line `maps at`: `at ` and the offset of an element's value in the tenant's part, in bytes. The words of `rest` are
+    /// the map's number in the lines, which is no handle (`live_map`), and the number of the element in the map, from 0. `NoMap` if no live
+    /// map has this number, `OutOfRange` if the map has no such element, `Number` if one of the words is no number, `Memory` if out of
+    /// memory.
     fn at(&self, rest: &str) -> Result<String, CaseError> {
         let (number, element) = first_word(rest);
         let map = self.live_map(number)?;
@@ -160,8 +168,10 @@ impl LiveMapsPlayer {
         Ok(format!(in self.alloc; "at {offset}")?)
     }
 
-    /// The value of a key as hex digits, for the words of a line: the map and the key; `absent` if the map does not have the key. The
-    /// errors are those of `live_map` and of `bytes_of_size`, and out of memory.
+    /// The value of a key in a live map, as hex digits in groups of `GROUP` bytes; `absent` if the map does not have the key. The words of
+    /// `rest` are the map's number in the lines and the key as hex digits. `Number` if the first word is no number, `NoMap` if no live map
+    /// has this number. For the key, `Size` if it has not the size of the map's keys; `Digits` if a character is no hex digit or the number
+    /// of digits is odd; `Notation` or `NoText` if it is not in the notation of cases. `Memory` if out of memory.
     fn find(&self, rest: &str) -> Result<String, CaseError> {
         let (number, digits) = first_word(rest);
         let map = self.live_map(number)?;
@@ -175,9 +185,11 @@ impl LiveMapsPlayer {
         Ok(hex_groups(self.alloc, value, GROUP)?)
     }
 
-    /// An update, for the words of a line: the map's number in the lines, which is no handle (`live_map`), the flags, the key and the
-    /// value. Claims an element for the key, and writes the value there. Returns `claimed`, or the name of the map's fault. The errors are
-    /// those of `live_map`, `Number` if the flags are no number, and those of `bytes_of_size` for the key and the value.
+    /// Updates a map, for the words of a line: the map's number in the lines, which is no handle (`live_map`), the flags, and the key and
+    /// the value in hex digits. Claims an element for the key, and writes the value there. Returns `claimed`, or the name of the map's
+    /// fault. The errors are `NoMap` if no live map has the number, `Number` if that or the flags are no number, `Size` if the key or the
+    /// value does not have the size that the map's shape gives, and those of `bytes_of`, for example `Digits` if a character is no hex
+    /// digit.
     fn claim(&mut self, rest: &str) -> Result<String, CaseError> {
         let (number, rest) = first_word(rest);
         let (flags, rest) = first_word(rest);
@@ -200,8 +212,10 @@ impl LiveMapsPlayer {
         }
     }
 
-    /// Removes a key from a live map, for the words of a line: the map's number in the lines, and the key in hex digits. Returns `removed`,
-    /// or the name of the map's fault. The errors are those of `live_map` for the map, and of `bytes_of_size` for the key.
+    /// Removes a key from a live map. The words of the line are the map's number in the lines, and the key in hex digits. Returns
+    /// `removed`, or the name of the map's fault: `Invalid` for an array, `NoEntry` if the key is absent. The error is `Number` if the
+    /// first word is no number, `NoMap` if no live map has it, `Notation`, `NoText` or `Digits` if the digits are wrong (`bytes_of`),
+    /// `Size` if the key has not the size of the map's keys, and `Memory` if out of memory.
     fn remove(&mut self, rest: &str) -> Result<String, CaseError> {
         let (number, digits) = first_word(rest);
         let map = self.live_map(number)?;
@@ -209,10 +223,11 @@ impl LiveMapsPlayer {
         Ok(done(self.alloc, self.maps.remove(map, &key), "removed")?)
     }
 
-    /// The hex digits of the key that follows a key of a map, or the name of the fault of `next_key`. The words of a line are the map's
-    /// number in the lines, which is no handle (`live_map`), and the key in hex digits; without a key, the result is the map's first key.
-    /// `Number` if the first word is no number, `NoMap` if the map is not live, `Size` if the key has not the size of the map's keys, and
-    /// the errors of `bytes_of`.
+    /// The hex digits of the key that follows a key in the order of a map, or `NoEntry`, the name of the fault of `next_key`, if no key
+    /// follows. The words of a line are the map's number in the lines, which is no handle (`live_map`), and the key in hex digits. Without
+    /// a key, or if the map does not have the key, the result is the map's first key. `Number` if the first word is no number, `NoMap` if
+    /// no live map has this number, `Size` if a key is given that is longer or shorter than the map's keys. If the key is not hex digits in
+    /// the notation of cases, the error is `Notation`, `NoText` or `Digits` (`bytes_of`). `Memory` if out of memory.
     fn next(&self, rest: &str) -> Result<String, CaseError> {
         let (number, digits) = first_word(rest);
         let map = self.live_map(number)?;
@@ -226,17 +241,20 @@ impl LiveMapsPlayer {
         key_text(self.alloc, outcome, &buffer, size)
     }
 
-    /// Ends a run on the map that has this number in the lines, so that the elements of removed keys are free again. Returns the empty
-    /// text. `NoMap` if no handle has this number, or its map is not live; `Number` if the text is no number.
+    /// Does on a live map what the end of a run does: the elements of the keys that were removed before are free again. `number` is the
+    /// map's number in the lines, the index of its handle in `handles`. Returns the empty text. `NoMap` if `handles` has no such index, or
+    /// the map is not live; `Number` if the text is no number.
     fn end(&mut self, number: &str) -> Result<String, CaseError> {
         let map = self.live_map(number)?;
         self.maps.end_run(map);
         Ok(nothing(self.alloc))
     }
 
-    /// The result of a test run, in decimal digits. The words of `rest` are a map's number, the packet as hex digits, and the program's
-    /// text. The program has to load the map, which is at descriptor 3, and no other one. The errors are those of `live_map`, `bytes_of`
-    /// and `run_text`.
+    /// Verifies a program, runs it on a live map and a packet, and returns the result of the run in decimal digits. The words of `rest` are
+    /// the map's number in the lines (`live_map`), the packet as hex digits, and the program's text. The map has descriptor 3, and no other
+    /// descriptor is open. `NoMap` if no live map has the number, or the program loads no map; `Refused` if the verifier rejects the
+    /// program, for example since it loads another map; `OutOfRange` if the packet is longer than `LONGEST_PACKET`. Other errors are those
+    /// of `live_map`, `bytes_of` and `run_text`.
     fn run(&mut self, rest: &str) -> Result<String, CaseError> {
         let (number, rest) = first_word(rest);
         let (packet, text) = first_word(rest);
@@ -256,8 +274,10 @@ impl LiveMapsPlayer {
         }
     }
 
-    /// Plays the line of a call on live maps, the call's name and the words after it, and returns the line's output. `UnknownWord` if no
-    /// call has this name; else the errors are those of the function for the call.
+    /// Plays a call on live maps, given by its name (`call`) and further words (`rest`). Returns the outcome as text. `new` drops all maps,
+    /// `create` makes one, `release` drops a reference; `shape` returns a map's shape, `at` the offset of an element's value; `find` looks
+    /// a key up, `claim` updates, `remove` deletes, `next` returns the next key; `run` is a test run, `end` ends one; `refused` is whether
+    /// a map was refused memory. `UnknownWord` for any other name; else the errors of the call's function.
     pub fn play(&mut self, call: &str, rest: &str) -> Result<String, CaseError> {
         match call {
             "new" => self.begin(),

@@ -50,6 +50,8 @@ use cases::play_lines;
 use player::MapPlayer;
 use std::io;
 
+/// Plays the lines of standard input: writes each line, and below it its output or its error (`play_lines`). Fails only if memory for the
+/// player is refused, or if standard input or output fails.
 fn main(rt: HostRuntime) -> io::Result<()> {
     let mut player = MapPlayer::new(rt.alloc())?;
     play_lines(&rt, &mut player)

@@ -14,8 +14,8 @@ const MOST_PARTS: usize = 16;
 /// The most bytes of a part, few enough for `Arena::new`, which takes up to 2^28 bytes in all.
 const LARGEST_PART: usize = 4096;
 
-/// The address in a text: a number, or `+` and a distance from the first address (`BASE`). `Number` if the number or the distance does not
-/// parse, `OutOfRange` if the sum is 2^64 or more.
+/// The address in a text: a decimal number, or `+` and a distance in bytes from the first address of the memory (`BASE`). `Number` if the
+/// number or the distance does not parse, `OutOfRange` if the sum is 2^64 or more.
 fn address(text: &str) -> Result<u64, CaseError> {
     match text.strip_prefix('+') {
         Some(offset) => BASE
@@ -25,7 +25,7 @@ fn address(text: &str) -> Result<u64, CaseError> {
     }
 }
 
-/// The size of a load or a store in bytes, 1, 2, 4 or 8. `OutOfRange` for any other text.
+/// The size in bytes of a load or a store, from a word of a line: 1, 2, 4 or 8 (`IsSize`). `OutOfRange` for any other text.
 fn size_of(text: &str) -> Result<usize, CaseError>
     ensures { IfOk result (λ size. IsSize size) }
 {
@@ -38,8 +38,8 @@ fn size_of(text: &str) -> Result<usize, CaseError>
     }
 }
 
-/// A memory of `parts` parts of `size` zero bytes. `OutOfRange` if `parts` is 0 or above `MOST_PARTS`, or `size` is 0 or above
-/// `LARGEST_PART`; `Memory` if out of memory.
+/// A memory with `parts` parts, each of `size` bytes, all of them 0. `OutOfRange` if `parts` is 0 or above `MOST_PARTS`, or `size` is 0 or
+/// above `LARGEST_PART`, so that `Arena::new` may be called; `Memory` if out of memory.
 fn new_memory(alloc: Global, parts: usize, size: usize) -> Result<Arena, CaseError> {
     if parts < 1 || parts > MOST_PARTS || size < 1 || size > LARGEST_PART {
         return Err(CaseError::OutOfRange);
@@ -55,7 +55,8 @@ pub struct MemoryPlayer {
 }
 
 impl MemoryPlayer {
-    /// A player with a memory of one byte.
+    /// A player with the smallest memory that `Arena` allows: one part of one zero byte. The line `memory new` replaces it by a memory of
+    /// the size that a case needs (`begin`). `AllocError`: out of memory.
     pub fn new(alloc: Global) -> Result<MemoryPlayer, AllocError> {
         Ok(MemoryPlayer {
             alloc,
@@ -63,16 +64,18 @@ impl MemoryPlayer {
         })
     }
 
-    /// Makes a new memory, on which the lines that follow are played, for the words of a line: the number of its parts, and their size.
-    /// Returns the empty text. `Number` if a word is no number; other errors are those of `new_memory`.
+    /// Makes a new memory of zero bytes, for the lines that follow. `rest` has two words: the number of parts, and the size of each part in
+    /// bytes. Returns the empty text. `Number` if a word is no number; `OutOfRange` if there are to be 0 parts or more than `MOST_PARTS`,
+    /// or if the size is 0 or above `LARGEST_PART`; `Memory` if out of memory.
     fn begin(&mut self, rest: &str) -> Result<String, CaseError> {
         let (parts, size) = first_word(rest);
         self.arena = new_memory(self.alloc, parts.parse()?, size.parse()?)?;
         Ok(nothing(self.alloc))
     }
 
-    /// The number that a load reads, in decimal digits, for the words of a line: the address and the size. The text `outside` if the memory
-    /// does not have all these bytes. The errors are those of `address` and `size_of`.
+    /// Plays a line `memory load`, in which `rest` has the address and the size. Returns the little-endian number that a load of so many
+    /// bytes reads there, in decimal digits, or `outside` if the memory does not have all these bytes. `Number` if the address does not
+    /// parse; `OutOfRange` if an address with `+` is 2^64 or more, or the size is not 1, 2, 4 or 8; `Memory` if out of memory.
     fn load(&self, rest: &str) -> Result<String, CaseError> {
         let (at, size) = first_word(rest);
         match self
@@ -84,8 +87,10 @@ impl MemoryPlayer {
         }
     }
 
-    /// Stores a number. `rest` has the words of a line: the address, the size and the number. Returns the text `stored`, or `outside` if
-    /// the memory does not have all these bytes. The errors are those of `address` and `size_of`, and `Number` if the number is none.
+    /// Stores the low bytes of a number, as many as the size says, little-endian. `rest` has the words of a line: the address (`address`),
+    /// the size, 1, 2, 4 or 8, and the number. Returns the text `stored`, or `outside`, and stores nothing, if one of these bytes is not in
+    /// the memory. `Number` if the number, or that in the address, does not parse; `OutOfRange` for another size, or an address of 2^64 or
+    /// more; `Memory` if out of memory.
     fn store(&mut self, rest: &str) -> Result<String, CaseError> {
         let (at, rest) = first_word(rest);
         let (size, value) = first_word(rest);
@@ -94,9 +99,11 @@ impl MemoryPlayer {
         Ok(done_inside(self.alloc, outcome, "stored")?)
     }
 
-    /// Copies bytes. `rest` has the address of the target, that of the source, and the length. Returns the text `copied`, or `outside` if
-    /// the memory does not have all these bytes. `Number` if an address or the length does not parse; `OutOfRange` if an address with `+`
-    /// is 2^64 or more, or if the length is 0: `Arena::copy` requires at least 1.
+    /// Plays the call `copy` of a line: copies bytes in the memory. `rest` has the words after `copy`: the address of the target, that of
+    /// the source, and the number of bytes. An address is a number, or `+` and a distance from the first address (`BASE`). Returns the text
+    /// `copied`, or `outside` if the bytes at the source or those at the target do not all lie in the memory; then nothing is copied. The
+    /// error is `Number` if an address or the number of bytes does not parse, `OutOfRange` if the sum of `BASE` and a distance is 2^64 or
+    /// more, or the number of bytes is 0: `Arena::copy` requires at least 1.
     fn copy(&mut self, rest: &str) -> Result<String, CaseError> {
         let (to, rest) = first_word(rest);
         let (from, length) = first_word(rest);
@@ -108,9 +115,10 @@ impl MemoryPlayer {
         Ok(done_inside(self.alloc, outcome, "copied")?)
     }
 
-    /// Loads bytes one by one from an address on, and returns them as decimal numbers. `rest` has the words of the line: the address, and
-    /// how many bytes, at most 255. The text `outside` if the memory does not have one of them. `Number` if a word is no such number,
-    /// `OutOfRange` if the address of a byte is 2^64 or more.
+    /// Loads bytes one by one from an address on. Returns them as decimal numbers with spaces between, or the text `outside` if the memory
+    /// does not have one of them. `rest` has the words of the line: the address, a number or `+` and a distance from `BASE`, and how many
+    /// bytes, 0 to 255. The error is `Number` if a word is no such number, `OutOfRange` if `BASE` and the distance add up to 2^64 or more,
+    /// `Memory` if out of memory. The sum in the loop never overflows, since no memory reaches up to 2^64.
     fn bytes(&self, rest: &str) -> Result<String, CaseError> {
         let (from, count) = first_word(rest);
         let from = address(from)?;
@@ -131,8 +139,10 @@ impl MemoryPlayer {
         Ok(text)
     }
 
-    /// Plays the line of a call on the memory: the call's name, and the words after it. Returns the call's result as text. `UnknownWord` if
-    /// no call has this name; the other errors are those of the call's function.
+    /// Plays a call on the memory: `call`, the second word of a line, is its name, and `rest` has the words after that. `new` makes another
+    /// memory, `load` and `bytes` read numbers, `store` writes a number, `copy` copies bytes. Returns the call's result as text.
+    /// `UnknownWord` if no call has this name, `Number` if a number does not parse, `OutOfRange` if a number or a size is not allowed,
+    /// `Memory` if out of memory.
     pub fn play(&mut self, call: &str, rest: &str) -> Result<String, CaseError> {
         match call {
             "new" => self.begin(rest),

@@ -8,9 +8,11 @@ use cases::{CaseError, bytes_of, bytes_of_size, first_word, shape_of};
 use seeded_hash::HashSeed;
 use std::alloc::Global;
 
-/// Finds a key, given as hex digits, in a map. Returns the text `element` with the number of its element, or `absent` if the map does not
-/// have the key. `size` is the size of the map's keys in bytes. `Size` if the digits give more or fewer bytes, `Digits` if they are no hex
-/// digits or their number is odd; the other errors are those of `bytes_of`.
+/// Finds a key in a map. Returns the text `element` with the number of its element, or `absent` if the map does not have the key. `digits`
+/// is the key, as hex digits in the notation of cases, which blanks may separate. `size` is the size of the map's keys in bytes, which
+/// `ValueMap::find` requires of a key. The error is `Notation` if a repetition is wrong or a `\x` is cut off; `NoText` if the bytes that
+/// `digits` gives (`written`) are not UTF-8; `Digits` if a character is neither a blank nor a hex digit, or the number of digits is odd;
+/// `Size` if the key has more or fewer bytes than `size`; `Memory` if out of memory.
 fn find<M: ValueMap>(alloc: Global, map: &M, size: u32, digits: &str) -> Result<String, CaseError>
     requires { size ≡ (M.keys map.now).shape.key_size }
 {
@@ -21,9 +23,11 @@ fn find<M: ValueMap>(alloc: Global, map: &M, size: u32, digits: &str) -> Result<
     }
 }
 
-/// Claims an element for a key. `rest` has the flags, and the key as hex digits; `size` is the size of the map's keys. Returns the text
-/// `claimed`, without the element, or the name of the map's fault. `Number` if the flags do not parse; the errors of `bytes_of_size` for
-/// the key.
+/// Claims an element of the map for a key. `rest` has the flags of an update in decimal digits (0: any key, 1: only an absent one, 2: only
+/// a present one), a blank, and the key as hex digits; `size` is the size of the map's keys in bytes. Returns the text `claimed`, without
+/// the element, or the name of the map's fault. `Number` if the flags are no number of 64 bits. For the key, `Size` if it has more or fewer
+/// bytes, `Digits` if it has a character that is no hex digit or an odd number of digits, `Notation` or `NoText` if the notation of cases
+/// is wrong or gives no text. `Memory` if out of memory.
 fn claim<M: ValueMap>(
     alloc: Global,
     map: &mut M,
@@ -38,8 +42,10 @@ fn claim<M: ValueMap>(
     Ok(done(alloc, map.claim(&key, flags), "claimed")?)
 }
 
-/// Removes a key, given as hex digits. Returns `removed`, or the name of the map's fault. `size` is the size of the map's keys. The errors
-/// are those of `bytes_of_size`.
+/// Plays a line `map remove`: removes a key, given as hex digits, from a map. Returns the text `removed`, or the name of the map's fault:
+/// `Invalid` for an array, `NoEntry` if the key is absent. `size` is the size of the map's keys in bytes. `Size` if the digits give more or
+/// fewer bytes, `Digits` if they are no hex digits or their number is odd, `Notation` or `NoText` if they break the notation of cases
+/// (`bytes_of`), `Memory` if out of memory.
 fn remove<M: ValueMap>(
     alloc: Global,
     map: &mut M,
@@ -52,9 +58,11 @@ fn remove<M: ValueMap>(
     Ok(done(alloc, map.remove(&key), "removed")?)
 }
 
-/// The key that follows the key of these hex digits, as hex digits too, or the name of the fault if no key follows. If there are no digits,
-/// or the map does not have the key, the result is the first key. `size` is the size of the map's keys; `Size` for a key of another size,
-/// and the errors of `bytes_of`.
+/// Returns the hex digits of the key that follows a key in the map, in groups of `GROUP` bytes; if no key follows, or the map has no key,
+/// the name of the map's fault, `NoEntry`. `digits` are the hex digits of the key that it follows. If there are none, or the map does not
+/// have that key, the result is the first key. `size` is the size of the map's keys in bytes, by the precondition. The errors are those of
+/// `bytes_of` (`Notation`, `NoText`, `Digits` or `Memory`), then `Size` if there are digits, but of more or fewer bytes than `size`;
+/// `Memory` also if out of memory for the text.
 fn next<M: ValueMap>(alloc: Global, map: &M, size: u32, digits: &str) -> Result<String, CaseError>
     requires { size ≡ (M.keys map.now).shape.key_size }
 {
@@ -67,10 +75,12 @@ fn next<M: ValueMap>(alloc: Global, map: &M, size: u32, digits: &str) -> Result<
     key_text(alloc, outcome, &buffer, size)
 }
 
-/// Calls a function of the map, and returns its result as text. `call` is the name of the function (`find`, `claim`, `remove`, `next` or
-/// `end`), `rest` has the words of its arguments. `end` ends a run, so that the elements of removed keys are free again; its text is empty.
-/// `size` is the size of the map's keys in bytes. `UnknownWord` if `call` is none of these names; the other errors are those of the
-/// functions `find`, `claim`, `remove` and `next`.
+/// Calls a function of a map, and returns its result as text, which a case compares. `call` is the function, and `rest` has its arguments;
+/// a key is written as the hex digits of `size` bytes, the size of the map's keys. `find KEY` gives `element` and the element's number, or
+/// `absent`. `claim FLAGS KEY` gives `claimed`, `remove KEY` gives `removed`, and `next KEY`, or `next` for the first key, the next key's
+/// digits; each gives the name of the map's fault if it fails. `end` ends a run, so that the elements of removed keys are free again; its
+/// text is empty. `UnknownWord` if `call` is another word, `Number` if the flags are no number, `Size` if a key has another size, `Memory`
+/// if out of memory, and the errors of `bytes_of` for the key's digits: `Notation`, `NoText` and `Digits`.
 fn play_call<M: ValueMap>(
     alloc: Global,
     map: &mut M,
@@ -101,22 +111,26 @@ pub struct OneMapPlayer {
 }
 
 impl OneMapPlayer {
-    /// A player without a map.
+    /// A player of the lines that begin with `map`, without a map: before the first `map new`, which makes one, all other calls fail with
+    /// `NoMap`. `alloc` is for the map and for the texts that calls return.
     pub fn new(alloc: Global) -> OneMapPlayer {
         OneMapPlayer { alloc, map: None }
     }
 
-    /// Makes a new map of this shape, written `KIND:KEY:VALUE:MAX`, on which the lines that follow are played. Every hash map has the
-    /// seed of 1 and 2. Returns the empty text. `Map` if the text means no shape, `Memory` if out of memory.
+    /// Makes a new map, for the calls of the lines that follow. `shape` is the text `KIND:KEY:VALUE:MAX`: `array` or `hash`, the sizes of a
+    /// key and of a value in bytes, and `max_entries`. A hash map gets a seed that is always the same, made of the numbers 1 and 2. Returns
+    /// the empty text, since the line has no output. `Map` if the text means no shape, `Memory` if out of memory.
     fn begin(&mut self, shape: &str) -> Result<String, CaseError> {
         let shape = shape_of(self.alloc, shape)?;
         self.map = Some(BpfMap::new(self.alloc, shape, HashSeed::new(1, 2))?);
         Ok(nothing(self.alloc))
     }
 
-    /// Plays a line: `call` is `new` and `rest` a shape, or `call` names a call on the map and `rest` has its words. Returns what the call
-    /// returns, as text, and for `new` the empty text. `NoMap` if `call` is not `new` and no map was made before, else `UnknownWord` if no
-    /// call has this name. It also fails as `begin` and the call do.
+    /// Plays a line `map CALL REST`. If `call` is `new`, `rest` is a shape, `KIND:KEY:VALUE:MAX`: the map is made, and the result is the
+    /// empty text. Else `call` is `find`, `claim`, `remove`, `next` or `end`, and `rest` has the words of its arguments: this function of
+    /// the map is called, and the result is what it returns, as text. `NoMap` before the first `new`; `UnknownWord` for another `call`;
+    /// `Map` if `rest` is no shape; `Number` for wrong flags; `Notation`, `NoText`, `Digits` or `Size` for a wrong key; `Memory` if out of
+    /// memory.
     pub fn play(&mut self, call: &str, rest: &str) -> Result<String, CaseError> {
         if call == "new" {
             return self.begin(rest);

@@ -9,7 +9,8 @@ pub fn nothing(alloc: Global) -> String {
     String::new(alloc)
 }
 
-/// The text `what` if the call succeeded, else the name of its fault.
+/// The result of a call on a map as the text that a case expects: `what`, a word like `removed`, if the call succeeded, else the name of
+/// its fault. The value that the call returned is dropped. `AllocError`: out of memory for the text.
 pub fn done<T: Drop>(
     alloc: Global,
     outcome: Result<T, MapFault>,
@@ -21,7 +22,8 @@ pub fn done<T: Drop>(
     }
 }
 
-/// The text `what` if a call on a memory succeeded, else (`None`) `outside`: bytes that it loads, stores or copies are not in the memory.
+/// The outcome of a store or a copy, as text: `what` if it succeeded, else (`None`) `outside`, since bytes that it stores or copies are not
+/// in the memory. `AllocError`: out of memory for the text.
 pub fn done_inside(alloc: Global, outcome: Option<()>, what: &str) -> Result<String, AllocError> {
     match outcome {
         Some(()) => what.to_string(alloc),
@@ -29,12 +31,14 @@ pub fn done_inside(alloc: Global, outcome: Option<()>, what: &str) -> Result<Str
     }
 }
 
-/// The name of a fault.
+/// The name of a fault, as `NoEntry`: the result of a failed call of a map in a line of a worked case. `AllocError`: out of memory.
 pub fn fault_text(alloc: Global, fault: MapFault) -> Result<String, AllocError> {
     format!(in alloc; "{fault:?}")
 }
 
-/// The hex digits of the key of `size` bytes that a call wrote to the front of a buffer, or the name of its fault.
+/// The text of what a request for the next key returned. If `outcome` is `Ok`, these are the hex digits, in groups of `GROUP` bytes, of the
+/// key of `size` bytes that the request wrote to the front of `buffer`; if it is `Err`, the name of the fault. The error `Memory` is out of
+/// memory; `Size`, for a `buffer` that is too short, can't occur.
 pub fn key_text(
     alloc: Global,
     outcome: Result<(), MapFault>,

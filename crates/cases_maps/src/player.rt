@@ -15,7 +15,8 @@ pub struct MapPlayer {
 }
 
 impl MapPlayer {
-    /// A player with no map, and with a memory of one byte.
+    /// A player before its first line: it has no map (`one`), no live maps (`live`), and a memory of one part of one byte (`memory`).
+    /// `AllocError`: out of memory.
     pub fn new(alloc: Global) -> Result<MapPlayer, AllocError> {
         Ok(MapPlayer {
             one: OneMapPlayer::new(alloc),

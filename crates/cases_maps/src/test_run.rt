@@ -18,8 +18,10 @@ use verifier::{Verified, laws, verify};
 /// The descriptor by which programs name the map: 3, a tenant's lowest.
 const DESCRIPTOR: u32 = 3;
 
-/// The program of a text in the notation of cases, accepted with a map of this shape at `DESCRIPTOR`. Each map that it loads has the shape.
-/// `Text` if the text does not assemble, `Refused` if the program is rejected, `NoText` if the text is not UTF-8, the errors of `written`.
+/// The program of a text in the notation of cases, accepted with a map of this shape at `DESCRIPTOR`, the only open descriptor. So each map
+/// that it loads has the shape: `maps_of` has the descriptors of these maps, `shapes_in` their shapes. `NoText` if the text is not UTF-8;
+/// `Text` if it does not assemble, and `Refused` if the program is rejected, these two also if out of memory there; `Notation`, `Digits` or
+/// `Memory` if `written` returns it, for example for a `}` that is missing.
 fn accepted(alloc: Global, text: &str, shape: MapShape) -> Result<Verified, CaseError>
     ensures { IfOk result (λ program. (i : ℕ) → i < length (maps_of program.code)
         → shapes_in program (slice_index (maps_of program.code) i) ≡ Some shape) }
@@ -36,10 +38,12 @@ fn accepted(alloc: Global, text: &str, shape: MapShape) -> Result<Verified, Case
     Ok(verified)
 }
 
-/// Runs a program, given as text, on `packet`, and returns its result. The words of the context are the packet's length and ten zeros.
-/// `map` is live, and the program has to load it, by `DESCRIPTOR`. Before the run, the last run on the map is ended, since no element of a
-/// map may be kept apart when a run begins. The map's values are in part 0 of the arena. The errors are those of `accepted`; `NoMap` if the
-/// program loads no map; `OutOfRange` if the packet is longer than `LONGEST_PACKET`.
+/// Runs a program on `packet` and returns its outcome. `text` is the program's text in the notation of cases. The words of the context are
+/// the packet's length and `GIVEN_WORDS` zeros. `map` is live (`live`), and the program has to load it, by `DESCRIPTOR`. Before the run,
+/// the last run on the map is ended, since no element of a map may be kept apart when a run begins. The map's values are in part 0 of the
+/// arena, whose parts have `PART` bytes before and after the run (`IsPartOf`). Errors: `Notation`, `Digits`, `NoText` or `Memory` if `text`
+/// can't be read, `Text` if it does not assemble, `Refused` if the program is rejected, `NoMap` if it loads no map, and `OutOfRange` if the
+/// packet is longer than `LONGEST_PACKET`.
 pub fn run_text(
     alloc: Global,
     text: &str,

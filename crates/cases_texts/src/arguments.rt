@@ -4,10 +4,11 @@ use cases::{CaseError, input_of, outcome, text_of, written};
 use host::{HashSeed, read_shape, run_words};
 use std::alloc::Global;
 
-/// Plays a line `program`: calls `run_words` of `host` with the words before the first `<` of `case` as arguments, and the text after it,
-/// in the notation of cases (`written`), as input. Returns how the call ended, as text (`outcome`). The seed of the hash maps is fixed.
-/// `Notation` if there is no `<`, or the input breaks the notation; `Digits` if two bytes after a `\x` of the input are no hex digits;
-/// `NoText` if what `run_words` writes is not UTF-8; `Memory` if out of memory.
+/// Plays a line `program`: calls `run_words`, the command line of `host`, and returns as text how it ended: the exit status, the lines of
+/// its output, and its fault line (`outcome`). `case` is the line after its first word: the arguments, separated by blanks, then `<` and
+/// the input, a text in the notation of cases (`written`). The seed of the hash maps is always the same. `Notation` if there is no `<`, or
+/// the input breaks the notation; `Digits` if two bytes after a `\x` of the input are no hex digits; `NoText` if what `run_words` writes is
+/// not UTF-8; `Memory` if out of memory.
 pub fn program_ended(alloc: Global, case: &str) -> Result<String, CaseError> {
     let (arguments, text) = input_of(case)?;
     let arguments: Vec<&str> = arguments.split_whitespace().collect(alloc)?;
@@ -25,8 +26,9 @@ pub fn program_ended(alloc: Global, case: &str) -> Result<String, CaseError> {
     outcome(alloc, status, text_of(&output)?, &faults)
 }
 
-/// A line `map`: the descriptor and the shape of the map that an argument names, as Rust prints them for debugging. `Map` if the argument
-/// names no map (`read_shape`).
+/// Plays a line `map`: reads `argument` as the program `bpfhost` reads the argument for a map (`read_shape` of `host`), a descriptor,
+/// `array` or `hash`, the sizes of a key and of a value, and `max_entries`, with colons between them. Returns the descriptor and the shape
+/// as Rust prints them for debugging. `Map` if the argument names no map, `Memory` if out of memory.
 pub fn printed_map(alloc: Global, argument: &str) -> Result<String, CaseError> {
     let map = read_shape(argument)?;
     Ok(format!(in alloc; "{map:?}")?)

@@ -9,13 +9,15 @@ use std::fmt::Write;
 /// The length of a slot in bytes.
 const SLOT: usize = 8;
 
-/// Bytes as hex digits, with a blank after each slot but the last one.
+/// Bytes as hex digits, with a blank after each `SLOT` bytes, but not at the end, so that the bytes of a program are shown slot by slot.
+/// The last group may have fewer bytes. The lines `codec` and `hex` return bytes so. `AllocError`: out of memory.
 pub fn grouped(alloc: Global, bytes: &[u8]) -> Result<String, AllocError> {
     hex_groups(alloc, bytes, SLOT)
 }
 
-/// An instruction as Rust prints it for debugging, the number of slots from which it was decoded (`slots`), and the bytes to which it is
-/// encoded, at most those of two slots.
+/// The text of a decoded instruction: the instruction as Rust prints it for debugging, `in`, the number of slots from which it was decoded
+/// (`slots`), a colon, and the bytes to which `encode` encodes it, as hex digits, with a blank between slots. These are at most 16 bytes,
+/// those of two slots. `AllocError`: out of memory.
 fn encoded(alloc: Global, insn: &Insn, slots: usize) -> Result<String, AllocError> {
     let mut out = [0; 16];
     let length = encode(insn, &mut out);
@@ -23,8 +25,10 @@ fn encoded(alloc: Global, insn: &Insn, slots: usize) -> Result<String, AllocErro
     format!(in alloc; "{insn:?} in {slots}: {written}")
 }
 
-/// `codec`: the instruction at the front of the bytes, the number of its slots, and the bytes to which it is encoded; `Slots` if no
-/// instruction begins there. The other errors are those of `bytes_of`.
+/// The result of a case with the word `codec`, whose `text` has bytes as hex digits: the instruction at the front of the bytes as Rust
+/// prints it for debugging, the number of its slots, and the bytes to which it is encoded, as `Exit in 1: 9500000000000000`. More bytes may
+/// follow the instruction. `Slots` if no instruction begins at the front. The other errors are those of `bytes_of`: `Notation`, `NoText` or
+/// `Digits` if the text is no hex digits in the notation of cases. It also fails if out of memory.
 pub fn decoded(alloc: Global, text: &str) -> Result<String, CaseError> {
     let bytes = bytes_of(alloc, text)?;
     match &decode(&bytes) {
@@ -33,8 +37,10 @@ pub fn decoded(alloc: Global, text: &str) -> Result<String, CaseError> {
     }
 }
 
-/// `dis`: the text, on one line (`shown`), of the program that the bytes, given as hex digits, spell. `Slots` with their fault if they
-/// spell none, and the errors of `bytes_of`.
+/// The outcome of the line `dis`: the text of the program that the bytes spell, on one line, with `;` for each line feed (`shown`). `text`
+/// has the bytes as hex digits in the notation of cases. `Slots`, with the fault and its slot, if the bytes spell no program, or if reading
+/// it is out of memory; `Notation`, `NoText` or `Digits` if `text` is not hex digits in that notation (`bytes_of`); else `Memory` if out of
+/// memory.
 pub fn disassembled(alloc: Global, text: &str) -> Result<String, CaseError> {
     let bytes = bytes_of(alloc, text)?;
     let program = read_program(alloc, &bytes)?;
@@ -43,7 +49,8 @@ pub fn disassembled(alloc: Global, text: &str) -> Result<String, CaseError> {
     Ok(answer)
 }
 
-/// The instructions of a program, in order. The second slot of a wide one begins none.
+/// The instructions of a program, in order; the caller makes a second program of them. At the second slot of a wide instruction none
+/// begins, so `get` returns `None` there. `AllocError`: out of memory.
 fn insns_of(alloc: Global, program: &Program) -> Result<Vec<Insn>, AllocError> {
     let mut insns = Vec::new(alloc);
     for slot in 0..program.slots() {
@@ -54,7 +61,9 @@ fn insns_of(alloc: Global, program: &Program) -> Result<Vec<Insn>, AllocError> {
     Ok(insns)
 }
 
-/// Appends the number of a slot, and the instruction that begins there, or `none`; before them a semicolon, unless it is slot 0.
+/// Appends the number `slot` and the instruction that begins there, as Rust prints it for debugging: as `2: Exit`. If none begins there,
+/// since the slot is the second of a wide instruction or is past the end, the text is as `1: none`. A semicolon and a blank are before the
+/// text, unless `slot` is 0. `AllocError`: out of memory.
 fn append_slot(text: &mut String, program: &Program, slot: usize) -> Result<(), AllocError> {
     if slot != 0 {
         text.push_str("; ")?;
@@ -65,9 +74,10 @@ fn append_slot(text: &mut String, program: &Program, slot: usize) -> Result<(), 
     }
 }
 
-/// `places`: for each slot of a program, given as hex digits, and for the slot after its last one, the instruction that begins there, or
-/// `none`. The slots are decoded, and a second program is made of the instructions and cloned. The text is that of the clone, so that
-/// `Program::new` and `clone` are played too. `Slots` if the bytes spell no program, and the errors of `bytes_of`.
+/// The outcome of a line `places`, as `0: Exit; 1: none`: for each slot of a program, and for the slot after its last one, the instruction
+/// that begins there, or `none`. `text` has the program's slots as hex digits. They are decoded, and a second program is made of the
+/// instructions and cloned. The outcome is that of the clone, so that `Program::new` and `clone` are tested too. `Slots` if the bytes spell
+/// no program, `Memory` if out of memory, and the errors of `bytes_of`.
 pub fn places(alloc: Global, text: &str) -> Result<String, CaseError> {
     let bytes = bytes_of(alloc, text)?;
     let program = read_program(alloc, &bytes)?;
@@ -80,9 +90,10 @@ pub fn places(alloc: Global, text: &str) -> Result<String, CaseError> {
     Ok(answer)
 }
 
-/// `exits`: makes a program of as many exits as the decimal number `digits` says, and returns the number of its slots, as `3 slots`.
-/// `Notation` if `digits` is no number or a number above 1,048,576 (`times`), `Slots` if the program is empty or too long. It also fails if
-/// out of memory.
+/// The outcome of the line `exits COUNT`, which tests the limits of `Program::new`: makes a program of as many exits as the decimal number
+/// `digits` says, and returns the number of its slots as text, for example `3 slots`. `Notation` if `digits` is no number, or a number
+/// above `MOST_TIMES` of `cases`. `Slots` if the program is empty, has more than `MAX_SLOTS` slots, or no memory is left for it; `Memory`
+/// if none is left for the list of exits or the text.
 pub fn made_of_exits(alloc: Global, digits: &str) -> Result<String, CaseError> {
     let exits = vec![in alloc; Insn::Exit; times(digits)? as usize]?;
     let program = Program::new(alloc, &exits)?;
@@ -91,8 +102,9 @@ pub fn made_of_exits(alloc: Global, digits: &str) -> Result<String, CaseError> {
     Ok(answer)
 }
 
-/// Whether an instruction has this opcode: from two slots, zero except for the opcode, `decode` returns an instruction, or a fault other
-/// than `Opcode`.
+/// Whether some instruction has this opcode, the first byte of its first slot. The opcode is decoded from two slots, as many as a wide
+/// instruction has, whose other bytes are zero. `decode` looks for the fault `Opcode` first: only that fault means that no instruction has
+/// the opcode. Any other fault is about another field, so the opcode is known.
 fn is_known(opcode: u8) -> bool {
     let mut bytes = [0; 16];
     bytes[0] = opcode;
@@ -102,8 +114,8 @@ fn is_known(opcode: u8) -> bool {
     }
 }
 
-/// The outcome of the line `opcodes`: how many of the 256 values of a byte are the opcode of an instruction (`is_known`), as text. The
-/// error is out of memory.
+/// The outcome of the line `opcodes`: the text `N opcodes`, in which N is how many of the 256 values of a byte are the opcode of an
+/// instruction (`is_known`). The error is out of memory.
 pub fn known_opcodes(alloc: Global) -> Result<String, CaseError> {
     let known = (0u8..=255).filter(|opcode| is_known(*opcode)).count();
     let answer = format!(in alloc; "{known} opcodes")?;

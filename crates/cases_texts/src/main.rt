@@ -10,7 +10,7 @@
 //! | `asm TEXT` | the hex lines of the program |
 //! | `round TEXT` | the printed text of the program, if it is read again as the same program |
 //! | `hex TEXT` | the slots of the hex lines |
-//! | `program ARGUMENTS <TEXT` | how the program ends on these arguments and this input |
+//! | `program ARGUMENTS <TEXT` | how the command line of the host ends on these arguments and this input: status, output, fault |
 //! | `map FD:KIND:KEY:VALUE:MAX` | the map that an argument names |
 #![tactic(auto)]
 
@@ -23,6 +23,7 @@ use cases::play_lines;
 use player::TextPlayer;
 use std::io;
 
+/// Plays the lines of standard input, and writes each line and its outcome to standard output. The error is that of the stream that failed.
 fn main(rt: HostRuntime) -> io::Result<()> {
     let mut player = TextPlayer::new(rt.alloc());
     play_lines(&rt, &mut player)

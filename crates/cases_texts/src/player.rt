@@ -13,7 +13,7 @@ pub struct TextPlayer {
 }
 
 impl TextPlayer {
-    /// A player, which has no state.
+    /// A player of this crate's cases. It keeps nothing from one line to the next: its only field is the allocator for all lines.
     pub fn new(alloc: Global) -> TextPlayer {
         TextPlayer { alloc }
     }

@@ -6,16 +6,19 @@ use cases::{CaseError, shown, text_of, written};
 use insn_codec::{Program, write_program};
 use std::alloc::Global;
 
-/// Assembles the program whose text is given in the notation of cases. `Notation` or `Digits` if it is not in this notation (`written`),
-/// `NoText` if its bytes are not UTF-8, `Text` if it does not assemble, `Memory` if out of memory.
+/// Assembles the program whose text `text` represents in the notation of cases (`written`), in which `;` is a line feed, `\xHH` a byte and
+/// `{COUNT*PART}` a repetition. `Notation` if a repetition is wrong, or `text` can't be split two bytes after a `\x`; `Digits` if these two
+/// bytes are no hex digits; `NoText` if the bytes of the program's text are not UTF-8. `Text` if the text does not assemble, also if memory
+/// runs out while it is assembled; `Memory` if memory runs out before.
 fn program_of(alloc: Global, text: &str) -> Result<Program, CaseError> {
     let text = written(alloc, text)?;
     let program = assemble(alloc, text_of(&text)?)?;
     Ok(program)
 }
 
-/// `asm`: the program whose text is given in the notation of cases, as hex lines that `shown` writes on one line. `Text` if the text does
-/// not assemble, `NoText` if it is not UTF-8, the errors of `written`, or out of memory.
+/// `asm`: assembles the program whose text is given in the notation of cases, and returns its hex lines on one line: `;` for each line
+/// feed, and equal lines as a repetition (`shown`). `Notation` or `Digits` if the text is not in the notation, `NoText` if its bytes are
+/// not UTF-8, `Text` if it does not assemble, also if the assembler is out of memory, and `Memory` if another call is.
 pub fn assembled(alloc: Global, text: &str) -> Result<String, CaseError> {
     let program = program_of(alloc, text)?;
     let lines = hex_lines(alloc, &program)?;
@@ -23,9 +26,9 @@ pub fn assembled(alloc: Global, text: &str) -> Result<String, CaseError> {
     Ok(answer)
 }
 
-/// `round`: disassembles the program whose text is given in the notation of cases, and returns the new text (`shown`). The new text is
-/// assembled again: if that gives other slots, the result is `another program`. An error if the notation is wrong, or one of the two
-/// texts does not assemble.
+/// `round`: disassembles the program whose text is given in the notation of cases, and returns the text that the disassembler prints, on
+/// one line (`shown`). This text is assembled again: if that gives other slots, the result is `another program`. `Text` if one of the two
+/// texts does not assemble, else the errors of `program_of`, or out of memory.
 pub fn printed(alloc: Global, text: &str) -> Result<String, CaseError> {
     let program = program_of(alloc, text)?;
     let text = disassemble(alloc, &program)?;
@@ -37,8 +40,10 @@ pub fn printed(alloc: Global, text: &str) -> Result<String, CaseError> {
     Ok(answer)
 }
 
-/// `hex`: reads hex lines, which are given in the notation of cases, and returns the bytes of their slots as hex digits (`grouped`). The
-/// errors are those of `written`, `text_of` and `from_hex_lines`.
+/// The outcome of a line `hex`: `text`, the line after this word, is hex lines in the notation of cases, and the result is the bytes of
+/// their slots as hex digits, with a blank after each slot but the last. `Notation` or `Digits` if `text` is not in the notation
+/// (`written`), `NoText` if the hex lines are not UTF-8, `Text` if one of them has a fault, there is no slot, or `from_hex_lines` is out of
+/// memory; `Memory` if out of memory otherwise.
 pub fn read_hex_lines(alloc: Global, text: &str) -> Result<String, CaseError> {
     let text = written(alloc, text)?;
     let bytes = from_hex_lines(alloc, text_of(&text)?)?;

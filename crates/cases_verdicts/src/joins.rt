@@ -11,7 +11,8 @@ const REGISTER: usize = 0;
 /// The stack slot of which something is known: slot 0, the lowest one.
 const SLOT: usize = 0;
 
-/// The range `LO HI`. `Number` if LO or HI is no number of 64 bits in decimal digits, `OutOfRange` if LO is above HI.
+/// The range from LO to HI, both included, of the text `LO HI`. `Number` if LO or HI is no number of 64 bits in decimal digits,
+/// `OutOfRange` if LO is above HI.
 fn range_of(text: &str) -> Result<Range, CaseError> {
     let (lo, hi) = first_word(text);
     let (lo, hi): (u64, u64) = (lo.parse()?, hi.parse()?);
@@ -21,8 +22,8 @@ fn range_of(text: &str) -> Result<Range, CaseError> {
     Ok(Range { lo, hi })
 }
 
-/// A pointer into a value, `FD LO HI`: the map's descriptor, and the lowest and the highest offset. `Number` if one of these is missing or
-/// wrong, `OutOfRange` if LO is above HI.
+/// A pointer into a value, `FD LO HI`: the map's descriptor, and the lowest and the highest offset, in bytes from the start of the value.
+/// `Number` if one of these is missing or no decimal number of 32 bits, which is signed for LO and HI; `OutOfRange` if LO is above HI.
 fn value_of(text: &str) -> Result<ValuePointer, CaseError> {
     let (map, rest) = first_word(text);
     let (lo, hi) = first_word(rest);
@@ -33,8 +34,8 @@ fn value_of(text: &str) -> Result<ValuePointer, CaseError> {
     Ok(ValuePointer::new(map.parse()?, lo, hi))
 }
 
-/// The result of a look-up before its null test, `FD SITE`: the map's descriptor, and the slot of the look-up. `Number` if one of them does
-/// not parse.
+/// The kind of the result of a look-up before its null test, which a case writes as `FD SITE`: the map's descriptor, and the slot of the
+/// look-up. `Number` if one of them is missing or wrong.
 fn looked_up(text: &str) -> Result<Kind, CaseError> {
     let (map, site) = first_word(text);
     Ok(Kind::MaybeValue {
@@ -43,10 +44,10 @@ fn looked_up(text: &str) -> Result<Kind, CaseError> {
     })
 }
 
-/// A `Kind` as a case writes it: its word, and then its numbers. These are the range of a `scalar`, the descriptor of a `map`, the offset
-/// of a `stack` pointer, the descriptor and the offsets of a `value`, the descriptor and the slot of a `looked-up`; `unreadable` and
-/// `context` have none. `Notation` for any other word, `Number` if a number is missing or wrong, `OutOfRange` if the first end of
-/// a range, or the first offset of a `value`, is above the second.
+/// A `Kind` as a case writes it: its word, and then its numbers. These are the two ends of the range of a `scalar`, the descriptor of a
+/// `map`, the offset of a `stack` pointer, the map's descriptor and the least and greatest offset of a `value`, the map's descriptor and
+/// the slot of the look-up for a `looked-up`; `unreadable` and `context` have none. `Notation` for any other word, `Number` if a number is
+/// missing or wrong, `OutOfRange` if the first end of a range, or the first offset of a `value`, is above the second.
 fn kind_of(text: &str) -> Result<Kind, CaseError> {
     let (word, rest) = first_word(text);
     match word {
@@ -61,9 +62,11 @@ fn kind_of(text: &str) -> Result<Kind, CaseError> {
     }
 }
 
-/// The facts at program entry, changed by a text. If it is `bytes MASK`, exactly the bytes of the mask are written in the lowest stack
-/// slot. Any other text is a kind (`kind_of`): register 0 has it, and if it is a pointer, the lowest stack slot is a spill of it. The
-/// errors are those of `kind_of`, and `Number` if the mask is no number of eight bits.
+/// The facts of one operand of a join, for `joined`: those at program entry, with what the text adds. `bytes MASK` is about the lowest
+/// stack slot: exactly those of its bytes are written whose bits in MASK, a number from 0 to 255, are 1; bit 0 is the lowest byte. Any
+/// other text is a kind (`kind_of`), which register 0 gets. If it is that of a pointer, a map or a look-up's result (`is_pointer`), the
+/// lowest stack slot gets it too, as a spill: its eight bytes hold such a value. The errors are those of `kind_of`, and `Number` if MASK is
+/// no such number.
 fn facts_of(text: &str) -> Result<Facts, CaseError> {
     let mut facts = Facts::at_entry();
     let (word, rest) = first_word(text);
@@ -79,8 +82,9 @@ fn facts_of(text: &str) -> Result<Facts, CaseError> {
     Ok(facts)
 }
 
-/// Joins the facts of two texts (`facts_of`), which a `|` separates. Returns the kind of register 0 and the lowest stack slot of the join,
-/// as text, or `join and join_into differ` if these two make different facts. `Notation` if the text has no `|`; the errors of `facts_of`.
+/// Joins the facts of two texts (`facts_of`), which a `|` separates, by both functions for it: `join` returns new facts, and `join_into`
+/// changes the first. Returns, as text, the join's kind of register 0 and its lowest stack slot, or `join and join_into differ` if the
+/// functions make different facts. The errors are `Notation` if the text has no `|`, those of `facts_of`, and `Memory`.
 pub fn joined(alloc: Global, text: &str) -> Result<String, CaseError> {
     let (one, other) = text.split_once('|').ok_or(CaseError::Notation)?;
     let (one, other) = (facts_of(one.trim())?, facts_of(other.trim())?);

@@ -15,7 +15,8 @@ pub struct VerdictPlayer {
 }
 
 impl VerdictPlayer {
-    /// A player with no open descriptor.
+    /// Makes the player of a file of worked cases, which runs one line after another (`play`). No descriptor is open for the programs until
+    /// a line `map` or `program` opens one. Programs and texts take memory from `alloc`.
     pub fn new(alloc: Global) -> VerdictPlayer {
         VerdictPlayer {
             alloc,
@@ -23,41 +24,47 @@ impl VerdictPlayer {
         }
     }
 
-    /// The verified program to which `text` assembles. `text` is in the notation of cases: `Notation` or `Digits` if it is not (`written`),
-    /// `NoText` if its bytes are not UTF-8, `Text` if it does not assemble, `Refused` if the program is rejected with the open
-    /// descriptors, `Memory` if out of memory.
+    /// The verified program to which `text` assembles, if `text` is in the notation of cases. `Notation` if `text` breaks the rules of this
+    /// notation, `Digits` if the two bytes after a `\x` are no hex digits (`written`), `NoText` if the bytes that it gives are not UTF-8,
+    /// `Text` if these do not assemble, `Refused` if the program is rejected with the descriptors that earlier lines opened. Out of memory
+    /// is `Memory`, but `Text` in the assembler and `Refused` in the verifier.
     fn accepted(&self, text: &str) -> Result<Verified, CaseError> {
         let text = written(self.alloc, text)?;
         let program = assemble(self.alloc, text_of(&text)?)?;
         Ok(verify(self.alloc, &program, self.descriptors.named())?)
     }
 
-    /// The word `accepted` if the program to which `text` assembles is accepted; `Refused`, with slot and reason, if it is rejected.
-    /// The other errors are those of the function `accepted`, and out of memory.
+    /// The word `accepted` if the program to which `text` assembles is accepted with the open descriptors; `Refused`, with slot and reason,
+    /// if it is rejected. `Notation` or `Digits` if `text` is not in the notation of cases, in which `;` is a line feed; `NoText` if the
+    /// bytes that `text` gives are not UTF-8, `Text` if they do not assemble. Out of memory is `Text` from the assembler, `Refused` from
+    /// the verifier, else `Memory`.
     fn verdict(&self, text: &str) -> Result<String, CaseError> {
         self.accepted(text)?;
         Ok("accepted".to_string(self.alloc)?)
     }
 
-    /// The word `accepted` if the verifier accepts the program that begins with `text`, in the notation of cases, and then returns 0;
-    /// `Refused`, with slot and reason, if it is rejected. The other errors are those of the function `accepted`, and out of memory.
+    /// Verifies the program that has the instructions of `text`, in the notation of cases, and then `r0 = 0; exit`, which a case thus need
+    /// not have. Returns the word `accepted` if it is accepted; `Refused`, with slot and reason, if it is rejected. `Notation`, `Digits` or
+    /// `NoText` if `text` is not in this notation, `Text` if the program does not assemble, `Memory` if out of memory.
     fn verdict_of_start(&self, text: &str) -> Result<String, CaseError> {
         let whole = format!(in self.alloc; "{text}; r0 = 0; exit")?;
         self.verdict(whole.as_str())
     }
 
-    /// The verdict on a program with a jump in every second slot (`jumping`). The first word of `text` is how many slots each jump skips. A
-    /// jump that would go past the last slot goes to the last slot. The rest of `text` is the instruction there. `Number` if the first word
-    /// is no number. The other errors are those of the function `accepted`, such as `Refused`, and out of memory.
+    /// The word `accepted` if the verifier accepts a program of `MAX_SLOTS` slots that has a conditional jump in every second slot
+    /// (`jumping`). `text` is a number and an instruction: each jump skips this number of slots, or goes to the last slot if it would go
+    /// past that; the last slot has the instruction. `Number` if the first word of `text` is no number. The other errors are those of the
+    /// function `accepted`, such as `Refused`, and out of memory.
     fn verdict_of_jumps(&self, text: &str) -> Result<String, CaseError> {
         let (ahead, end) = first_word(text);
         let whole = jumping(self.alloc, ahead.parse()?, end)?;
         self.verdict(whole.as_str())
     }
 
-    /// The descriptors of the maps that the program of `text` loads, or of which it loads a value, and the number of the program's slots,
-    /// as `maps [3] slots 6`. `Refused` if the program is rejected; the errors for a text that gives no program, and for memory, are those
-    /// of the function `accepted`.
+    /// The maps and the size of the program to which `text` assembles, as `maps [4, 3] slots 8`. The maps are the descriptors by which the
+    /// program loads a map or a value of a map, each once, in the order of their first loads; the size is in slots, two for a wide load.
+    /// `Refused`, with slot and reason, if the program is rejected with the open descriptors; `Notation` or `Digits` if `text` is not in
+    /// the notation of cases, `NoText` if its bytes are not UTF-8, `Text` if it does not assemble, `Memory` if out of memory.
     fn maps(&self, text: &str) -> Result<String, CaseError> {
         let verified = self.accepted(text)?;
         let maps = verified.maps();
@@ -67,7 +74,9 @@ impl VerdictPlayer {
 }
 
 impl Player for VerdictPlayer {
-    // The first word of a line selects a function, whose comment says what the rest of the line means.
+    // Plays a line by its first word. The outcome of `verify`, `start` and `jumps` is a program's verdict, that of `maps` the maps of an
+    // accepted program, that of `join` a join of facts; `map`, `program` and `new` change the open descriptors. The head of `main.rt` has a
+    // table of these lines. The errors are those of the called function, and `UnknownWord` for any other first word.
     fn play(&mut self, line: &str) -> Result<String, CaseError> {
         let (word, rest) = first_word(line);
         match word {

@@ -45,7 +45,8 @@ abbrev pub before_packet : ℕ
 before_packet = word_length + context_length
 
 -- the length in bytes of a command's last field, if the field may have different lengths: a key, a
--- key and a value (`bytes` of an update), slots, or a packet; 0 for a command that has only numbers
+-- key and a value (`bytes` of an update), slots, or a packet; 0 for a command that has only
+-- numbers. For a parsed command it is at most `longest_frame`, as its execution requires
 abbrev pub tail_length : Command → ℕ
 tail_length (map_create kind key value max flags) = 0
 tail_length (map_lookup fd key) = length key
@@ -72,8 +73,9 @@ word_at at body = little_number 4 (drop at body)
 abbrev pub long_at : ℕ → List ℕ → ℕ
 long_at at body = little_number 8 (drop at body)
 
--- the first n words of these bytes, each the little-endian number of four bytes; a body that does
--- not have the words of a test run makes no command (`at_least`)
+-- the n words at the front of these bytes, in their order, each the little-endian number of four
+-- bytes: with n = `given_words` those of a test run's context. The list always has n words, but a
+-- body that does not have the bytes of all of them makes no command (`at_least`)
 unfoldable pub words_in : ℕ → List ℕ → List ℕ
 words_in zero bytes = []
 words_in (suc n) bytes = little_number 4 bytes ∷ words_in n (drop 4 bytes)

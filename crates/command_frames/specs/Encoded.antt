@@ -6,7 +6,7 @@ use Rattle.byteorder.specs.Endian.{little_bytes}
 use Rattle.command_frames.specs.Command.{Command, map_create, map_lookup, map_update, map_delete, map_next_key, prog_load, prog_test_run, close}
 use Rattle.words.specs.Context.{given_words}
 
--- the number of a command in the head of its frame
+-- the number of a command, which the head of its frame has in two bytes; the fields don't matter
 abbrev pub command_code : Command → ℕ
 command_code (map_create kind key value max flags) = 0
 command_code (map_lookup fd key) = 1
@@ -17,10 +17,12 @@ command_code (prog_load kind slots) = 5
 command_code (prog_test_run fd words packet) = 10
 command_code (close fd) = 256
 
--- the bytes of a command's frame after the head; numbers are little-endian. `kind` is the type of
--- a map or of a program. For a new map, `key` and `value` are the sizes of a key and of a value.
--- For an update, `bytes` are the key and then the value. For a test run, `words` are the context
--- words without the first, which is the packet's length
+-- the bytes of a command's frame after the head. Numbers are little-endian, of four bytes each, but
+-- the flags of an update have eight. `fd` is a descriptor, `kind` the type of a map or of a
+-- program. For a new map, `key` and `value` are the sizes of a key and of a value in bytes, and
+-- `max` the most entries; elsewhere `key` is the bytes of a key. For an update, `bytes` are the key
+-- and then the value. For a test run, `words` are the context words without the first, which is the
+-- packet's length
 abbrev pub body_of : Command → List ℕ
 body_of (map_create kind key value max flags) =
     little_bytes 4 kind
@@ -39,8 +41,10 @@ body_of (close fd) = little_bytes 4 fd
 abbrev pub frame_of : ℕ → Command → List ℕ
 frame_of tenant c = little_bytes 2 tenant ++ (little_bytes 2 (command_code c) ++ body_of c)
 
--- the numbers of a command fit into their fields in its frame, and a test run has as many words of
--- context as a run is given
+-- the numbers of a command fit into their fields in its frame, eight bytes for the flags of an
+-- update, and four for any other number; a test run has `given_words` words of context, all but the
+-- first one, which is the packet's length. Nothing is required of keys, values, slots and packets.
+-- The law that a command is parsed again from its frame requires this
 abbrev pub FitsFields : Command → Type 0
 FitsFields (map_create kind key value max flags) =
     (kind < 2 ^ 32) × (key < 2 ^ 32) × (value < 2 ^ 32) × (max < 2 ^ 32) × (flags < 2 ^ 32)

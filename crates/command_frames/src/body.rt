@@ -28,7 +28,7 @@ pub(crate) const CONTEXT_LENGTH: usize = GIVEN_WORDS * WORD_LENGTH;
 /// The number of bytes before the packet of PROG_TEST_RUN: a descriptor and the context.
 const BEFORE_PACKET: usize = WORD_LENGTH + CONTEXT_LENGTH;
 
-/// The number in the four bytes from offset `at` on, little-endian. Each caller has tested that they are there.
+/// The number in the four bytes from offset `at` on, little-endian. Each caller has tested that `bytes` is long enough for them.
 fn word(bytes: &[u8], at: usize) -> u32
     requires { at + word_length ≤ length bytes.now }
     ensures { result ≡ little_number 4 (drop at bytes.now) }
@@ -37,7 +37,8 @@ fn word(bytes: &[u8], at: usize) -> u32
 }
 
 /// Reads the body of MAP_CREATE, command 0: the type of the map, the sizes of a key and of a value in bytes, `max_entries`, and the flags,
-/// four bytes each, little-endian. The numbers may be any. `Body` if the body has not 20 bytes.
+/// four bytes each, little-endian. No number is checked here. `Body` if the length of the body is not `CREATE_BODY`. By the contract the
+/// result, as contracts see it (`shown_result`), is what the definition `command_in` has for command 0 and this body.
 fn map_create(body: &[u8]) -> Result<Command<'_>, BadFrame>
     ensures { shown_result result ≡ command_in 0 body.now }
 {
@@ -53,7 +54,9 @@ fn map_create(body: &[u8]) -> Result<Command<'_>, BadFrame>
     })
 }
 
-/// Reads the body of MAP_LOOKUP, command 1: a descriptor, then the key. `Body` if it is too short for the descriptor.
+/// Reads the body of MAP_LOOKUP, command 1 of the definition `command_in`: a descriptor, `WORD_LENGTH` bytes in little-endian order, and
+/// then the key. All bytes after the descriptor are the key, even if there are none, since only the map has the size of its keys. `Body` if
+/// the body is shorter than the descriptor.
 fn map_lookup(body: &[u8]) -> Result<Command<'_>, BadFrame>
     ensures { shown_result result ≡ command_in 1 body.now }
 {
@@ -66,8 +69,9 @@ fn map_lookup(body: &[u8]) -> Result<Command<'_>, BadFrame>
     })
 }
 
-/// Reads the body of MAP_UPDATE, command 2: a descriptor, eight bytes of flags, then the key and the value, which are not split: only the
-/// map has their lengths. `Body` if the body is too short for the descriptor and the flags.
+/// Reads the body of MAP_UPDATE, command 2: a descriptor of four bytes and flags of eight, both little-endian, then the key and the value.
+/// These two are one slice, since only the map has their lengths. `Body` if the body is too short for the descriptor and the flags. In the
+/// contract, `command_in 2 body.now` is the command that has number 2 and this body, or the error.
 fn map_update(body: &[u8]) -> Result<Command<'_>, BadFrame>
     ensures { shown_result result ≡ command_in 2 body.now }
 {
@@ -81,7 +85,8 @@ fn map_update(body: &[u8]) -> Result<Command<'_>, BadFrame>
     })
 }
 
-/// Reads the body of MAP_DELETE, command 3: a descriptor, then the key. `Body` if it is too short for the descriptor.
+/// Reads the body of MAP_DELETE, command 3: a descriptor of four bytes, then the key, which is all the rest, of any length. The error is
+/// `Body` if the body has fewer than four bytes.
 fn map_delete(body: &[u8]) -> Result<Command<'_>, BadFrame>
     ensures { shown_result result ≡ command_in 3 body.now }
 {
@@ -94,7 +99,8 @@ fn map_delete(body: &[u8]) -> Result<Command<'_>, BadFrame>
     })
 }
 
-/// Reads the body of MAP_NEXT_KEY, command 4: a descriptor, then the key. `Body` if it is too short for the descriptor.
+/// Reads the body of MAP_NEXT_KEY, command 4 (`command_in 4`): a descriptor, four bytes, little-endian, then the key, which may have any
+/// length, also 0. `Body` if the body is too short for the descriptor. In the contract, `shown_result` takes the borrowed key as its bytes.
 fn map_next_key(body: &[u8]) -> Result<Command<'_>, BadFrame>
     ensures { shown_result result ≡ command_in 4 body.now }
 {
@@ -107,7 +113,9 @@ fn map_next_key(body: &[u8]) -> Result<Command<'_>, BadFrame>
     })
 }
 
-/// Reads the body of PROG_LOAD, command 5: the type of the program, then its slots. `Body` if it is too short for the type.
+/// Reads the body of PROG_LOAD, command 5: the type of the program, four bytes, little-endian, then its slots, all bytes after the type.
+/// `Body` if the body is too short for the type. The type may be any number here, and the slots any number of bytes: `load` of `tenant`
+/// tests both.
 fn prog_load(body: &[u8]) -> Result<Command<'_>, BadFrame>
     ensures { shown_result result ≡ command_in 5 body.now }
 {
@@ -120,8 +128,9 @@ fn prog_load(body: &[u8]) -> Result<Command<'_>, BadFrame>
     })
 }
 
-/// Reads the words of a context from the front of `bytes`, in order. A frame has `GIVEN_WORDS` of them: all but the first, the packet's
-/// length. The caller has tested that `bytes` is long enough.
+/// Reads the context words that the frame of a test run gives: ten (`GIVEN_WORDS`), all of a context but the first, which is the packet's
+/// length. They are the first 40 bytes of `bytes` (`context_length`), four for each word, little-endian. The caller, `prog_test_run`, has
+/// tested that `bytes` has so many.
 fn read_words(bytes: &[u8]) -> [u32; GIVEN_WORDS]
     requires { context_length ≤ length bytes.now }
     ensures { result ≡ words_in given_words bytes.now }
@@ -131,8 +140,9 @@ fn read_words(bytes: &[u8]) -> [u32; GIVEN_WORDS]
     words
 }
 
-/// Reads the body of PROG_TEST_RUN, command 10: a descriptor, the words of the context, then the packet. `Body` if it is too short for the
-/// descriptor and the context.
+/// Reads the body of PROG_TEST_RUN, command 10: the descriptor of a program, `GIVEN_WORDS` words of the context, then the packet, the rest
+/// of the body, which may be empty. The descriptor and each word have four bytes, little-endian. The words are all of the context but the
+/// first, the packet's length, which is not in the frame. `Body` if the body is too short for the descriptor and the words.
 fn prog_test_run(body: &[u8]) -> Result<Command<'_>, BadFrame>
     ensures { shown_result result ≡ command_in 10 body.now }
 {
@@ -146,7 +156,8 @@ fn prog_test_run(body: &[u8]) -> Result<Command<'_>, BadFrame>
     })
 }
 
-/// Reads the body of CLOSE, command 256: a descriptor of four bytes. `Body` if the body has another length.
+/// Reads the body of CLOSE, command 256: the descriptor to close, a number of four bytes, little-endian. `Body` if the body has another
+/// length. The definition `command_in` has the same command or error for this body; `shown_result` is the result as contracts see it.
 fn close(body: &[u8]) -> Result<Command<'_>, BadFrame>
     ensures { shown_result result ≡ command_in 256 body.now }
 {
@@ -156,8 +167,9 @@ fn close(body: &[u8]) -> Result<Command<'_>, BadFrame>
     Ok(Command::Close { fd: word(body, 0) })
 }
 
-/// Parses the command of a frame: `number` is the command's number in the head (those of bpf(2), and 256 for CLOSE), `body` the bytes after
-/// the head. `Unknown` if no command has this number; else `Body` if the command does not have a body of this length.
+/// Parses the command of a frame. `number` is the command's number in the head: 0 to 5 and 10 as in bpf(2), and 256 for CLOSE. `body` is
+/// the bytes after the head. The error is `Unknown` if no command has this number, else `Body` if the body is too short for the command,
+/// or, for MAP_CREATE and CLOSE, too long. In the contract, `shown_result` has the borrowed fields of the command as lists of bytes.
 pub(crate) fn command_in(number: u16, body: &[u8]) -> Result<Command<'_>, BadFrame>
     ensures { shown_result result ≡ command_in number body.now }
 {

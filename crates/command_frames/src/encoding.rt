@@ -34,8 +34,9 @@ fn begin(frame: &mut Vec<u8>, tenant: u16, command: u16) -> Result<(), AllocErro
     frame.extend_from_slice(&command.to_le_bytes())
 }
 
-/// Replaces the contents of `frame` by a frame to `tenant`. `command` is the number of its command. Its body is `number` (a descriptor, or
-/// the type of a program) in four bytes, little-endian, and then `bytes`. `AllocError`: out of memory.
+/// Replaces the contents of `frame` by the frame of a look-up, a delete, a request for the next key, or a load, without the length before
+/// it. The head is `tenant` and the number of the command (`command`), two bytes each; then follow `number`, four bytes, and `bytes`: for a
+/// load the type of the program and its slots, else a descriptor and a key. The numbers are little-endian. `AllocError`: out of memory.
 #[inline(always)]
 fn write_with_number(
     frame: &mut Vec<u8>,
@@ -52,7 +53,8 @@ fn write_with_number(
     frame.extend_from_slice(bytes)
 }
 
-/// Appends the words of a context, four bytes each, little-endian. `AllocError`: out of memory.
+/// Appends the `GIVEN_WORDS` words of a context that a frame of a test run has, four bytes each, little-endian. The first word that the run
+/// then sees, the packet's length, is not among them. `AllocError`: out of memory.
 #[inline(always)]
 fn append_words(frame: &mut Vec<u8>, words: [u32; GIVEN_WORDS]) -> Result<(), AllocError>
     ensures { OnOk result (frame.new.items ≡ frame.old.items ++ flat_map (little_bytes 4) words) }
@@ -62,8 +64,10 @@ fn append_words(frame: &mut Vec<u8>, words: [u32; GIVEN_WORDS]) -> Result<(), Al
     frame.extend_from_slice(&bytes)
 }
 
-/// Replaces the contents of `frame` by the frame of a test run (PROG_TEST_RUN) for `tenant`: after the head a descriptor, the words of the
-/// context, and the packet. `AllocError`: out of memory.
+/// Replaces the contents of `frame` by the frame of a test run (command `PROG_TEST_RUN`, 10 in the contract) to `tenant`, without the
+/// length before it. The tenant and the command have two bytes each; then the descriptor of the program and the `GIVEN_WORDS` words of the
+/// context have four each, all little-endian. The packet is last. `words` does not have the packet's length, the context's first word.
+/// `AllocError`: out of memory.
 #[inline(always)]
 fn write_run(
     frame: &mut Vec<u8>,
@@ -82,8 +86,10 @@ fn write_run(
     frame.extend_from_slice(packet)
 }
 
-/// Replaces the contents of `frame` by the frame of a command to a tenant, without the length that precedes it on a stream. `parse` reads
-/// this command from the frame, if that is at most `LONGEST_FRAME` bytes long. `AllocError`: out of memory.
+/// Replaces the contents of `frame` by the frame of a command to a tenant (`frame_of`): the number of the tenant and that of the command in
+/// two bytes each, then the fields of `command` in their order, numbers little-endian. The length that precedes a frame on a stream is not
+/// written. `parse` reads this command from the frame, if that is at most `LONGEST_FRAME` bytes long, which is not tested here. `saving`
+/// calls this function for the frames that restore a tenant. `AllocError`: out of memory; then `frame` may have a part of the frame.
 #[inline(always)]
 pub fn write_command(
     tenant: u16,

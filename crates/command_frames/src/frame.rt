@@ -16,7 +16,8 @@ pub const HEAD_LENGTH: usize = 4;
 /// of a test run on the longest packet.
 pub const LONGEST_FRAME: usize = 131_072;
 
-/// The head of a frame; `None` if it has fewer than four bytes.
+/// The head of a frame, two little-endian numbers: the tenant in the first two bytes, the number of the command in the next two. The bytes
+/// after them are not read. `None` if the frame has fewer than `HEAD_LENGTH` bytes. The host needs the tenant first, before `parse`.
 pub fn head(frame: &[u8]) -> Option<Head>
     ensures { result ≡ head_of frame.now }
 {
@@ -29,12 +30,14 @@ pub fn head(frame: &[u8]) -> Option<Head>
     })
 }
 
-/// The command of a frame, which has at least the four bytes of a head: the caller has found one by `head`. Only the numbers are copied;
-/// the rest is borrowed.
+/// Parses the command of a frame, which has at least the `HEAD_LENGTH` bytes of a head: the caller has found one by `head`. Only the
+/// numbers are copied; keys, values, slots and packets are borrowed from the frame. In the contract, `shown_result` has them as lists of
+/// bytes.
 ///
 /// # Errors
 ///
-/// Why the frame carries no command, the first cause in the order of `BadFrame`.
+/// Why the frame carries no command, the first of these: `TooLong` if it is longer than `LONGEST_FRAME`; `Unknown` if no command has its
+/// number; `Body` if the bytes after the head are too few for the command, or, for MAP_CREATE and CLOSE, too many.
 pub fn parse(frame: &[u8]) -> Result<Command<'_>, BadFrame>
     requires { head_length ≤ length frame.now }
     ensures { shown_result result ≡ parsed frame.now }

@@ -42,7 +42,7 @@ impl Model for ReplyBuf {
 }
 
 impl ReplyBuf {
-    /// Allocates a buffer of `LONGEST_REPLY` bytes, so that no reply takes memory. `AllocError`: out of memory.
+    /// Makes an empty buffer, and allocates room for `LONGEST_REPLY` bytes, so that no reply takes memory. `AllocError`: out of memory.
     pub fn new(alloc: Global) -> Result<ReplyBuf, AllocError>
         ensures { IfOk result (λ reply. reply ≡ []) }
     {
@@ -51,8 +51,9 @@ impl ReplyBuf {
         })
     }
 
-    /// An empty buffer with the memory of a vector, whose contents are dropped; `None` if its capacity is less than `LONGEST_REPLY`. Then
-    /// the vector is freed.
+    /// An empty buffer with the memory of the vector `bytes`, whose contents are dropped. A caller that keeps its reply as a vector
+    /// (`into_vec`) thus needs no new memory for the next reply. `None` if the capacity is less than `LONGEST_REPLY`: then the vector is
+    /// freed.
     pub fn from_vec(bytes: Vec<u8>) -> Option<ReplyBuf>
         ensures some { IfSome result (λ reply.
             (reply ≡ []) × (longest_reply ≤ vec_capacity bytes)) }
@@ -66,7 +67,8 @@ impl ReplyBuf {
         Some(ReplyBuf { bytes })
     }
 
-    /// The vector with the bytes of the reply, and a capacity of at least `LONGEST_REPLY`.
+    /// The vector with the bytes of the reply (`bytes`), at most `LONGEST_REPLY` (`bound`), and a capacity of at least `LONGEST_REPLY`
+    /// (`room`). So `from_vec` can make a buffer of its memory again for the next frame, as the library for C does.
     pub fn into_vec(self) -> Vec<u8>
         ensures bytes { result.items ≡ self }
         ensures bound { length result.items ≤ longest_reply }
@@ -85,15 +87,15 @@ impl ReplyBuf {
         &self.bytes
     }
 
-    /// Empties the buffer.
+    /// Empties the buffer, which keeps its memory.
     fn clear(&mut self)
         ensures { self.new ≡ [] }
     {
         self.bytes.clear();
     }
 
-    /// Appends bytes. Each caller keeps to the length of the longest reply, for which the buffer has the capacity, so `unwrap` never meets
-    /// an error.
+    /// Appends bytes to the reply. By the precondition the reply then has at most `LONGEST_REPLY` bytes, for which the buffer has the
+    /// capacity (`invariant` of `ReplyBuf`). So no memory is needed, and `unwrap` never meets an error.
     fn append(&mut self, bytes: &[u8])
         requires { length self.old + length bytes.now ≤ longest_reply }
         ensures { self.new ≡ self.old ++ bytes.now }
@@ -114,7 +116,9 @@ fn front(head: Head, status: i32, length: u32) -> [u8; FRONT_LENGTH]
     [a, b, c, d, e, f, g, h, i, j, k, l]
 }
 
-/// Replaces the contents of `reply` by a reply. The payload has at most `LONGEST_PAYLOAD` bytes: no command gives a longer one.
+/// Replaces the contents of `reply` by a reply: the length field, the tenant and the command number of `head`, the status and the payload.
+/// The status of a tenant's reply is 0, a new descriptor, or a negated error number. The payload has at most `LONGEST_PAYLOAD` bytes, so
+/// the buffer has room: no command gives a longer one.
 pub fn write_reply(head: Head, status: i32, payload: &[u8], reply: &mut ReplyBuf)
     requires { length payload.now ≤ longest_payload }
     ensures { reply.new ≡ reply_bytes head.tenant head.command status payload.now }
@@ -125,7 +129,9 @@ pub fn write_reply(head: Head, status: i32, payload: &[u8], reply: &mut ReplyBuf
     reply.append(payload);
 }
 
-/// Replaces the contents of `reply` by a reply of status 0. Its payload is `number` in four bytes, little-endian.
+/// Replaces the contents of `reply` by a reply with the tenant and the command of `head`. Its status is 0 (`pos 0`, an integer), and its
+/// payload is `number`, for a test run its result, in four bytes, little-endian. `write_reply` would take more machine instructions for it:
+/// here the number of all bytes, sixteen, is known in advance.
 pub fn write_number(head: Head, number: u32, reply: &mut ReplyBuf)
     ensures { reply.new ≡ reply_bytes head.tenant head.command (pos 0) (little_bytes 4 number) }
 {

@@ -52,8 +52,9 @@ struct Input<'a> {
 }
 
 impl Read for Input<'_> {
-    /// Moves the next bytes of `rest`, at most `at_once`, to the front of `buf`, and returns their number. With `rest` empty, `then` says
-    /// whether the call returns 0, fails, or begins again with all of `bytes`.
+    /// Copies the next bytes of `rest` to the front of `buf`, at most `at_once` and at most as many as fit, removes them from `rest`, and
+    /// returns their number. If `rest` is empty, the call returns 0, the end of the stream (`Ends`), fails (`Fails`), or begins again with
+    /// all of `bytes` (`BeginsAgain`), as `then` says.
     fn read(&mut self, buf: &mut [u8]) -> io::Result<usize> {
         if self.rest.is_empty() {
             match self.then {
@@ -84,8 +85,9 @@ struct Output<'a> {
 }
 
 impl Write for Output<'_> {
-    // Takes the first bytes of `buf`, as many as `at_once` and `room` allow, and returns their number, never an error. `differs` becomes
-    // true if these bytes are not the next ones of `expected`, or more than are left there.
+    // Takes the first bytes of `buf`: at most `at_once`, the limit of one call, and at most `room`, all that the writer still has room for.
+    // Returns their number, 0 without room, never an error. The bytes are compared with the front of `expected`: if they agree, it loses
+    // them; if they do not, or if it has fewer bytes, `differs` becomes true.
     fn write(&mut self, buf: &[u8]) -> io::Result<usize> {
         let count = buf.len().min(self.at_once).min(self.room);
         match self.expected.split_at_checked(count) {
@@ -96,6 +98,8 @@ impl Write for Output<'_> {
         Ok(count)
     }
 
+    // Fails if `flushes` is false, so that a test sees how a stream ends then. Else it does nothing: `write` has compared each byte at
+    // once.
     fn flush(&mut self) -> io::Result<()> {
         if self.flushes {
             Ok(())
@@ -105,7 +109,7 @@ impl Write for Output<'_> {
     }
 }
 
-/// The first `count` bytes, or all if there are fewer.
+/// The first `count` bytes, or all if there are fewer. With it the cases cut the input, and the replies that they expect.
 fn front(bytes: &[u8], count: usize) -> &[u8] {
     bytes.get(..count).unwrap_or(bytes)
 }
@@ -121,9 +125,10 @@ struct Stream<'a> {
     write_failures: u64,
 }
 
-/// Serves at most `limit` frames of the stream on a new host of two tenants. Asserts that the result and the numbers of failed calls are
-/// those that the stream names, and that exactly the expected bytes are written: none differs, and `expected`, from which the writer
-/// removes the bytes that agree, is empty. `case` and `number` are the message of a failed assertion.
+/// Serves at most `limit` frames of the stream on a new host of two tenants. Asserts that the result is `end`, that as many calls of the
+/// reader and of the writer failed as `read_failures` and `write_failures` say, and that exactly the expected bytes are written: none
+/// differs, and `expected`, from which the writer removes the bytes that agree, is empty. The message of a failed assertion is `case`, the
+/// name of a group of streams, and `number`, the length or other number by which these differ: `room for 12`, for example.
 fn assert_ends(rt: &impl Abort, alloc: Global, case: &str, number: usize, stream: Stream<'_>) {
     let Stream {
         input,
@@ -147,9 +152,10 @@ fn assert_ends(rt: &impl Abort, alloc: Global, case: &str, number: usize, stream
     assert!(rt; found == end && is_written && is_counted, "{case} {number}");
 }
 
-/// A stream whose reader gives `bytes`, all in one call if the buffer has room, and then does what `then` says; its writer takes all bytes,
-/// and expects `expected`. At most 100 frames are served (`limit`). The stream has to end after two frames (`end`), without a failed call;
-/// a case changes the fields in which it differs.
+/// The stream from which each case makes its own, by changing the fields in which it differs. The reader gives `bytes`, all in one call if
+/// the buffer has room, and after them ends, fails or gives them again (`then`). The writer has room for all bytes, flushes without an
+/// error, and compares the bytes that it takes with `expected`. At most 100 frames are served (`limit`). `serve_new_host` has to return
+/// `Ok(2)`, the number of frames that had a reply (`end`), without a failed call of the reader or of the writer.
 fn stream_of<'a>(bytes: &'a [u8], then: Then, expected: &'a [u8]) -> Stream<'a> {
     Stream {
         input: Input {
@@ -172,9 +178,10 @@ fn stream_of<'a>(bytes: &'a [u8], then: Then, expected: &'a [u8]) -> Stream<'a> 
     }
 }
 
-/// How a stream of the first `length` bytes of `LOAD_AND_RUN` ends, and how many bytes of replies are written. The number in `Ok` or in the
-/// fault is that of the frames that had a reply. The stream ends without a fault if it has no byte, the first frame, or both frames (80
-/// bytes). If it ends inside the first frame, or inside the second one (`_`), the fault is `Truncated`.
+/// How a stream has to end that has only the first `length` bytes of `LOAD_AND_RUN`, two frames of 80 bytes in all, and how many bytes of
+/// replies have to be written. The number in `Ok` or in the fault is that of the frames that had a reply. The stream ends without a fault
+/// if it has no byte, the first frame, or both frames. If it ends inside the first frame, or inside the second one (`_`: the only caller
+/// passes no `length` above 80), the fault is `Truncated`.
 fn end_of_cut(length: usize) -> (Result<u32, ServeFault>, usize) {
     match length {
         0 => (Ok(0), 0),
@@ -185,8 +192,9 @@ fn end_of_cut(length: usize) -> (Result<u32, ServeFault>, usize) {
     }
 }
 
-/// `serve_new_host` ends as expected, and writes the expected bytes, on streams that are cut, that are read or written in pieces, or that
-/// have too many frames, and if a read, a write or a flush fails.
+/// Asserts how `serve_new_host` ends, which bytes it writes, and how many calls fail (`assert_ends`). The input ends after each number of
+/// bytes, or fails after some. The output has room for only some bytes of the replies, takes five bytes in a call, or can't be flushed. The
+/// input has frames without end, one byte in a call, and five are allowed; or no frame is allowed, and it has no byte or one.
 #[test]
 fn streams_end_and_fail(rt: HostRuntime) {
     let alloc = rt.alloc();
@@ -244,7 +252,8 @@ fn streams_end_and_fail(rt: HostRuntime) {
     assert_ends(&rt, alloc, "no frame is allowed, bytes:", 1, byte);
 }
 
-/// The end of a stream with a fault of this kind, after `frames` frames had a reply.
+/// The `end` that a test expects of a stream on which `serve_new_host` fails: a fault of this kind, after `frames` frames had a reply. The
+/// function never returns `Ok`, the end of a stream without a fault, which has the number of frames with a reply.
 fn fault(kind: ServeFaultKind, frames: u32) -> Result<u32, ServeFault> {
     Err(ServeFault { kind, frames })
 }

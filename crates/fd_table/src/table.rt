@@ -35,7 +35,7 @@ impl<T> Model for FdTable<T> {
     ghost invariant = { λ t. (vec_len t.entries ≡ most) × MarksTaken t.taken t.entries.items };
 }
 
-/// The list of a table with nothing open: `None` for each descriptor, `MOST` times. `AllocError`: out of memory.
+/// The list of a table with nothing open: for each of the `MOST` (64) descriptors a free entry, `None`. `AllocError`: out of memory.
 fn free_entries<T: Drop>(alloc: Global) -> Result<Vec<Option<T>>, AllocError>
     ensures { IfOk result (λ entries. entries.items ≡ nothing_open) }
 {
@@ -68,18 +68,20 @@ impl<T: Drop> FdTable<T> {
         if index < MOST { Some(index) } else { None }
     }
 
-    /// Whether no descriptor is free.
+    /// Whether no descriptor is free, that is, all `MOST` of them are open (`lowest` is then `None`). A tenant tests this before it makes a
+    /// map or a program, since a new object then gets no descriptor.
     pub fn is_full(&self) -> bool
         ensures { result ≡ is_none (lowest self.now) }
     {
         self.free_index().is_none()
     }
 
-    /// Opens `object` at the lowest free descriptor, and returns this number, 3 to 66.
+    /// Opens the lowest free descriptor, which then names `object`, and returns this number: at least `FIRST`, less than `FIRST` + `MOST`
+    /// (`bounds`). By `placed` (`OpensLowest`, which is given the lowest descriptor that was free, if any) no other descriptor changes.
     ///
     /// # Errors
     ///
-    /// The object itself, and nothing changes, if no descriptor is free.
+    /// The error is `object` itself, which the caller gets back, if no descriptor is free. Then nothing changes (`placed`).
     pub fn place(&mut self, object: T) -> Result<u32, T>
         ensures placed { OpensLowest (lowest self.old) self.old object result self.new }
         ensures bounds { IfOk result (λ fd.
@@ -93,7 +95,8 @@ impl<T: Drop> FdTable<T> {
         Ok(FIRST + index as u32)
     }
 
-    /// The object that `fd` names; `None` if this number is not open, or no descriptor (below 3 or above 66).
+    /// The object that `fd` names, by reference; in the contract `option_copied` is the object itself. `None` if this number is not open,
+    /// or no descriptor (below `FIRST`, or `FIRST + MOST` or above).
     pub fn get(&self, fd: u32) -> Option<&T>
         ensures { option_copied result ≡ named self.now fd }
     {
@@ -101,8 +104,8 @@ impl<T: Drop> FdTable<T> {
         self.entries.get(index)?.as_ref()
     }
 
-    /// Closes `fd`, which is free from then on, and returns what it named. `None`, and nothing changes, if this number is not open, or no
-    /// descriptor (below 3 or above 66).
+    /// Closes `fd`, which is free from then on, and returns the object that it named; no other descriptor changes (`closed`). `None`, and
+    /// nothing changes, if this number is not open, or no descriptor (below 3 or above 66).
     pub fn close(&mut self, fd: u32) -> Option<T>
         ensures named { result ≡ named self.old fd }
         ensures closed { self.new ≡ with_closed self.old fd }

@@ -11,7 +11,9 @@ use crate::map_words::BoundMaps;
 use arena::Arena;
 use insn_codec::RawSlot;
 
-/// A law: the value of each register is less than 2^64.
+/// A law: the value of each register is less than 2^64 (`AreWords`). A run calls it before each step, since the laws of a step require it
+/// (`StepsFollow`, `StepsStayInside`). The body reads a register only so that the proof has what holds of the type: each register is a
+/// `u64`.
 #[inline(always)]
 pub(crate) fn words_fit(registers: &Registers)
     ensures { AreWords registers.now }
@@ -19,7 +21,8 @@ pub(crate) fn words_fit(registers: &Registers)
     let _ = registers[0];
 }
 
-/// A law: each byte is less than 256.
+/// A law: each number in `bytes` is less than 256; at an index `k` past the end, `slice_index` is 0. The proof of a run needs this of the
+/// tenant's part, whose bytes are natural numbers without a bound in the definitions.
 #[inline(always)]
 pub(crate) fn bytes_fit(bytes: &[u8])
     ensures { (k : ℕ) → slice_index bytes.now k < 256 }
@@ -27,9 +30,11 @@ pub(crate) fn bytes_fit(bytes: &[u8])
     let _ = bytes.len();
 }
 
-/// A law: if the slots begin with an instruction that has a step with these maps and this memory (`HasNext`), they also begin with one that
-/// has a step with some maps and some memory (`some`), one with some maps and this memory (`within`), and one with these maps and some
-/// memory (`among`). So each arm of `dispatch` requires no more than its step reads.
+/// A law. `HasNext` means: the slots `rest` begin with an instruction that has a step with these registers, and with some maps and some
+/// memory of which its last argument holds. The precondition is this for the maps of `maps` and the memory of `arena` (`with_both`). From
+/// it follows what requires less: a step with some maps and some memory, whatever they are (`some`, `any`), with some maps and this memory
+/// (`within`), and with these maps and some memory (`among`). So each arm of `dispatch` requires no more than its step reads. `entry` is
+/// the value that `maps` has at the call.
 #[inline(always)]
 pub(crate) fn has_some_next(maps: BoundMaps, rest: &[RawSlot], registers: &Registers, arena: &Arena)
     requires { HasNext rest.now registers.now
@@ -43,7 +48,9 @@ pub(crate) fn has_some_next(maps: BoundMaps, rest: &[RawSlot], registers: &Regis
     let _ = arena;
 }
 
-/// A law: if words and bytes represent a state from which the tagged machine has a step, the step on them simulates the machine's.
+/// A law, for `run_premises`. Suppose that words and bytes represent a state of the tagged machine. If an instruction, which names no map
+/// but those of the run, has a step from this state, its step on the words and bytes leads to words and bytes that represent the next
+/// state, or both steps end the run with equal numbers (`StepsFollow`). A call of a helper is not included: it has a law of its own.
 fn steps_follow()
     ensures { StepsFollow }
 {
@@ -52,7 +59,9 @@ fn steps_follow()
     bpf_helpers::laws::stores_keep_simulation();
 }
 
-/// If the tagged machine has a step, each range that the step on words and bytes accesses lies in the part of the run.
+/// A law: if words and bytes represent a state (`Simulates`) from which the tagged machine has a step, each address range that the step on
+/// words and bytes accesses lies in the part of the run's tenant. `run_premises` gives this to the proof that a run accesses no other part
+/// (`ranges` of `run_with`), although its loads and stores test no address.
 fn steps_stay_inside()
     ensures { StepsStayInside }
 {
@@ -60,8 +69,10 @@ fn steps_stay_inside()
     bpf_helpers::laws::stores_keep_simulation();
 }
 
-/// The premises of a run's proof: the laws of its steps and of the arguments of calls, of its start and its end; that maps that are not
-/// bound keep their values; that a program's maps are listed; and that elements keep their offsets if the areas are unchanged.
+/// A law with all premises of the proofs of runs and batches: the laws of a run's steps (`steps_follow`, `steps_stay_inside`), of the
+/// arguments of calls (`calls_name_all`), of its start and its end; that maps that are not bound to the run keep their values
+/// (`others_stay`); that each map that a program loads is listed, once (`maps_are_listed`); and that elements keep their offsets if the
+/// areas are unchanged. Nothing is done when it runs.
 pub(crate) fn run_premises()
     ensures { RunLaws }
 {

@@ -53,7 +53,8 @@ impl<'a> Model for Packets<'a> {
         ≡ None };
 }
 
-/// Whether `contexts`, a number of arrays of context words, is 1, one array for all packets, or `packets`, one for each.
+/// Whether there may be `contexts` arrays of context words for `packets` packets: 1, an array for all packets, or as many as packets, an
+/// array for each. `Packets::new` refuses any other number. Without packets, both 0 and 1 are allowed.
 #[inline(always)]
 fn fit_packets(contexts: usize, packets: usize) -> bool
     ensures { result ≡ are_contexts contexts packets }
@@ -61,11 +62,12 @@ fn fit_packets(contexts: usize, packets: usize) -> bool
     contexts == 1 || contexts == packets
 }
 
-/// A quick test of all packets at once. If `true`, packets with these ends are in order, in `many` bytes, and shorter than
-/// `LONGEST_PACKET`. If `false`, they may still be accepted, after a test of each (`first_fault`). `lengths` has every bit that is set in a
-/// length, `reach` every bit that is set in an end. `LONGEST_PACKET` is a power of two, so all lengths are below it exactly if `lengths`
-/// is. If no end has the highest bit, the wrapped length of a packet that ends before its start has this bit, and makes `lengths` too
-/// great.
+/// A quick test of all packets at once. `ends` has for each packet how many of the `many` bytes are before its end, at which the next
+/// packet begins; the first begins at 0. If `true`, no packet has a fault: each ends at or after its beginning, within the bytes, and is
+/// shorter than `LONGEST_PACKET`. If `false`, the packets may still be accepted, after a test of each (`first_fault`). `lengths` has every
+/// bit that is set in a length, `reach` every bit that is set in an end. `LONGEST_PACKET` is a power of two, so `lengths` is below it
+/// exactly if each length is. The length of a packet that ends before its beginning wraps: if no end has the highest bit (`reach`), such a
+/// length has this bit, and makes `lengths` too great. So the ends ascend, and only the last, in `start`, is compared with `many`.
 #[inline(always)]
 fn are_plain(many: usize, ends: &[usize]) -> bool
     ensures { result ≡ true → packets_fault many 0 ends.now ≡ None }
@@ -81,9 +83,10 @@ fn are_plain(many: usize, ends: &[usize]) -> bool
     lengths < LONGEST_PACKET && reach < HIGHEST_BIT && start <= many
 }
 
-/// Why packets in `many` bytes are refused: the fault of the first one that has a fault, by tests of each in turn; `None` if none has.
-/// `ends` has for each packet how many of the bytes are before its end. The first packet begins at 0, each other at the end of the one
-/// before. This function is cold, since almost all batches are accepted by `are_plain`, without a call of `first_fault`.
+/// Why packets in `many` bytes are refused: the fault of the first packet that has one, by a test of each in turn; `None` if none has.
+/// `Outside` if the packet ends before it begins or after the last byte, else `TooLong` if it has more than `LONGEST_PACKET` bytes. `ends`
+/// has for each packet how many of the bytes are before its end. The first packet begins at byte 0, each other at the end of the one
+/// before. This function is cold, since the quick test `are_plain` accepts almost all batches, and only the others are tested here.
 #[cold]
 #[inline(never)]
 fn first_fault(many: usize, ends: &[usize]) -> Option<PacketFault>
@@ -102,8 +105,10 @@ fn first_fault(many: usize, ends: &[usize]) -> Option<PacketFault>
     None
 }
 
-/// Why packets with these ends, in `many` bytes, are refused; `None` if they are not. `first_fault` tests each packet, but only if the
-/// quick test `are_plain` is false. The quick test may be false without a fault: a packet of exactly `LONGEST_PACKET` bytes has none.
+/// Why packets in `many` bytes are refused: the fault of the first packet that has one, `Outside` or `TooLong`; `None` if none has. `ends`
+/// has for each packet how many of the bytes are before its end. The first packet begins at byte 0 (the `0` of the contract), each other
+/// one at the end of the one before. `first_fault` tests each packet, but only if `are_plain`, a quick test of all, is false. The quick
+/// test may be false without a fault: a packet of exactly `LONGEST_PACKET` bytes has none.
 #[inline(always)]
 fn fault_of(many: usize, ends: &[usize]) -> Option<PacketFault>
     ensures { result ≡ packets_fault many 0 ends.now }
@@ -121,8 +126,8 @@ impl<'a> Packets<'a> {
     ///
     /// # Errors
     ///
-    /// `Contexts` if there is neither one array of words nor one for each packet. Else those of the first packet that is refused:
-    /// `Outside` if it ends before it begins or after the last byte, `TooLong` if it has more than `LONGEST_PACKET` bytes.
+    /// `Contexts` if there is neither one array of words nor one for each packet. Else the fault of the first packet that has one:
+    /// `Outside` if the packet ends before it begins or after the last byte, `TooLong` if it has more than `LONGEST_PACKET` bytes.
     pub fn new(
         contexts: &'a [[u32; GIVEN_WORDS]],
         bytes: &'a [u8],
@@ -147,7 +152,7 @@ impl<'a> Packets<'a> {
         })
     }
 
-    /// A law: no packet has more than `LONGEST_PACKET` bytes. It does nothing when it runs.
+    /// A law: no packet has more than `LONGEST_PACKET` bytes, since `new` refuses longer ones. It does nothing when it runs.
     #[inline(always)]
     pub fn packets_are_short(&self)
         ensures { All (λ input. length input.packet ≤ longest_packet) self.now }

@@ -16,8 +16,9 @@ use Rattle.tenant.specs.Alone.{frames_of, replies_of, IsFault, IsServedAlone}
 
 -- ---- the replies to the tenants
 
--- no memory was ever refused to the tenant; true of a tenant that is not served (None), which takes
--- no memory
+-- no memory was ever refused to the tenant that has this state; true of None, a tenant that is not
+-- served, which takes no memory. To such tenants `Noninterference` promises the replies of their
+-- own machines
 abbrev pub IsUnrefused : Option TenantState → Type 0
 IsUnrefused None = Unit {0}
 IsUnrefused (Some s) = s.refused ≡ false

@@ -11,18 +11,21 @@ Takes remaining old new bytes = Consumes (remaining old) (remaining new) bytes
 
 -- ---- how many calls failed
 
--- what a read with this result adds to the number of failed reads: 1 if it is an error; 0 if it is
--- the number of bytes read, also if that is 0
+-- what a read with this result adds to the number of failed reads: 1 for an error; 0 for a number n
+-- of bytes read, also if n is 0
 abbrev pub read_failures : {E : Type 0} → Result ℕ E → ℕ
 read_failures (Ok n) = 0
 read_failures (Err e) = 1
 
--- 1 if a write failed, else 0; a write of one or more bytes that takes none counts as failed too
+-- what a write that is given `bytes` adds to the number of failed writes, if this is its result: an
+-- error, or the number n of bytes taken. It adds 1 for an error, and for n = 0 if `bytes` is not
+-- empty, since both end a stream; else 0, also for n = 0 if `bytes` is empty
 abbrev pub write_failures : {E : Type 0} → Result ℕ E → List ℕ → ℕ
 write_failures (Ok n) bytes = if n == 0 && not (length bytes == 0) then 1 else 0
 write_failures (Err e) bytes = 1
 
--- 1 if a flush failed, else 0
+-- what a flush with this result adds to the number of failed calls of its writer: 1 if the result
+-- is an error, else 0
 abbrev pub flush_failures : {E T : Type 0} → Result T E → ℕ
 flush_failures (Ok x) = 0
 flush_failures (Err e) = 1

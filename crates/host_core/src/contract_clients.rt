@@ -20,7 +20,9 @@ use std::alloc::Global;
 
 /// If a new host serves a stream to its end, each tenant to which no memory was refused gets exactly the replies that the machine of a new
 /// tenant gives to its frames. Returns the number of replies; `None` at a fault, for which the contract promises nothing. In the contract,
-/// `[]` is the list of the bytes after the last whole frame: there are none. The seed and the limit of 100 frames are arbitrary.
+/// `after` are the states of the tenants at the end, and `[]` is the list of the bytes after the last whole frame: there are none. The host
+/// has 1 to `MOST_TENANTS` tenants (`some`, `few`), and fewer than 2^64 - 1 calls of the reader and of the writer have failed before, as
+/// they are counted in 64 bits (`reader`, `writer`). The seed and the limit of 100 frames are arbitrary.
 fn serve_from_the_beginning<R: Source, W: Sink>(
     alloc: Global,
     tenants: usize,
@@ -39,8 +41,9 @@ fn serve_from_the_beginning<R: Source, W: Sink>(
     serve_new_host(alloc, tenants, HashSeed::new(0, 0), reader, writer, 100).ok()
 }
 
-/// A host in any state serves a stream, to its end or to a fault. Then all parts of a save of each tenant, one after another, restore this
-/// tenant.
+/// Lets a host, which may be in any state, serve a stream, to its end or to a fault. Then all parts of a save of each tenant, one after
+/// another, restore this tenant (`AreRestored`): a new tenant that has handled their frames replies as the saved one does, if no memory is
+/// refused to it. `serve` requires `reader` and `writer`: fewer than 2^64 - 1 calls of each have failed before.
 fn serve_and_save<R: Source, W: Sink>(
     alloc: Global,
     host: &mut Host,
@@ -55,9 +58,10 @@ fn serve_and_save<R: Source, W: Sink>(
     host.tenants_are_restored();
 }
 
-/// Handles two frames: `refused`, for which memory may be refused, and `next`. At the end `reply` has the reply to `next`. Unless its
-/// status is `NoMemory`, it is exactly the reply of the tenant's own machine from the state between the two frames, even if memory was
-/// refused to the tenant before.
+/// Shows from the contracts that a reply after a refusal of memory is exact. Handles two frames: `refused`, for which memory may be refused
+/// (`first` is its reply, `between` are the states after it), and `next`. At the end `reply` has the reply to `next`. Unless its status is
+/// `NoMemory`, it is exactly the reply that the own machine of the tenant of `next` gives without refusals, from its state in `between`,
+/// even if memory was refused to this tenant before.
 fn handle_after_a_refusal(host: &mut Host, refused: &[u8], next: &[u8], reply: &mut ReplyBuf)
     ensures { (first : List ℕ) × (between : List TenantState)
         × Handles host.old.states refused.now first between

@@ -60,9 +60,10 @@ impl Model for Host {
         × AreReached (host_state h.arena h.tenants.items) };
 }
 
-/// Creates `count` tenants with nothing open. The keys of their hash maps will be hashed with `seed`. Each is in the state of a new tenant,
-/// whatever bytes the arena has (`m`) and whatever number the first of them gets (`first`), since none has a map. `AllocError`: out of
-/// memory.
+/// Creates `count` tenants with nothing open. The keys of their hash maps will be hashed with `seed`. Each is in the state of a new tenant
+/// (`new`), whatever bytes the arena has (`m`) and whatever number the first of them gets (`first`): of a state, only the values of maps
+/// are in the arena, and no tenant has a map yet. None has created a map or loaded a program, so the list of each tenant's births is empty
+/// (`births`). `AllocError`: out of memory.
 fn new_tenants(
     alloc: Global,
     count: usize,
@@ -99,8 +100,10 @@ impl Host {
         })
     }
 
-    /// Whether the tenant with the number `tenant` was ever refused memory: for a load, for an installed program, or for a new map. If not,
-    /// its replies are those of its machine without refusals; if so, they may differ. False for a number that is not served.
+    /// Whether memory was ever refused to the tenant with the number `tenant`: for a load, for an installed program, or for a new map. The
+    /// tenant's state has a flag for this. By `unrefused`, false means that the flag is clear, so that the tenant's replies are those of
+    /// its machine without refusals, or that the number is not served (`IsUnrefused`). By `refused`, true means that the flag is set: the
+    /// replies may differ from those.
     pub fn memory_was_refused(&self, tenant: usize) -> bool
         ensures refused { result ≡ true → ¬ IsUnrefused (slice_get self.now.states tenant) }
         ensures unrefused { result ≡ false → IsUnrefused (slice_get self.now.states tenant) }
@@ -111,10 +114,12 @@ impl Host {
         }
     }
 
-    /// Handles a frame (what follows the length field) of any length: writes its reply to `reply`, and updates the state of its tenant and
-    /// the tenant's births, the record of the maps created and programs loaded (`recorded`). All other tenants are unchanged. The status of
-    /// the reply is that of EINVAL if the frame has fewer than the four bytes of a head, and that of EPERM if its tenant is not served. It
-    /// is never that of a test run that faults, EFAULT (`no_fault`).
+    /// Handles a frame (what follows the length field) of any length: writes its reply to `reply`, and changes the state of its tenant.
+    /// Both are what the tenant's machine allows for the frame, with or without a refusal of memory (`own`). The tenant's births, the
+    /// record of the maps created and programs loaded, change as well (`recorded`). All other tenants are unchanged (`others`), and so is
+    /// their number (`count`). The status of the reply is that of EINVAL if the frame has fewer than the four bytes of a head, and that of
+    /// EPERM if its tenant is not served; in both cases no state changes. It is never EFAULT, the status of a test run that faults
+    /// (`no_fault`).
     pub fn handle(&mut self, frame: &[u8], reply: &mut ReplyBuf)
         ensures own { MayReply frame.now reply.new
             (slice_get self.old.states (owner frame.now))
@@ -141,8 +146,8 @@ impl Host {
         self.tenants[tenant].handle(head, frame, tenant, arena, working, reply);
     }
 
-    /// The frames of one part of a save of `tenant`, each with its length before it. Parts are counted from 0; `None` after the last one,
-    /// and for a tenant that is not served.
+    /// The frames of one part of a save of `tenant`, each with its length before it (`saved_part`). Parts are counted from 0; `None` after
+    /// the last one, and for a tenant that is not served.
     ///
     /// A new tenant of this number, on any host, that is given the frames of all parts in their order then replies as the saved tenant
     /// does, unless it is refused memory. Between two parts `tenant` must not change; others may be served. A part creates one map or
@@ -162,9 +167,9 @@ impl Host {
         kept.save_part(self.alloc, tenant as u16, part, self.arena.part(tenant))
     }
 
-    /// A law, which does nothing when it runs: what `save` returns restores a tenant. All parts of a save of a tenant, one after another,
-    /// are frames of this tenant. If no memory is refused to a new tenant, it succeeds at each of these frames, and then replies as the
-    /// saved tenant does. This holds whatever calls this host had, and whatever memory was refused to the saved tenant.
+    /// A law, which does nothing when it runs: what `save` returns restores a tenant (`AreRestored`). All parts of a save of a tenant, one
+    /// after another, are frames of this tenant. A new tenant to which no memory is refused succeeds at each of these frames, and then
+    /// replies as the saved tenant does. This holds whatever calls this host had, and whatever memory was refused to the saved tenant.
     pub fn tenants_are_restored(&self)
         ensures { AreRestored self.now }
     {
@@ -175,20 +180,20 @@ impl Host {
         saving::laws::parts_are_whole();
     }
 
-    /// Runs the program at a descriptor of `tenant` on many packets, one after another. The packets lie one after another in `bytes`,
-    /// from byte 0 on, and `ends` has for each packet how many of these bytes are before its end. `contexts` has one context for all
-    /// packets, or one for each; a context has `GIVEN_WORDS` words. The results, for each packet the number that the reply to its test run
-    /// has, are written to the front of `results`, whose rest is unchanged.
+    /// Runs the program at the descriptor `fd` of `tenant` on many packets, in order. The packets lie one after another in `bytes`, from
+    /// byte 0 on, and `ends` has for each packet how many of these bytes are before its end. `contexts` has one context for all packets, or
+    /// one for each: the `GIVEN_WORDS` words that follow the packet's length in the context of a run. The results, for each packet the
+    /// number that the reply to its test run has, are written to the front of `results`, whose rest is unchanged.
     ///
-    /// Results and states afterwards are those of the test-run frames of these packets in this order. The states of all other
-    /// tenants are unchanged.
+    /// Results and states afterwards are those of the test-run frames of these packets in this order (`runs`). The states of all other
+    /// tenants are unchanged (`tenant`), and so are all births, the records of created maps and loaded programs (`births`).
     ///
     /// # Errors
     ///
-    /// The first that applies: `NotPermitted` if the tenant is not served; `BadDescriptor` if the descriptor is not open, `Invalid` if it
-    /// names a map; `Invalid` if `results` has room for fewer results than packets, or if there is neither one context nor one for each
-    /// packet; for the first wrong packet `Invalid` if its end is before the previous one or outside of `bytes`, `TooBig` if it is longer
-    /// than a packet may be. Then no packet was run, and nothing has changed.
+    /// The first that applies (`refusal`): `NotPermitted` if the tenant is not served; `BadDescriptor` if the descriptor is not open,
+    /// `Invalid` if it names a map; `Invalid` if `results` has room for fewer results than packets, or if there is neither one context nor
+    /// one for each packet; for the first wrong packet `Invalid` if its end is before the previous one or after the end of `bytes`,
+    /// `TooBig` if it has more than `LONGEST_PACKET` bytes. Then no packet was run, and nothing has changed (`unchanged`).
     pub fn run_packets(
         &mut self,
         tenant: usize,

@@ -15,8 +15,10 @@ use tagged_model::Named;
 use tenant::{Cost, Counts, Described};
 
 impl Host {
-    /// The stored tenant of this number; `None` if the number is not served. With the bytes of the tenant's part of the arena (`part`), it
-    /// represents the tenant's state.
+    /// The tenant with the number `tenant` as the host stores it; `None` if the number is not served. The functions of this file, which
+    /// only read, call this function. The contract is about the tenant's state, which contracts see in `states` by number: there is one
+    /// exactly if the number is served, and the stored tenant (`kept`) represents it (`tenant_state`) with some bytes `part`, those of the
+    /// tenant's part of the arena.
     fn kept(&self, tenant: usize) -> Option<&SavableTenant>
         ensures { (part : List ℕ) × (slice_get self.now.states tenant
             ≡ option_map (λ kept. tenant_state part kept.now) result) }
@@ -24,8 +26,10 @@ impl Host {
         self.tenants.get(tenant)
     }
 
-    /// How many live maps `tenant` has at this moment, how many keys these have, and how many bytes their areas take; how many open
-    /// programs and open descriptors it has; and whether memory was ever refused to it. All 0, and false, for a number that is not served.
+    /// How much `tenant` has at this moment, for the owner of the host: how many live maps; how many keys these have together; how many
+    /// bytes their areas have; how many descriptors name a program, and how many are open; and whether memory was ever refused to the
+    /// tenant. In the contract, `slice_get` gives the tenant's state, or `None` for a number that is not served. Then all counts are 0, and
+    /// `memory_refused` is false (`counts_if_served`).
     pub fn counts(&self, tenant: usize) -> Counts
         ensures { result ≡ counts_if_served (slice_get self.now.states tenant) }
     {
@@ -46,8 +50,8 @@ impl Host {
         }
     }
 
-    /// The cost of the program that the descriptor `fd` of `tenant` names: the most instructions, and the most calls of helpers, on a path
-    /// through it. `None` if `fd` names no program, or if the tenant is not served.
+    /// The cost of the program that the descriptor `fd` of `tenant` names: the most instructions on a path from slot 0 to an exit, and the
+    /// most calls of helpers on one, perhaps another path. `None` if `fd` names no program, or if the tenant is not served.
     pub fn program_cost(&self, tenant: usize, fd: u32) -> Option<Cost>
         ensures { HasCostAt (slice_get self.now.states tenant) fd result }
     {
@@ -57,11 +61,12 @@ impl Host {
         }
     }
 
-    /// How many of the `packets` of a batch may run within `bound`, a number of instructions. A run of the program at the descriptor `fd`
-    /// of `tenant` counts for the most instructions that it executes, and `CALL_WEIGHT` (of the crate `tenant`) more for each of the most
-    /// calls of helpers that it makes. The result is `bound` divided by this count and rounded down, but at least 1, and at most `packets`.
-    /// It is `packets` if `bound` is 0; also if the tenant is not served or the descriptor names no program, since such a batch is rejected
-    /// as a whole.
+    /// How many of the `packets` packets of a batch may run within `bound`, a number of instructions. The library for C runs only these by
+    /// one call. A run of the program at the descriptor `fd` of `tenant` counts for the most instructions that it executes, and
+    /// `CALL_WEIGHT` (of the crate `tenant`) more for each of the most calls of helpers that it makes. The result (`allowed`) is `bound`
+    /// divided by this count and rounded down, but 1 if that is 0, so that a caller makes progress with any bound, and `packets` if there
+    /// are fewer packets (`few`). It is `packets` too if `bound` is 0, which means no bound; also if the tenant is not served or the
+    /// descriptor names no program, since such a batch is rejected as a whole.
     #[tactic(auto, using(crate::proofs::Allowed::no_bound_allows_all))]
     pub fn allowed_packets(&self, tenant: usize, fd: u32, bound: u64, packets: usize) -> usize
         ensures allowed { IsAllowedFor (slice_get self.now.states tenant) fd bound packets result }
@@ -77,8 +82,9 @@ impl Host {
         }
     }
 
-    /// The open descriptors of `tenant` and their objects, as the verifier gets them for a load of this tenant. An empty list for a number
-    /// that is not served. `AllocError`: out of memory.
+    /// The open descriptors of `tenant` at this moment, from the lowest on, each with its `Target`, which is what the verifier gets of the
+    /// object for a load: the shape of a map, or only that it is a program. `bpfhost_c_verify` verifies a program with this list and does
+    /// not load it. The list is empty for a number that is not served. `AllocError`: out of memory.
     pub fn targets(&self, tenant: usize) -> Result<Vec<Named>, AllocError>
         ensures { IfOk result (λ named. named.items
             ≡ targets_if_served (slice_get self.now.states tenant)) }

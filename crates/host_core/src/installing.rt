@@ -7,13 +7,14 @@ use crate::host::Host;
 use tenant::{Errno, Verified, laws};
 
 impl Host {
-    /// Opens, for `tenant`, a program that was verified elsewhere. The host changes as by the frame that would load the program, and `Ok`
-    /// has the status of the reply to this frame: a descriptor, or the negated error number. The program is neither copied nor verified
-    /// again.
+    /// Opens, for `tenant`, a program that was verified elsewhere, without a host. The host changes as by the frame that would load the
+    /// program, and `Ok` has the status of the reply to this frame: a descriptor, or the negated error number (`loaded`). The program is
+    /// neither copied nor verified again.
     ///
-    /// With which objects it was accepted does not matter, if each descriptor of its maps names a map of the same shape here. If one does
-    /// not, `Err` gives the program back, and nothing has changed: then its slots have to be loaded by a frame. For a tenant that is not
-    /// served the program is dropped, and the status is that of `NotPermitted`, as in the reply to a frame.
+    /// With which objects it was accepted does not matter, if each descriptor of its maps names a map of the same shape here; after `Ok`
+    /// this is known (`fits`). If one does not, `Err` gives the program back, and nothing has changed (`stale`): then its slots have to be
+    /// loaded by a frame. For a tenant that is not served the program is dropped, and the status is that of `NotPermitted`, as in the reply
+    /// to a frame; `FitsTenant` holds then, as it requires nothing.
     pub fn install(&mut self, tenant: u16, program: Box<Verified>) -> Result<i32, Box<Verified>>
         ensures loaded { IfOk result (λ status.
             Installs tenant program.value.code status self.old self.new) }

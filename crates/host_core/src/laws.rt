@@ -6,8 +6,9 @@ ghost use Rattle.host_core.specs.Laws.{UnrefusedAreServedAlone, CallsAreServedAl
 ghost use Rattle.host_core.specs.Laws.{EachStretchIsServedAlone, SameFramesSameReplies, SameFramesSameOutput, NoContentEndsAStream};
 
 /// A law, for a caller of `serve`, whose contract allows refusals of memory (`done`, `fault` of `ServesStream`). If each tenant gets
-/// replies that its own machine may give with refusals, then each tenant to which no memory was refused gets exactly those that its machine
-/// gives without refusals, whatever was refused to others.
+/// replies that its own machine may give to its frames when memory may be refused (`EachIsServedByItsMachine`), then each tenant whose flag
+/// of refused memory is clear after the last frame gets exactly the replies that its machine gives without refusals, whatever was refused
+/// to others (`Noninterference`).
 pub fn unrefused_are_served_alone()
     ensures { UnrefusedAreServedAlone }
 {
@@ -23,18 +24,19 @@ pub fn calls_are_served_alone()
     unrefused_are_served_alone();
 }
 
-/// A law, by which a later refusal changes nothing in earlier replies. After any number of calls of `Host::handle`, each tenant to which
-/// no memory has been refused so far has got exactly the replies of its own machine, whatever is refused to others, or later to it.
+/// A law, by which a later refusal of memory changes nothing in earlier replies. `calls_are_served_alone` is about all calls of
+/// `Host::handle` in a sequence, this law about the first n, for any n: each tenant to which no memory has been refused until then has got
+/// exactly the replies of its own machine, whatever is refused to others, or later to it.
 pub fn each_is_served_alone_until_refused()
     ensures { EachIsServedAloneUntilRefused }
 {
     calls_are_served_alone();
 }
 
-/// A law, for tenants to which memory was refused before. In each stretch of calls of `Host::handle` in which none of a tenant's replies
-/// has the status `NoMemory`, these replies are exactly those of its own machine from the state that it has at the stretch's beginning,
-/// whatever is refused to others. Only its own creations and loads can have that status:
-/// `tenant::laws::only_creations_and_loads_are_refused`.
+/// A law: in each stretch of consecutive calls of `Host::handle` in which no reply to a tenant has the status `NoMemory`, the replies to
+/// this tenant are exactly those of its own machine without refusals, from its state at the stretch's beginning, whatever memory is refused
+/// to others. It does not matter whether memory was refused to the tenant before the stretch. Only the replies to its own creations of maps
+/// and loads can have this status: `tenant::laws::only_creations_and_loads_are_refused`.
 pub fn each_stretch_is_served_alone()
     ensures { EachStretchIsServedAlone }
 {
@@ -42,16 +44,18 @@ pub fn each_stretch_is_served_alone()
     tenant::laws::unrefused_replies_mean_alone();
 }
 
-/// A law: two streams that agree on a tenant's state at the start and on its frames give it the same replies, if neither refuses memory to
-/// it, whatever frames of others lie between them.
+/// A law: if a tenant has the same state at the start of two streams, and the same frames in both, it gets the same replies in both, if
+/// neither refuses memory to it, whatever frames of others lie between its own. So it can't observe the frames of other tenants. The law
+/// assumes `Noninterference` of both streams, which `serve` promises unless its writer fails.
 pub fn same_frames_same_replies()
     ensures { SameFramesSameReplies }
 {
     tenant::laws::one_alone();
 }
 
-/// A law: two streams with the same frames have the same output, whatever hosts serve them, if each tenant of these frames has the same
-/// state at the beginning of both streams, and neither host refuses memory to it. Replaying a recorded stream relies on this.
+/// A law: two streams with the same frames get the same replies and the same bytes of output, whichever hosts serve them, if each tenant
+/// with a frame among these has the same state at the beginning of both streams, and was refused no memory by the end of either (its flag
+/// `refused` is clear). Replaying a recorded stream relies on this.
 pub fn same_frames_same_output()
     ensures { SameFramesSameOutput }
 {
@@ -72,9 +76,10 @@ pub fn batch_is_its_calls()
     ensures { BatchIsItsCalls }
 {}
 
-/// A law: after any calls of `Host::handle` and `Host::run_packets` on a new host, the parts of a save of a tenant are frames, and a new
-/// tenant to which no memory is refused succeeds at each of these frames and then replies as the saved one does.
-/// `Host::tenants_are_restored` promises this of any host, whatever calls it had.
+/// A law, for a caller that has only a list of calls on a new host. After any calls of `Host::handle`, `Host::install` and
+/// `Host::run_packets`, and of functions that change nothing, all parts of a save of a tenant, one after another, are frames of this
+/// tenant. A new tenant to which no memory is refused succeeds at each of these frames, and then replies as the saved tenant does, while no
+/// memory is refused. `Host::tenants_are_restored` promises this of any host, whatever calls it had.
 pub fn tenants_are_restored()
     ensures { TenantsAreRestored }
 {

@@ -21,12 +21,14 @@ use std::alloc::{AllocError, Global};
 /// that is too long is too long itself, and is rejected.
 pub(crate) const FRAME_BUFFER: usize = LONGEST_FRAME + 1;
 
-/// Reads until `buffer` is full or the input ends, and returns how many bytes were read. The input ends when a read into the rest of
-/// the buffer, which is not empty, gives 0 bytes. Fewer than 2^64 - 1 calls of the reader have failed before.
+/// Reads until `buffer` is full or the input ends, and returns how many bytes were read, at most its length (`bound`). These are at its
+/// front, and are the next bytes of the input (`bytes`). If they don't fill it, the input has ended (`end`): a read into the rest of the
+/// buffer, which is not empty, gave 0 bytes. No call of the reader failed (`sound`). Fewer than 2^64 - 1 have failed before.
 ///
 /// # Errors
 ///
-/// `Read` if a call of the reader failed. The bytes read until then are at the front of `buffer`, and don't fill it.
+/// `Read` (`kind`) if a call of the reader failed (`failed`). The bytes read until then are at the front of `buffer`, and don't fill it
+/// (`part`).
 pub fn fill<S: Source>(reader: &mut S, buffer: &mut [u8]) -> Result<usize, ServeFaultKind>
     requires { S.failures reader.old < 2 ^ 64 - 1 }
     ensures bytes { IfOk result (λ n. Takes S.remaining reader.old reader.new (take n buffer.new)) }
@@ -49,7 +51,7 @@ pub fn fill<S: Source>(reader: &mut S, buffer: &mut [u8]) -> Result<usize, Serve
     Ok(at)
 }
 
-/// The little-endian number of four bytes.
+/// The number whose four bytes, little-endian, are `bytes`. By this function `read_length` reads the length before a frame.
 fn number_in(bytes: &[u8]) -> u32
     requires { length bytes.now ≡ 4 }
     ensures { little_bytes 4 result ≡ bytes.now }
@@ -57,9 +59,11 @@ fn number_in(bytes: &[u8]) -> u32
     LittleEndian::read_u32(bytes)
 }
 
-/// Reads the length of a frame, a little-endian number of four bytes; `None` if the input ends before the first of them. `Truncated` if it
-/// ends after one to three of them, `Read` if a call of the reader failed. If the result is no error, no call failed (`sound`). If it is an
-/// error, the bytes that were read are no whole frame (`short`), and the error is why no more were read (`stop`).
+/// Reads the length of a frame, a little-endian number of four bytes, and takes only these bytes from the reader (`some`). `None` if the
+/// input is at its end, so that no byte is read (`none`). The error is `Truncated` if the input ends after one to three of the bytes, and
+/// `Read` if a call of the reader failed. If the result is no error, no call failed (`sound`). If it is an error, the bytes that were read
+/// are no whole frame (`short`), and the error is why no more were read: a call failed, or the input ended and no call failed (`stop`).
+/// `S.remaining` are the bytes that a reader has left, if they are known.
 fn read_length<S: Source>(reader: &mut S) -> Result<Option<u32>, ServeFaultKind>
     requires { S.failures reader.old < 2 ^ 64 - 1 }
     ensures some { IfOk result (λ found.
@@ -84,8 +88,10 @@ fn read_length<S: Source>(reader: &mut S) -> Result<Option<u32>, ServeFaultKind>
     Ok(Some(number_in(&bytes)))
 }
 
-/// Reads and discards `count` bytes, of a frame that is too long. Each read overwrites the front of `scratch`, which is not empty.
-/// `Truncated` if the input ends before all are read, `Read` if a call of the reader failed.
+/// Reads and discards `count` bytes: the rest of a frame that is too long, of which `read_long` keeps only the head. Each read overwrites
+/// the front of `scratch`, which is not empty. `Truncated` if the input ends before all are read, `Read` if a call of the reader failed. If
+/// the result is no error, `count` bytes were read (`bytes`), and no call failed (`sound`). If it is an error, fewer bytes were read
+/// (`short`), and the error is why no more were read (`stop`).
 fn skip<S: Source>(reader: &mut S, scratch: &mut [u8], count: usize) -> Result<(), ServeFaultKind>
     requires failures { S.failures reader.old < 2 ^ 64 - 1 }
     requires scratch { 0 < length scratch.old }
@@ -106,8 +112,10 @@ fn skip<S: Source>(reader: &mut S, scratch: &mut [u8], count: usize) -> Result<(
     Ok(())
 }
 
-/// Reads `count` bytes into the front of `buffer`, which has room for them. `Truncated` if the input ends before all are read, `Read` if a
-/// call of the reader failed.
+/// Reads `count` bytes into the front of `buffer`, which has room for them (`bytes`). `Truncated` if the input ends before all are read,
+/// which `fill` does not count as an error; `Read` if a call of the reader failed. If the result is no error, no call failed (`sound`). If
+/// it is an error, fewer than `count` bytes were read (`short`), and the error is why no more were read (`stop`): for `Truncated` the input
+/// is at its end, and no call failed; for `Read` a call failed.
 fn read_whole<S: Source>(
     reader: &mut S,
     buffer: &mut [u8],
@@ -129,9 +137,11 @@ fn read_whole<S: Source>(
     Ok(())
 }
 
-/// Reads a frame of `total` bytes, which is longer than `buffer`, and keeps only its head, in the first four bytes of `buffer`, since the
-/// reply depends only on the head. Later bytes of the frame overwrite the rest of the buffer. `Truncated` if the input ends before all are
-/// read, `Read` if a call of the reader failed.
+/// Reads a frame of `total` bytes, which is longer than `buffer` (`long`), and so longer than any valid frame. Only the frame's head, its
+/// first four bytes, is kept, at the front of `buffer` (`frame`), since the reply to such a frame depends only on the head. Later bytes of
+/// the frame overwrite the rest of `buffer`. `Truncated` if the input ends before all are read, `Read` if a call of the reader failed. If
+/// the result is no error, no call failed (`sound`). If it is an error, fewer than `total` bytes were read (`short`), and the error is why
+/// no more were read (`stop`).
 fn read_long<S: Source>(
     reader: &mut S,
     buffer: &mut [u8],
@@ -154,8 +164,10 @@ fn read_long<S: Source>(
 }
 
 /// Reads a frame of `total` bytes to the front of `buffer`, and returns how many bytes of the buffer are handled as the frame. These are
-/// the `total` bytes, if they fit. Of a longer frame only the head, four bytes, is kept; the result is then the buffer's length, which is
-/// too long for a valid frame. `Truncated` if the input ends before all are read, `Read` if a call of the reader failed.
+/// the `total` bytes, if they fit. Of a longer frame only the head, four bytes, is kept (`IsKeptFrontOf`); the result is then the buffer's
+/// length, which is too long for a valid frame. Without an error exactly the frame was read (`frame`), and no call failed (`sound`).
+/// `Truncated` if the input ends before all are read, `Read` if a call of the reader failed: `stop` says which of the two it was, and by
+/// `short` fewer than `total` bytes were read.
 fn read_body<S: Source>(
     reader: &mut S,
     buffer: &mut [u8],
@@ -182,10 +194,12 @@ fn read_body<S: Source>(
     }
 }
 
-/// Reads a length and then a frame of this length, and returns how many bytes at the front of `buffer` are handled as the frame. These are
-/// the frame's bytes, if they fit. Of a longer frame only the head, four bytes, is kept; then the result is the buffer's length, too long
-/// for a valid frame, and the bytes after the head may be any. `None` if the input ends before a frame. `Truncated` if it ends inside one,
-/// `Read` if a call of the reader failed.
+/// Reads the length of a frame, four bytes, and then the frame, and returns how many bytes at the front of `buffer` are handled as the
+/// frame (`kept`). A frame of at most `FRAME_BUFFER` bytes, the length of `buffer`, is kept whole. Of a longer one only the head is kept,
+/// four bytes; then `kept` is `FRAME_BUFFER`, too long for a valid frame, and the bytes after the head may be any (`IsKeptFrontOf`). `None`
+/// if the input ends before the length. `Truncated` if it ends inside the length or the frame, `Read` if a call of the reader failed.
+/// Without an error no call failed (`sound`). After an error, the bytes that were read are no whole frame (`short`), and the error is why
+/// no more were read (`stop`). By `failures` the number of failed calls fits in 64 bits.
 pub(crate) fn read_frame<S: Source>(
     reader: &mut S,
     buffer: &mut [u8],

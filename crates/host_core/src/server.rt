@@ -57,7 +57,8 @@ struct Buffers {
 }
 
 impl Buffers {
-    /// Allocates the buffer for a frame, `FRAME_BUFFER` bytes, all 0, and the buffer for a reply. `AllocError`: out of memory.
+    /// Allocates the two buffers that all frames of a stream use: for a frame `FRAME_BUFFER` zero bytes, one more than the longest valid
+    /// frame has, so that what is kept of a longer frame is too long as well; and the buffer for a reply. `AllocError`: out of memory.
     fn new(alloc: Global) -> Result<Buffers, AllocError> {
         Ok(Buffers {
             frame: vec![in alloc; 0; FRAME_BUFFER]?,
@@ -66,10 +67,12 @@ impl Buffers {
     }
 }
 
-/// Reads a frame, handles it, and writes and flushes its reply: true. False if the input ends before a frame. `Truncated` if it ends inside
-/// one, `Read` or `Write` if a call of the reader or the writer failed. A frame that is longer than the buffer is too long for any command,
-/// so its reply depends only on its head, the tenant and the command number. Instead the whole buffer is handled, which begins with
-/// this head and is too long for any command as well.
+/// Reads a frame, handles it, writes its reply and flushes, and returns true; or returns false, and changes nothing, if the input ends
+/// before a frame (`done`). It fails (`fault`) by `Truncated` if the input ends inside a frame, and by `Read` if a call of the reader
+/// failed: then no state has changed, and nothing was written. It fails by `Write` if a call of the writer failed: then the frame was
+/// handled, and a prefix of its reply written. A frame that is longer than the buffer is too long for any command, so its reply depends
+/// only on its head, the tenant and the command number. For such a frame the whole buffer is handled, which begins with the frame's head
+/// and is too long for any command as well.
 fn serve_frame<R: Source, W: Sink>(
     host: &mut Host,
     reader: &mut R,
@@ -93,8 +96,10 @@ fn serve_frame<R: Source, W: Sink>(
     Ok(true)
 }
 
-/// Whether the input is at its end, after the last frame that the limit allows. If not, one more byte of it is read and lost. `Read` if a
-/// call of the reader failed.
+/// Whether no byte of the input is left. `serve` asks this after as many frames as its `limit` allows: any byte after them is the fault
+/// `TooManyFrames`. `end`: if true, no byte was taken, and none is left. `more`: if false, one more byte was taken, and is lost. `sound`:
+/// in both cases no call of the reader failed. The error is `Read` (`kind`): a call of the reader failed, and no byte was taken (`failed`).
+/// If the reader's bytes are not known (`remaining` is `None`), the clauses claim nothing about bytes.
 fn is_at_end<R: Source>(reader: &mut R) -> Result<bool, ServeFaultKind>
     requires { R.failures reader.old < 2 ^ 64 - 1 }
     ensures end { IfOk result (λ end. end ≡ true → Takes R.remaining reader.old reader.new []
@@ -111,15 +116,17 @@ fn is_at_end<R: Source>(reader: &mut R) -> Result<bool, ServeFaultKind>
     Ok(count == 0)
 }
 
-/// Serves a stream: reads a frame, handles it, writes and flushes its reply, and so on until the input ends or `limit` frames
-/// got replies. Returns the number of these frames. `limit` is at most `MOST_FRAMES`. Fewer than 2^64 - 1 calls of the reader, and of the
-/// writer, have failed before.
+/// Serves a stream to the tenants of `host`: reads a frame, handles it, writes and flushes its reply, and so on until the input ends or
+/// `limit` frames, at most `MOST_FRAMES`, got replies. Returns the number of these frames. Fewer than 2^64 - 1 calls of the reader, and of
+/// the writer, have failed before: they are counted in 64 bits. `ServesStream` is about the states of the stream before and after the call:
+/// which frames were read, which bytes were written, and, unless a call of the writer failed, that each tenant to which no memory was
+/// refused got the replies of its own machine.
 ///
 /// # Errors
 ///
-/// `Read` or `Write` if a call of the reader or the writer failed; `Truncated` if the input ends inside a frame;
-/// `TooManyFrames` if another byte, which is read, follows the last frame allowed; `Memory` if out of memory for the
-/// buffers, before anything is read.
+/// `frames` of the `ServeFault` counts the replies that were written whole and flushed. `kind`: `Read` or `Write` if a call of the reader
+/// or the writer failed; `Truncated` if the input ends inside a frame; `TooManyFrames` if another byte, which is read, follows the last
+/// frame allowed; `Memory` if out of memory for the buffers, before anything is read.
 pub fn serve<R: Source, W: Sink>(
     alloc: Global,
     host: &mut Host,
@@ -163,11 +170,13 @@ pub fn serve<R: Source, W: Sink>(
 }
 
 /// Serves a stream, as `serve` does, on a new host for 1 to `MOST_TENANTS` tenants, and frees the host: until the input ends or `limit`
-/// frames got replies. Returns the number of these frames. The keys of the host's hash maps are hashed with `seed`.
+/// frames, at most `MOST_FRAMES`, got replies. Returns the number of these frames. The keys of the host's hash maps are hashed with `seed`.
+/// The contract is that of `serve`, from the states of new tenants to some `states`, since the host is freed.
 ///
 /// # Errors
 ///
-/// Those of `serve`; `Memory` also if out of memory for the host. After `Memory`, nothing was read or written.
+/// `Read` or `Write` if a call of the reader or writer failed, `Truncated` if the input ends in a frame, `TooManyFrames` if another byte,
+/// which is read, follows the last frame allowed, `Memory` if out of memory for host or buffers: then nothing was read or written.
 pub fn serve_new_host<R: Source, W: Sink>(
     alloc: Global,
     tenants: usize,

@@ -17,8 +17,10 @@ pub trait Source {
     // How many calls failed so far.
     ghost failures: { Self → ℕ };
 
-    /// Reads bytes into the front of `buffer` and returns how many; 0 only at the end of the input, or if `buffer` is empty. A call that
-    /// fails takes no bytes.
+    /// Reads bytes into the front of `buffer` and returns how many, at most its length (`bound`). It returns 0 only at the end of the
+    /// input, or if `buffer` is empty. A call that returns an error takes no bytes, and adds 1 to the failed calls (`failures`). If the
+    /// bytes that are still to be read are known, the bytes read were the first of them (`bytes`). Fewer than 2^64 - 1 calls have failed
+    /// before, so the count fits in 64 bits.
     fn read(&mut self, buffer: &mut [u8]) -> io::Result<usize>
         requires { failures self.old < 2 ^ 64 - 1 }
         ensures bound { ReadsAtMost result buffer.new }
@@ -38,8 +40,9 @@ pub trait Sink {
     // How many calls failed so far.
     ghost failures: { Self → ℕ };
 
-    /// Writes bytes from the front of `bytes`, and returns how many. If that is 0 although `bytes` is not empty, the call counts as failed.
-    /// A call that returns an error writes none.
+    /// Writes bytes from the front of `bytes`, and returns how many, at most all (`bound`). `contents`, if known, grows by these bytes; a
+    /// call that returns an error writes none (`bytes`). The call counts as failed if it returns an error, or 0 although `bytes` is not
+    /// empty (`failures`). Fewer than 2^64 - 1 calls have failed before, so that `Counted` can count them in 64 bits.
     fn write(&mut self, bytes: &[u8]) -> io::Result<usize>
         requires { failures self.old < 2 ^ 64 - 1 }
         ensures bound { WritesAtMost result bytes.now }
@@ -47,7 +50,9 @@ pub trait Sink {
         ensures failures { failures self.new
             ≡ failures self.old + write_failures result bytes.now };
 
-    /// Flushes what was written; no bytes are added. If the call fails, contracts do not say whether everything is flushed.
+    /// Flushes what was written; no bytes are added (`bytes`). If the call succeeds, everything is flushed (`flushed`). If it fails,
+    /// contracts do not say whether everything is flushed, and the number of failed calls increases by 1 (`failures`). So that this number
+    /// fits in 64 bits, it is required to be below 2^64 - 1 before.
     fn flush(&mut self) -> io::Result<()>
         requires { failures self.old < 2 ^ 64 - 1 }
         ensures bytes { Keeps (contents self.old) (contents self.new) }
@@ -65,7 +70,8 @@ pub struct Counted<T> {
 }
 
 impl<T> Counted<T> {
-    /// Wraps `inner`. No call has failed yet, and what was written to a writer before counts as flushed.
+    /// Wraps `inner`, a reader or a writer of std. The count of failed calls begins at 0 (`failures`). What was written to a writer before
+    /// counts as flushed (`flushed`), but nothing is flushed here.
     pub fn new(inner: T) -> Counted<T>
         ensures inner { result.inner ≡ inner }
         ensures failures { result.failures ≡ 0 }
@@ -78,14 +84,15 @@ impl<T> Counted<T> {
         }
     }
 
-    /// How many calls of the reader or the writer failed since `new`. A write that takes no byte, although it is given some, counts too.
+    /// How many calls of the reader or the writer failed since `new` wrapped it: each read, write or flush that returned an error, and each
+    /// write that took no byte although it was given some. The tests with failing readers and writers (`failing_io`) compare this number.
     pub fn failures(&self) -> u64
         ensures { result ≡ self.now.failures }
     {
         self.failures
     }
 
-    /// Returns the reader or the writer.
+    /// Returns the wrapped reader or writer; the count of failed calls is lost. The tests call it to see what was written.
     pub fn into_inner(self) -> T
         ensures { result ≡ self.inner }
     {
@@ -103,8 +110,8 @@ impl<R: Read> Source for Counted<R> {
 
     ghost failures = { λ c. c.failures };
 
-    /// Reads bytes from the wrapped reader of std into the front of `buffer`, and returns the outcome: how many, or an error. An error adds
-    /// 1 to `failures`.
+    /// Reads bytes from the wrapped reader of std into the front of `buffer`. Returns how many, or the reader's error, which adds 1 to
+    /// `failures`. The sum does not overflow, since the trait `Source` requires that fewer than 2^64 - 1 calls have failed before.
     fn read(&mut self, buffer: &mut [u8]) -> io::Result<usize> {
         let outcome = self.inner.read(buffer);
         if outcome.is_err() {

@@ -6,11 +6,13 @@ ghost use Rattle.std.specs.Io.KnownBytes.{Appends};
 use crate::server::ServeFaultKind;
 use crate::stream::Sink;
 
-/// Writes all of `bytes`, each byte once, and flushes. Fewer than 2^64 - 1 calls of the writer have failed before.
+/// Writes all of `bytes`, each byte once (`whole`), and flushes (`flushed`). No call of the writer has failed then: `S.failures`, the
+/// number of its failed calls, is unchanged (`sound`). Before it is below 2^64 - 1, so that one more fits in the 64 bits of `Counted`.
 ///
 /// # Errors
 ///
-/// `Write` if a call of the writer failed, or took no byte although some were left. What was written until then is a prefix of `bytes`.
+/// `Write`, and no other (`kind`): a write or the flush failed, or a write took no byte although some were left, which counts as failed.
+/// `S.failures` is higher than before (`failed`), and what was written until then is a prefix of `bytes` (`part`).
 pub fn write_whole<S: Sink>(writer: &mut S, bytes: &[u8]) -> Result<(), ServeFaultKind>
     requires { S.failures writer.old < 2 ^ 64 - 1 }
     ensures whole { OnOk result

@@ -27,7 +27,9 @@ use insn_set::{
 use words::{AluOp, ByteOrder, Condition, ExtendedBits, KeptBits};
 
 /// Checks the fields of a first slot. The caller has computed `is_listed`: whether each field has a value that the form of the opcode
-/// allows. The fault is `Reserved` if not, else `Register` if the destination or the source register is above 10.
+/// allows (`fields_allowed`). `Ok` if this is true (`listed`) and both register numbers are at most 10 (`dst`, `src`). The fault is
+/// `Reserved` if `is_listed` is false, else `Register`. The form is no parameter, so `fault` is about each form `f` for which `is_listed`
+/// is right: a first slot of form `f` with these fields has this fault, whatever bytes follow the slot (`IsFaultOf`).
 #[inline(always)]
 #[tactic(auto, unfolding(crate::specs::inside::FirstFault::fault_in_form))]
 pub(crate) fn check_fields(is_listed: bool, slot: &RawSlot) -> Result<(), FaultKind>
@@ -46,10 +48,12 @@ pub(crate) fn check_fields(is_listed: bool, slot: &RawSlot) -> Result<(), FaultK
     Ok(())
 }
 
-/// Reads an operation on two operands, of 64 bits (`wide`) or 32, into `entry`. The result is `None`: no second slot is read. `op` is the
-/// operator that the opcode has at offset 0. Another offset makes a division or a remainder signed; of a move it is the number of bits from
-/// which the sign is extended, 8, 16 or 32: `check_fields` rejects any other, so `_` is 32. `source` says which field has the second
-/// operand. `Reserved` if a field has a value that the form of the opcode does not allow, else `Register` if a register is above 10.
+/// Reads an operation on two operands, of 64 bits (`wide`) or 32, into `entry`, which then is the instruction that the slot spells
+/// (`slots`), with its numbers in range (`value`). No second slot is read: the result is `None`. `op` is the operator that the opcode has
+/// at offset 0, never a signed division or remainder (`form`); `source` says which field has the second operand. Offset 1 makes a division
+/// or a remainder signed. Offset 8, 16 or, if `wide`, 32 of a move of a register is the number of bits from which the sign is extended:
+/// `check_fields` rejects any other, so `_` is 32. The fault is `Reserved` if a field has a value that the form of the opcode does not
+/// allow, else `Register` if a register is above 10.
 #[inline(always)]
 fn read_operation(
     wide: bool,
@@ -99,8 +103,9 @@ fn read_operation(
     Ok(None)
 }
 
-/// Reads a negation, of 64 bits (`wide`) or 32, into `entry`; it has no second slot (`None`). The operand is the destination register; the
-/// source, the offset and the immediate have to be 0. The faults are those of `check_fields`: `Reserved`, `Register`.
+/// Reads a negation, of 64 bits (`wide`) or 32, into `entry`. The result is `None` (`none`): a negation has no second slot. The operand is
+/// the destination register. The fault is `Reserved` if the source, the offset or the immediate is not 0, else `Register` if the
+/// destination is above 10. `value`, `slots`: the numbers of the instruction in `entry` are in their ranges, and `slot` is its only slot.
 #[inline(always)]
 fn read_negation(wide: bool, entry: &mut Insn, slot: &RawSlot) -> Result<Option<RawSlot>, FaultKind>
     requires opcode { slot.now.opcode ≡ opcode_of (form.Neg wide) }
@@ -118,9 +123,10 @@ fn read_negation(wide: bool, entry: &mut Insn, slot: &RawSlot) -> Result<Option<
     Ok(None)
 }
 
-/// Reads a byte-order conversion into `entry`; it has no second slot (`None`). `how` is to little endian, to big endian, or a swap of the
-/// bytes. The immediate is the number of bits that it keeps, 16, 32 or 64: `check_fields` lets no other pass, so `_` is 64. The faults are
-/// those of that call: `Reserved`, `Register`.
+/// Reads a byte-order conversion into `entry`: its register is 0 to 10 (`value`), and `slot` is all that spells it (`slots`). So it has no
+/// second slot, and the result is `None`. `how` is to little endian, to big endian, or a swap of the bytes. The immediate is the number of
+/// bits that the conversion keeps, 16, 32 or 64: `check_fields` rejects any other, so `_` is 64. The fault is `Reserved` if the immediate
+/// is another number, or the source or the offset is not 0; else `Register` if the destination is above 10.
 #[inline(always)]
 fn read_byte_order(
     how: ByteOrder,
@@ -149,10 +155,12 @@ fn read_byte_order(
     Ok(None)
 }
 
-/// Reads a negation (code 8, the upper four bits of the opcode) or a byte-order conversion (code 13) into `entry`; neither has a second
-/// slot (`None`). `wide` is true of class ALU64, false of ALU. No operator of two operands has the opcode's code (precondition `code`). So
-/// an opcode without an arm here is no instruction's, and the fault is `Opcode`; the other faults are those of `check_fields`: `Reserved`,
-/// `Register`.
+/// Reads a negation (code 8, the upper four bits of the opcode) or a byte-order conversion (code 13) into `entry`. `wide` is true of class
+/// ALU64, false of ALU (`class`). No operator of two operands has the opcode's code (`code`), as `read_alu` has tested. So an opcode
+/// without an arm here is no instruction's, and the fault is `Opcode`. Other faults are `Reserved` if a field has a value that the
+/// instruction does not allow, and `Register` if a register is above 10. `value`: the numbers of the instruction fit its fields. `slots`:
+/// its spelling is this slot only, so the second slot is `None` (`none`). `fault`: the fault is that of the form of the opcode (`alu_at`),
+/// whatever bytes follow the slot.
 fn read_one_operand(
     wide: bool,
     entry: &mut Insn,
@@ -175,9 +183,11 @@ fn read_one_operand(
     }
 }
 
-/// Reads an instruction of class ALU64 (`wide`) or ALU into `entry` (RFC 9669, sections 4.1 and 4.2); it has no second slot (`None`). The
-/// faults are `Opcode`, `Reserved` and `Register`. Each source bit has an arm of its own, so that the inlined `read_operation` has it as a
-/// constant.
+/// Reads an instruction of class ALU64 (`wide`) or ALU from `slot` into `entry` (RFC 9669, sections 4.1 and 4.2). The slot spells it
+/// (`slots`), and its numbers fit their fields (`value`). It has no second slot, so the result is `None` (`none`). The fault is `Opcode` if
+/// no instruction has this opcode, else `Reserved` if a field has a value that the form of the opcode (`alu_at`) does not allow, else
+/// `Register` if a register is above 10. Each source bit has an arm of its own, so that the inlined `read_operation` has it as a constant.
+/// `read_one_operand` reads negations and byte-order conversions.
 #[inline(always)]
 pub(crate) fn read_alu(
     wide: bool,
@@ -198,8 +208,10 @@ pub(crate) fn read_alu(
     }
 }
 
-/// Reads a conditional jump into `entry`; it has no second slot (`None`). It compares 64 bits (`wide`) or 32, and `source` says which field
-/// has the second operand of the comparison. The faults are those of `check_fields`: `Reserved`, `Register`.
+/// Reads a conditional jump on the condition `cond`, of 64 bits (`wide`) or 32, into `entry`. It has no second slot (`None`), so `slot` is
+/// the whole instruction, which `entry` then is (`value`, `slots`). `source` says which field has the second operand of the comparison, the
+/// source register or the immediate. The faults are those of `check_fields`: `Reserved` if the other of these two fields is not 0, else
+/// `Register` if a register is above 10.
 #[inline(always)]
 fn read_branch(
     wide: bool,
@@ -225,8 +237,10 @@ fn read_branch(
     Ok(None)
 }
 
-/// Reads an unconditional jump of class JMP into `entry`; it has no second slot (`None`). Its distance is the offset field; the registers
-/// and the immediate have to be 0, else the fault is `Reserved`.
+/// Reads an unconditional jump of class JMP (`Ja`) into `entry`; the slot has its opcode (`opcode`). Its distance, in slots from the next
+/// instruction, is the offset field. By `value` the distance fits this field, and by `slots` the slot is the spelling of the jump. It has
+/// no second slot, so the result is `None`. The registers and the immediate have to be 0, else the fault is `Reserved`, whatever bytes
+/// follow the slot (`fault`).
 fn read_goto(entry: &mut Insn, slot: &RawSlot) -> Result<Option<RawSlot>, FaultKind>
     requires opcode { slot.now.opcode ≡ opcode_of form.Ja }
     ensures value { OnOk result (IsInsn entry.new) }
@@ -241,8 +255,10 @@ fn read_goto(entry: &mut Insn, slot: &RawSlot) -> Result<Option<RawSlot>, FaultK
     Ok(None)
 }
 
-/// Reads an unconditional jump of class JMP32 into `entry`; it has no second slot (`None`). Its distance is the immediate; the registers
-/// and the offset have to be 0, else the fault is `Reserved`.
+/// Reads an unconditional jump of class JMP32 (`gotol` in a text) into `entry`. Its distance in slots is the immediate, a signed number of
+/// 32 bits; that of `read_goto` is the offset field, of 16 bits. The registers and the offset have to be 0, else the fault is `Reserved`,
+/// whatever follows the slot (`fault`). The instruction is spelled by this slot (`slots`), with numbers in their ranges (`value`); it has
+/// no second slot (`None`, by `none`).
 fn read_goto_far(entry: &mut Insn, slot: &RawSlot) -> Result<Option<RawSlot>, FaultKind>
     requires opcode { slot.now.opcode ≡ opcode_of form.Jal }
     ensures value { OnOk result (IsInsn entry.new) }
@@ -257,8 +273,9 @@ fn read_goto_far(entry: &mut Insn, slot: &RawSlot) -> Result<Option<RawSlot>, Fa
     Ok(None)
 }
 
-/// Reads a call of a helper into `entry`; it has no second slot (`None`). The immediate is the helper's number; the registers and the
-/// offset have to be 0, else the fault is `Reserved`.
+/// Reads a call of a helper (opcode 0x85) into `entry`; it has no second slot (`None`). The immediate is the helper's number, which may be
+/// any: whether there is such a helper is not tested here. The registers and the offset have to be 0, else the fault is `Reserved`, the
+/// only one. After success `entry` is an instruction whose numbers are in their ranges (`value`), and this slot spells it (`slots`).
 fn read_call(entry: &mut Insn, slot: &RawSlot) -> Result<Option<RawSlot>, FaultKind>
     requires opcode { slot.now.opcode ≡ opcode_of form.Call }
     ensures value { OnOk result (IsInsn entry.new) }
@@ -290,9 +307,9 @@ fn read_exit(entry: &mut Insn, slot: &RawSlot) -> Result<Option<RawSlot>, FaultK
 }
 
 /// Reads an unconditional jump (code 0, the upper four bits of the opcode), a call (code 8) or the exit (code 9) into `entry`. None of them
-/// has a second slot, so the result is `None`. Class JMP (`wide`) has all three, JMP32 (not `wide`) only the jump. The fault is `Opcode`
-/// for another code, and for the source bit 1: no conditional jump has the slot's code (precondition `code`). Else the fault is `Reserved`
-/// if a field that the instruction does not use is not 0.
+/// has a second slot, so the result is `None`. Class JMP (`wide`) has all three, JMP32 (not `wide`) only the jump. No conditional jump has
+/// the slot's code (`code`): only then does `read_jump` call this function. The fault is `Opcode` for a code that the class does not have,
+/// and for every code if the source bit is 1. Else the fault is `Reserved` if a field that the instruction does not use is not 0.
 fn read_unconditional(
     wide: bool,
     entry: &mut Insn,
@@ -315,9 +332,11 @@ fn read_unconditional(
     }
 }
 
-/// Reads an instruction of class JMP (`wide`) or JMP32 into `entry` (RFC 9669, section 4.3); it has no second slot (`None`). The fault is
-/// `Opcode` if no instruction has the opcode, else `Reserved` if a field that the instruction does not use is not 0, else `Register` if a
-/// register is above 10. Each source bit has an arm of its own, so that the inlined `read_branch` has it as a constant.
+/// Reads an instruction of class JMP (`wide`) or JMP32 into `entry` (RFC 9669, section 4.3); it has no second slot (`None`, by `none`). The
+/// caller has found the class in the opcode (`class`). Without a fault the registers of `entry` are 0 to 10 and its numbers fit their
+/// fields (`value`), and `slot` is its spelling (`slots`). The fault is `Opcode` if no instruction has the opcode, else `Reserved` if a
+/// field that the instruction does not use is not 0, else `Register` if a register is above 10. Each source bit has an arm of its own, so
+/// that the inlined `read_branch` has it as a constant.
 #[inline(always)]
 pub(crate) fn read_jump(
     wide: bool,
@@ -341,8 +360,10 @@ pub(crate) fn read_jump(
     }
 }
 
-/// Reads a load, of class LDX, into `entry` (RFC 9669, sections 5.1 and 5.2). The result is `None`, since a load has no second slot. The
-/// fault is `Opcode` if no load has the opcode, else that of `check_fields`: `Reserved` or `Register`.
+/// Reads a load, of class LDX, into `entry` (RFC 9669, sections 5.1 and 5.2). If `Ok`, the numbers of the load fit their fields (`value`),
+/// it is spelled by `slot` (`slots`), and the result is `None`, since a load has no second slot (`none`). The fault is the first that
+/// applies, whatever follows the slot (`fault`): `Opcode` if no load has the opcode, `Reserved` if the immediate is not 0, `Register` if a
+/// register is above 10.
 #[inline(always)]
 pub(crate) fn read_load(entry: &mut Insn, slot: &RawSlot) -> Result<Option<RawSlot>, FaultKind>
     ensures value { OnOk result (IsInsn entry.new) }
@@ -364,9 +385,11 @@ pub(crate) fn read_load(entry: &mut Insn, slot: &RawSlot) -> Result<Option<RawSl
     Ok(None)
 }
 
-/// Reads a store of a constant (class ST, `SourceBit::Imm`) or of a register (class STX) into `entry` (RFC 9669, section 5.1); it has no
-/// second slot (`None`). The mode, the upper three bits of the opcode, has to be MEM, which is 3, else the fault is `Opcode`. The other
-/// faults are those of `check_fields`: `Reserved`, `Register`.
+/// Reads a store of a constant (class ST, `source` is `Imm`) or of a register (class STX, `Reg`) into `entry` (RFC 9669, section 5.1). The
+/// result is `None` (`none`): a store has no second slot. `class`: the low three bits of the opcode are 2 for ST and 3 for STX. `value`,
+/// `slots`: the numbers of the instruction in `entry` are in their ranges, and `slot` is its only slot. `fault`: the error is the first
+/// that applies: `Opcode` if the mode, the upper three bits of the opcode, is not MEM, which is 3; `Reserved` if the field that is not
+/// used, the source register with `Imm` and the immediate with `Reg`, is not 0; `Register` if a register is above 10.
 #[inline(always)]
 pub(crate) fn read_store(
     source: SourceBit,
@@ -392,9 +415,10 @@ pub(crate) fn read_store(
     Ok(None)
 }
 
-/// Reads an atomic operation into `entry` (RFC 9669, section 5.3). Returns `None`, since the operation has no second slot. The immediate
-/// selects the operation; if it selects none, `check_fields` has returned `Reserved` before `op` is taken. The faults are those of
-/// `check_fields`: `Reserved`, `Register`.
+/// Reads an atomic operation on four or eight bytes (`size`) into `entry` (RFC 9669, section 5.3). Returns `None`, since the operation has
+/// no second slot. The immediate selects the operation, one without FETCH: `Add` (0x00), `Or` (0x40), `And` (0x50) or `Xor` (0xa0). The
+/// fault is `Reserved` if it is another number, which `check_fields` rejects before `op` is taken, else `Register` if a register is above
+/// 10. After success `entry` is an instruction whose numbers are in their ranges (`value`), and this slot spells it (`slots`).
 fn read_atomic(
     size: AtomicSize,
     entry: &mut Insn,
@@ -421,8 +445,10 @@ fn read_atomic(
     Ok(None)
 }
 
-/// Reads an instruction of class STX into `entry`: an atomic operation on four bytes (opcode 0xc3) or eight (0xdb), or else a store of a
-/// register. It has no second slot (`None`). The faults are those of `read_atomic` and `read_store`.
+/// Reads an instruction of class STX (`class`) into `entry` (RFC 9669, sections 5.1 and 5.3): an atomic operation on four bytes (opcode
+/// 0xc3) or eight (0xdb), else a store of a register. It has one slot, so the result is `None` (`slots`, `none`). The fault is the first of
+/// these: `Opcode` for any other opcode whose mode, the upper three bits, is not MEM (3); `Reserved` if the immediate selects no atomic
+/// operation or, in a store, is not 0; `Register` if the destination or the source register is above 10.
 #[inline(always)]
 pub(crate) fn read_register_store(
     entry: &mut Insn,

@@ -50,7 +50,8 @@ impl From<AllocError> for CodecFault {
 
     ghost from_gives = { λ _ e. e ≡ memory_fault };
 
-    /// Out of memory, which is reported at slot 0.
+    /// Converts a refusal of memory to a fault of the codec, for the operator `?`: `Memory` at slot 0, as it is no fault of a slot. By
+    /// `from_gives` the contracts of functions that use `?` know this fault.
     fn from(_e: AllocError) -> CodecFault {
         CodecFault {
             slot: 0,
@@ -64,7 +65,8 @@ impl<T: Drop> From<AllocFailed<T>> for CodecFault {
 
     ghost from_gives = { λ _ e. e ≡ memory_fault };
 
-    /// Out of memory, which is reported at slot 0.
+    /// The fault if memory is refused for a value of type `T`, as by `push` of a `Vec`: `Memory`, at slot 0, since no slot is at fault
+    /// (`from_gives`). The error also has that value, which is dropped.
     fn from(_e: AllocFailed<T>) -> CodecFault {
         CodecFault {
             slot: 0,

@@ -9,7 +9,7 @@ use crate::{
 };
 use std::alloc::Global;
 
-/// A wide load of a number into register 2.
+/// A wide load of the number `value` into register 2, an example of an instruction with two slots.
 fn wide(value: u64) -> Insn
     ensures { result ≡ Insn.Const 2 value }
 {
@@ -24,8 +24,8 @@ fn kinds_of_faults() {
     prove!(last == 8);
 }
 
-/// `encode` spells the exit in 8 bytes, and leaves the byte after them unchanged. It spells a wide load of 0xffff_ffff_0000_0007 in 16: the
-/// low half of the number begins at byte 4, and the high half ends at byte 15.
+/// `encode` spells the exit in 8 bytes, and leaves the byte after them unchanged. It spells a wide load of 0xffff_ffff_0000_0007 in 16
+/// bytes: the low half of the number begins at byte 4, and the high half ends at byte 15.
 #[tactic(auto, unfolding(insn_set::specs::Spelling::spelling))]
 fn written_instructions() {
     let mut out = [0x55; 16];
@@ -39,14 +39,15 @@ fn written_instructions() {
     prove!(out[15] == 0xff);
 }
 
-/// The bytes of an exit are decoded as the exit, of one slot.
+/// `decode` reads the eight bytes of an exit, opcode 0x95 and seven zeros, as the exit, an instruction of one slot.
 fn exit_is_decoded() {
     let found = decode(&[0x95, 0, 0, 0, 0, 0, 0, 0]);
     let is_exit = found == Ok((Insn::Exit, 1));
     prove!(is_exit);
 }
 
-/// The kind of the fault at the front of the bytes, by the contract of `decode`; `None` if they begin with an instruction.
+/// The kind of the fault for which `decode` rejects the bytes; `None` if they begin with an instruction. By the contract, if the bytes have
+/// a fault at the front (`HasFault`), the result is its kind: so `kinds_at_front` can prove the kinds of three faults.
 fn kind_at_front(bytes: &[u8]) -> Option<FaultKind>
     ensures { (kind : AnyKind) → HasFault bytes.now kind → result ≡ Some kind }
 {
@@ -56,8 +57,8 @@ fn kind_at_front(bytes: &[u8]) -> Option<FaultKind>
     }
 }
 
-/// The fault of an exit with an immediate is `Reserved`, that of a move to register 11 `Register`, and that of the first half of a wide
-/// load `SecondSlot`.
+/// The fault of an exit with an immediate other than 0 is `Reserved`, that of a move to register 11 is `Register`, and that of the first
+/// slot of a wide load with no slot after it is `SecondSlot`.
 fn kinds_at_front() {
     let number_in_exit = kind_at_front(&[0x95, 0, 0, 0, 1, 0, 0, 0]);
     let is_reserved = number_in_exit == Some(FaultKind::Reserved);
@@ -70,8 +71,8 @@ fn kinds_at_front() {
     prove!(is_second_slot);
 }
 
-/// In a program of a wide load and an exit, instructions begin at slots 0 and 2, and none at slot 1 or past the end. It fails only if
-/// memory is refused.
+/// In a program of a wide load and an exit, instructions begin at slots 0 and 2, and none at slot 1 or at 3, the end (`is_first`). `get`
+/// returns none for slot 1 and one for slot 2. It fails only if memory is refused.
 #[tactic(auto, unfolding(insn_set::specs::Program::begins_at))]
 fn first_slots_of_a_program(alloc: Global) -> Result<(), CodecFault> {
     let program = Program::new(alloc, &[wide(7), Insn::Exit])?;
@@ -86,8 +87,9 @@ fn first_slots_of_a_program(alloc: Global) -> Result<(), CodecFault> {
     Ok(())
 }
 
-/// A wide load in `run_slots`: its first slot has the register and the low half of the number, its second the high half. It fails only if
-/// memory is refused.
+/// The `run_slots` of a program of two instructions, a wide load of 0x7_0000_0009 into register 2 and the exit, are three slots. The first
+/// one has the register and the low half of the number, 9, and the second one the high half, 7. The function fails only if memory is
+/// refused.
 fn spelled_program(alloc: Global) -> Result<(), CodecFault> {
     let program = Program::new(alloc, &[wide(0x7_0000_0009), Insn::Exit])?;
     let run_slots = program.run_slots();
@@ -106,8 +108,8 @@ fn read_program_of_an_exit(alloc: Global) -> Result<(), CodecFault> {
     Ok(())
 }
 
-/// The spelling of a program of a wide load and an exit has 24 bytes, and byte 16 is the opcode of the exit. This function fails only if
-/// memory is refused.
+/// Proves from the contract of `write_program` that the spelling of a program of a wide load and an exit has 24 bytes, and that byte 16,
+/// counted from 0, is the opcode of the exit, 0x95. Nothing calls this function; if it ran, it would fail only if memory is refused.
 #[tactic(auto, unfolding(insn_set::specs::Spelling::spelling))]
 fn written_program(alloc: Global) -> Result<(), CodecFault> {
     let program = Program::new(alloc, &[wide(7), Insn::Exit])?;

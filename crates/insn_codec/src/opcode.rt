@@ -23,7 +23,8 @@ impl SourceBit {
     ghost use Rattle.insn_codec.specs.Spelled.{source_number};
     ghost use Rattle.insn_set.specs.Spelling.{source_bit, src_field, imm_field, IsOperand};
 
-    /// The source bit of an opcode of arithmetic or of a jump.
+    /// The source bit of an opcode of arithmetic or of a jump (RFC 9669, section 4): `Imm` if bit 3 of the opcode, counted from 0, is 0,
+    /// else `Reg`. In a load or a store bit 3 is part of the size (section 5), and no caller gives such an opcode.
     pub(crate) fn of(opcode: u8) -> SourceBit
         ensures { result ≡ source_at opcode }
     {
@@ -34,7 +35,8 @@ impl SourceBit {
         }
     }
 
-    /// Whether the operand field that is not used is zero: the source register if this is `Imm`, the immediate if it is `Reg`.
+    /// Whether the operand field that is not used is zero (RFC 9669, section 4): the source register if this is `Imm`, the immediate if it
+    /// is `Reg`. If it is not zero, the readers of `by_class.rt` reject the slot as `Reserved`.
     pub(crate) fn unused_field_is_zero(self, slot: &RawSlot) -> bool
         ensures { result ≡ one_operand self (fields slot.now) }
     {
@@ -44,8 +46,10 @@ impl SourceBit {
         }
     }
 
-    /// The second operand of a slot: its immediate, or `src`, the register of its source field. The caller has tested that the other of the
-    /// two fields is zero, and that the register's number is at most 10.
+    /// The second operand of a slot that is decoded: its immediate if this is `Imm`; if it is `Reg`, `src`, the register of its source
+    /// field. Callers have tested that the field that is not used is zero (`listed`), so the operand determines the source bit and both
+    /// fields (`source`, `src`, `imm`). They have also tested that the register's number is at most 10 (`bound`): by `value` (`IsOperand`)
+    /// the operand is one that an instruction can have.
     pub(crate) fn operand(self, slot: &RawSlot, src: Reg) -> Operand
         requires listed { IsTrue (one_operand self (fields slot.now)) }
         requires src { (fields slot.now).src ≡ src }
@@ -63,17 +67,19 @@ impl SourceBit {
 }
 
 /// Whether an operation of 64 bits (`wide`) or 32, with the opcode of `op` and this source bit, may have this value in its offset field
-/// (RFC 9669, section 4.1): 0, or one that `allows_other_offset` allows. For an opcode of two operators, an unsigned and a signed division
-/// or remainder, `op` is the unsigned one.
+/// (RFC 9669, section 4.1). 0 is always allowed. 1 is allowed for a division or a remainder, and makes it signed. 8, 16 and, if `wide`, 32
+/// are allowed for a move of a register, and are the bits from which it extends the sign. For an opcode of two operators, an unsigned and a
+/// signed division or remainder, `op` is the unsigned one.
 pub(crate) fn allows_offset(op: AluOp, wide: bool, source: SourceBit, offset: u16) -> bool
     ensures { result ≡ offset_listed wide op source offset }
 {
     offset == 0 || allows_other_offset(op, wide, source, offset)
 }
 
-/// Whether an operation of 64 bits (`wide`) or 32 with the opcode of `op` may have this offset, which is not 0: 1 is for a signed division
-/// or remainder, and 8, 16 or, if `wide`, 32 are the bits from which a move of a register extends the sign. Other operators have only
-/// offset 0.
+/// Whether an operation of 64 bits (`wide`) or 32, with the opcode of `op` and this source bit, may have this value, which is not 0, in its
+/// offset field. With `Div` or `Mod` only 1 is allowed: then the division or remainder is signed. With `Mov` of a register (`source` is
+/// `Reg`), 8, 16 and, if `wide`, 32 are allowed: the number of bits from which the move extends the sign. All other operations, also a move
+/// of an immediate, have only offset 0, so the result is `false`.
 fn allows_other_offset(op: AluOp, wide: bool, source: SourceBit, offset: u16) -> bool
     requires { offset ≢ 0 }
     ensures { result ≡ offset_listed wide op source offset }
@@ -85,8 +91,10 @@ fn allows_other_offset(op: AluOp, wide: bool, source: SourceBit, offset: u16) ->
     }
 }
 
-/// The signed operator that shares the opcode of `op`, and is selected by offset 1. By the precondition the opcode allows offset 1, so `op`
-/// is `Div` or `Mod`.
+/// The signed operator that shares the opcode of `op`, and is selected by 1 in the offset field: `SignedMod` for `Mod`, `SignedDiv` for
+/// `Div`. By the precondition the opcode of `op` allows offset 1, so `op` is one of these two, and `_` is `Div`. The width and the source
+/// in the precondition (`false`: 32 bits; `Imm`) make no difference for offset 1. `number`: the result has the code of `op`, the opcode's
+/// upper four bits.
 pub(crate) fn signed_operator(op: AluOp) -> AluOp
     requires { IsTrue (offset_listed false op source_variant.Imm 1) }
     ensures number { alu_number result ≡ alu_number op }
@@ -98,7 +106,8 @@ pub(crate) fn signed_operator(op: AluOp) -> AluOp
     }
 }
 
-/// The size with this code, which is below 4 (RFC 9669, section 5).
+/// The access size with this code, two bits of an opcode and so below 4: 0 is a word (4 bytes), 1 a half word (2), 2 a byte, 3 a double
+/// word (8) (RFC 9669, section 5). `number`: an instruction with this size is spelled with this code.
 pub(crate) fn size_at(code: u8) -> AccessSize
     requires { code < 4 }
     ensures value { result ≡ size_at code }
@@ -112,8 +121,10 @@ pub(crate) fn size_at(code: u8) -> AccessSize
     }
 }
 
-/// Whether `next` is the second slot of a wide load with source field `src`: all fields are zero, except for the immediate, which a load of
-/// a number (0) or of an address in a value (2) uses, and a load of a map (1) does not (RFC 9669, section 5.4).
+/// Whether `next` may be the second slot of a wide load whose first slot has the source field `src` (RFC 9669, section 5.4). All fields of
+/// `next` have to be 0, except for the immediate, which may be any number in a load of a number (`src` 0), as its upper half, and in a load
+/// of an address in a value (2), as the offset in the value. In a load of a map (1) the immediate has to be 0 too. The caller has excluded
+/// any other `src`, for which the immediate might be any number.
 pub(crate) fn is_second_slot(src: u8, next: &RawSlot) -> bool
     ensures { result ≡ is_second src (fields next.now) }
 {

@@ -19,10 +19,11 @@ use crate::opcode::{SourceBit, is_second_slot};
 use insn_set::{Insn, RawSlot, Reg};
 
 /// Reads a wide instruction into `entry` (RFC 9669, section 5.4). `slot` is its first slot, which has passed `check_fields`, and `dst` the
-/// register in its destination field. The second slot is at the front of `rest`, the bytes after the first, and is returned; `SecondSlot`
-/// if it is missing, or if a field that has to be 0 is not (`is_second_slot`): all but the immediate, and for a map the immediate too. The
-/// source field of the first slot is 0 for a number of 64 bits, 1 for a map, and 2 for an address in the first value of a map; by the
-/// precondition `listed` it is no other, so `_` is 2.
+/// register in its destination field. The source field of `slot` is 0 for a number of 64 bits, 1 for a map, and 2 for an address in the
+/// first value of a map; by the precondition `listed` it is no other, so `_` is 2. The second slot is at the front of `rest`, the bytes
+/// after the first slot, and is returned (`next`). The two slots spell `entry` (`slots`), whose numbers fit their fields (`value`). The
+/// error is always `SecondSlot` (`fault`). Then `rest` has fewer than eight bytes, or a field of the second slot that has to be 0 is not
+/// (`is_second_slot`): all but the immediate, and for a map the immediate too.
 fn read_wide(entry: &mut Insn, slot: &RawSlot, dst: Reg, rest: &[u8]) -> Result<RawSlot, FaultKind>
     requires opcode { slot.now.opcode ≡ 0x18 }
     requires listed { IsTrue (fields_allowed Wide (fields slot.now)) }
@@ -58,9 +59,11 @@ fn read_wide(entry: &mut Insn, slot: &RawSlot, dst: Reg, rest: &[u8]) -> Result<
     Ok(next)
 }
 
-/// Reads an instruction of class LD into `entry`: a wide load, whose opcode is 0x18. `slot` is its first slot, and `rest` the bytes after
-/// that. Returns its second slot, never `None`. The fault is `Opcode` if the opcode is another, else that of `check_fields` (`Reserved` or
-/// `Register`), else that of `read_wide` (`SecondSlot`).
+/// Reads an instruction of class LD (`class`) into `entry`: a wide load, whose opcode is 0x18. `slot` is its first slot, and `rest` the
+/// bytes after that, at whose front its second slot has to be (`second`). Returns the second slot, never `None`: the result is an option
+/// because instructions of the other classes have no second slot. Both slots are those of the instruction (`slots`). The fault is the first
+/// that applies (`fault`): `Opcode` if the opcode is not 0x18; `Reserved` if the offset is not 0 or the source field is above 2; `Register`
+/// if the destination is above 10; `SecondSlot` if the second slot is missing, or a field of it that has to be 0 is not.
 #[tactic(auto, unfolding(crate::specs::inside::Form::form_at))]
 fn read_class_ld(
     entry: &mut Insn,
@@ -83,9 +86,11 @@ fn read_class_ld(
     Ok(Some(next))
 }
 
-/// Reads the instruction whose first slot is `slot` into `entry`, by its class, the opcode's low three bits (RFC 9669, section 3.3). `rest`
-/// are the bytes after that slot. The classes 0 to 7 are LD, LDX, ST, STX, ALU, JMP, JMP32 and ALU64. Returns the second slot if the
-/// instruction is wide, else `None`. The fault is the first of `Opcode`, `Reserved`, `Register` and `SecondSlot` that applies.
+/// Reads the instruction whose first slot is `slot` into `entry`, by its class, the opcode's low three bits (RFC 9669, section 3.3). The
+/// classes 0 to 7 are LD, LDX, ST, STX, ALU, JMP, JMP32 and ALU64. `rest` are the bytes after that slot. Returns the second slot, at the
+/// front of `rest` (`second`), if the instruction is wide, else `None`. The instruction's numbers are in their ranges (`value`), and these
+/// slots spell it (`slots`). The error is the first fault that applies (`fault`): `Opcode` if no instruction has the opcode, `Reserved` for
+/// a field's value that the opcode does not allow, `Register` for a register above 10, `SecondSlot` if the second slot is missing or wrong.
 #[inline(always)]
 #[tactic(auto, unfolding(crate::specs::inside::Form::form_at))]
 fn read_slot(entry: &mut Insn, slot: &RawSlot, rest: &[u8]) -> Result<Option<RawSlot>, FaultKind>
@@ -108,9 +113,10 @@ fn read_slot(entry: &mut Insn, slot: &RawSlot, rest: &[u8]) -> Result<Option<Raw
     }
 }
 
-/// Reads the instruction at the front of the bytes, which are at least eight, into `entry`. `first` is the slot in their first eight bytes.
-/// Returns whether the instruction is wide; if there is none, the first of `Opcode`, `Reserved`, `Register` and `SecondSlot` that applies.
-/// The instruction is written to `entry` directly: it is as large as two slots, and would be copied if it were returned.
+/// Reads the instruction at the front of the bytes, which are at least eight, into `entry`. More bytes may follow the instruction. `first`
+/// is the slot in the first eight bytes. Returns whether the instruction is wide, that is, has two slots. If no instruction is at the
+/// front, the error is the first of `Opcode`, `Reserved`, `Register` and `SecondSlot` that applies, and `entry` means nothing. The
+/// instruction is written to `entry` directly: it is as large as two slots, and would be copied if it were returned.
 #[inline(always)]
 #[tactic(auto, unfolding(crate::specs::inside::FirstFault::first_fault))]
 pub(crate) fn read_from(entry: &mut Insn, first: &RawSlot, bytes: &[u8]) -> Result<bool, FaultKind>
@@ -125,8 +131,10 @@ pub(crate) fn read_from(entry: &mut Insn, first: &RawSlot, bytes: &[u8]) -> Resu
     Ok(second.is_some())
 }
 
-/// Reads the instruction at the front of the bytes into `entry`; more bytes may follow. The fault is `Ragged` if there are fewer than eight
-/// bytes, else the first of `Opcode`, `Reserved`, `Register` and `SecondSlot` that applies. After a fault `entry` means nothing.
+/// Reads the instruction at the front of `bytes` into `entry`; more bytes may follow. By `found` the instruction's numbers are in their
+/// ranges (`IsInsn`), and `bytes` begin with its spelling (`Begins`). The error is the fault at the front (`fault`): `Ragged` if there are
+/// fewer than eight bytes, else the first of `Opcode`, `Reserved`, `Register` and `SecondSlot` that applies; `entry` then means nothing.
+/// Unlike `read_from`, this function reads the first slot itself.
 #[tactic(auto, unfolding(crate::specs::inside::FirstFault::first_fault))]
 fn read_front(entry: &mut Insn, bytes: &[u8]) -> Result<(), FaultKind>
     ensures found { OnOk result (IsInsn entry.new × Begins entry.new bytes.now) }
@@ -143,10 +151,12 @@ fn read_front(entry: &mut Insn, bytes: &[u8]) -> Result<(), FaultKind>
 ///
 /// # Errors
 ///
-/// Always at slot 0: `Ragged` if there are fewer than eight bytes, else the first that applies, in this order, of `Opcode`, `Reserved`,
-/// `Register` and `SecondSlot` (RFC 9669, section 3: unused fields are zero).
+/// The slot of the fault is always 0. Its kind is `Ragged` if there are fewer than eight bytes, else the first of these that applies:
+/// `Opcode` if no instruction has the opcode; `Reserved` if a field has a value that the opcode does not allow, for example an unused field
+/// that is not zero (RFC 9669, section 3); `Register` if a register's number is above 10; `SecondSlot` if the second slot of a wide
+/// instruction is missing, or an unused field of it is not zero.
 pub fn decode(bytes: &[u8]) -> Result<(Insn, usize), CodecFault>
-    // The bytes begin with the spelling of the instruction that is returned.
+    // The bytes begin with the spelling of the instruction that is returned. Its numbers fit their fields (`IsInsn`).
     ensures found { IfOk result (λ found. IsInsn found.0 × Begins found.0 bytes.now
         × (found.1 ≡ length (slots found.0))) }
     // If the bytes begin with the spelling of an instruction, it is returned.

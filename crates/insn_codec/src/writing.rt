@@ -10,7 +10,8 @@ ghost use Rattle.insn_set.specs.Numbers.{opcode as opcode_from, memory_opcode, a
 use insn_set::{Insn, Operand, RawSlot, alu_number, alu_offset, condition_number};
 use words::{AccessSize, ByteOrder};
 
-/// The code of a size, two bits of an opcode (RFC 9669, section 5).
+/// The code of a size in an opcode (RFC 9669, section 5): 0 for 32 bits (W), 1 for 16 (H), 2 for 8 (B), 3 for 64 (DW). By `bound` it fits
+/// the two bits that the opcode has for it.
 fn size_number(size: AccessSize) -> u8
     ensures value { result ≡ size_number size }
     ensures bound { result ≤ 3 }
@@ -23,7 +24,8 @@ fn size_number(size: AccessSize) -> u8
     }
 }
 
-/// The opcode of a byte-order conversion (RFC 9669, section 4.2).
+/// The opcode of a byte-order conversion (RFC 9669, section 4.2), which has code 13: with class ALU (4) and source bit 0 to little-endian,
+/// or 1 to big-endian; with class ALU64 (7) and source bit 0 for a swap.
 fn end_opcode(how: ByteOrder) -> u8
     ensures { result ≡ end_opcode how }
 {
@@ -34,7 +36,8 @@ fn end_opcode(how: ByteOrder) -> u8
     }
 }
 
-/// The source bit of an opcode: 0 if the second operand is a constant, 1 if it is a register (RFC 9669, section 4).
+/// The source bit of an opcode: 0 if the second operand is a constant, 1 if it is a register (RFC 9669, section 4). The function `opcode`
+/// requires `bound`.
 fn source_bit(operand: Operand) -> u8
     ensures value { result ≡ source_bit operand }
     ensures bound { result ≤ 1 }
@@ -45,7 +48,8 @@ fn source_bit(operand: Operand) -> u8
     }
 }
 
-/// The field of the source register: the register's number, or 0 if the operand is a constant (RFC 9669, section 3.1).
+/// The source field of a slot, the high four bits of its byte of registers: the register's number if the source operand is a register, or 0
+/// if the operand is a constant (RFC 9669, section 3.1). `bound`: the number fits into four bits, as `raw_slot` requires.
 fn src_field(operand: Operand) -> u8
     ensures value { result ≡ src_field operand }
     ensures bound { result < 16 }
@@ -56,7 +60,7 @@ fn src_field(operand: Operand) -> u8
     }
 }
 
-/// The field of the immediate: the constant, or 0 if the operand is a register (RFC 9669, section 3.1).
+/// The field of the immediate: the constant in two's complement, or 0 if the operand is a register (RFC 9669, section 3.1).
 fn imm_field(operand: Operand) -> u32
     ensures { result ≡ imm_field operand }
 {
@@ -66,7 +70,8 @@ fn imm_field(operand: Operand) -> u32
     }
 }
 
-/// The class of arithmetic: ALU64 if it is of 64 bits (`wide`), else ALU (RFC 9669, section 3.3).
+/// The class of arithmetic: ALU64, 7, if it is of 64 bits (`wide`), else ALU, 4 (RFC 9669, section 3.3). A class has three bits of an
+/// opcode (`bound`).
 fn arithmetic_class(wide: bool) -> u8
     ensures value { result ≡ alu_class wide }
     ensures bound { result < 8 }
@@ -74,7 +79,8 @@ fn arithmetic_class(wide: bool) -> u8
     if wide { 7 } else { 4 }
 }
 
-/// The class of conditional jumps: JMP if 64 bits are compared (`wide`), JMP32 if 32 are (RFC 9669, section 3.3).
+/// The class of conditional jumps: JMP (5) if 64 bits are compared (`wide`), JMP32 (6) if 32 are (RFC 9669, section 3.3). It fits the three
+/// bits of an opcode that have the class (`bound`), as `opcode` requires.
 fn jumping_class(wide: bool) -> u8
     ensures value { result ≡ jump_class wide }
     ensures bound { result < 8 }
@@ -82,7 +88,8 @@ fn jumping_class(wide: bool) -> u8
     if wide { 5 } else { 6 }
 }
 
-/// The opcode of arithmetic or of a jump: four bits of code, the source bit, three bits of class (RFC 9669, section 4).
+/// The opcode of arithmetic or of a jump, from the highest bit on: four bits of `code`, which says the operation or the condition, the bit
+/// `source`, 1 if the second operand is a register and else 0, and three bits of `class` (RFC 9669, section 4).
 fn opcode(code: u8, source: u8, class: u8) -> u8
     requires code { code < 16 }
     requires source { source ≤ 1 }
@@ -92,7 +99,9 @@ fn opcode(code: u8, source: u8, class: u8) -> u8
     16 * code + 8 * source + class
 }
 
-/// The opcode of a load, a store or an atomic operation: three bits of mode, two of size, three of class (RFC 9669, section 5).
+/// The opcode of a load, a store or an atomic operation: from the highest bit on three bits of mode, two of size, three of class (RFC 9669,
+/// section 5). `mode` is 3 (MEM), 4 (MEMSX, a load that extends the sign) or 6 (ATOMIC, the greatest mode); `class` is 1 (LDX), 2 (ST) or 3
+/// (STX). The bounds keep the sum below 256.
 fn sized_opcode(mode: u8, size: AccessSize, class: u8) -> u8
     requires mode { mode ≤ 6 }
     requires class { class < 8 }
@@ -101,7 +110,7 @@ fn sized_opcode(mode: u8, size: AccessSize, class: u8) -> u8
     32 * mode + 8 * size_number(size) + class
 }
 
-/// The slot with these fields. Both register numbers are below 16.
+/// The slot with these fields. `dst` and `src` are register numbers below 16, since they share one byte: `src` is its upper four bits.
 #[inline(always)]
 fn raw_slot(opcode: u8, dst: u8, src: u8, offset: u16, imm: u32) -> RawSlot
     requires dst { dst < 16 }
@@ -117,9 +126,11 @@ fn raw_slot(opcode: u8, dst: u8, src: u8, offset: u16, imm: u32) -> RawSlot
 }
 
 /// The first slot of an instruction. `raw_slot` takes the opcode, the destination, the source, the offset and the immediate, of which those
-/// that the instruction does not use are 0. Code 11 with source bit 1 is a move of a register, code 8 a negation; the modes are 3 (MEM), 4
-/// (MEMSX, a load that extends the sign) and 6 (ATOMIC), the classes 1 (LDX), 2 (ST) and 3 (STX). The source field of a wide load is 0
-/// for a number, 1 for a map, 2 for an address in its value.
+/// that the instruction does not use are 0. Code 11 with source bit 1 is a move of a register, here one that extends the sign from the
+/// width in its offset field, and code 8 is a negation. The modes are 3 (MEM), 4 (MEMSX, a load that extends the sign) and 6 (ATOMIC), the
+/// classes 1 (LDX), 2 (ST) and 3 (STX). Whole opcodes are 0x05 and 0x06, jumps with offsets of 16 and 32 bits, 0x85, a call, 0x95, the
+/// exit, and 0x18, a wide load: its source field is 0 for a number, whose low half is the immediate here, 1 for a map, 2 for an address in
+/// its value.
 fn first(insn: &Insn) -> RawSlot
     ensures { fields result ≡ first_slot insn.now }
 {
@@ -211,8 +222,9 @@ fn first(insn: &Insn) -> RawSlot
     }
 }
 
-/// The second slot of an instruction; `None` if it has one slot. All fields are 0, except for the immediate: the high half of a number, or
-/// the offset in a map's value (RFC 9669, section 5.4).
+/// The second slot of an instruction; `None` for an instruction of one slot, so for any but `Const`, `MapFd` and `MapValue`. All fields are
+/// 0, except for the immediate (RFC 9669, section 5.4): for `Const` the high 32 bits of its number, for `MapFd` 0 too, and for `MapValue`
+/// the offset in the map's value. The definition, `second_slot`, is a list of at most one slot, so the contract makes the option a list.
 fn second(insn: &Insn) -> Option<RawSlot>
     ensures { second_slot insn.now ≡ map fields (option_to_list result) }
 {
@@ -226,7 +238,8 @@ fn second(insn: &Insn) -> Option<RawSlot>
     }
 }
 
-/// The one or two slots of an instruction.
+/// The slots that spell an instruction: the first, and the second, or `None` if the instruction has one slot. They become slots of a
+/// program for runs (`Code::push`). Their fields are those of the definition of the spelling (`slots_of`).
 pub(crate) fn slots(insn: &Insn) -> (RawSlot, Option<RawSlot>)
     ensures { map fields (result.0 ∷ option_to_list result.1) ≡ slots_of insn.now }
 {

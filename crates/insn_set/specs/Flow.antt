@@ -10,7 +10,8 @@ use Rattle.insn_set.specs.declared.profile.Reference.TheVariants as names
 use Rattle.insn_set.specs.Profile.{profile}
 use Rattle.insn_set.specs.Spelling.{slots}
 
--- an integer as the number of a slot; None if the integer is negative
+-- the number of the slot to which a jump leads, from the integer that its own slot and its distance
+-- give; None if that is negative. Whether the program has this slot is not tested here
 abbrev pub slot_of_integer : ℤ → Option ℕ
 slot_of_integer (pos n) = Some n
 slot_of_integer (negsuc n) = None
@@ -21,8 +22,8 @@ slot_of_integer (negsuc n) = None
 abbrev pub falls_to : Insn → ℕ → ℕ
 falls_to i at = at + length (slots i)
 
--- the distance of the jump among an instruction's successors, in slots from the next one; 0 if
--- there is no jump
+-- the distance to a jump's target, in slots from the next instruction, by an instruction's
+-- successors; 0 if it is no jump (`Next`, or `Nothing`, after which the program ends)
 abbrev pub offset_by : Successors → ℤ
 offset_by Next = pos 0
 offset_by (Jump off) = off
@@ -38,7 +39,8 @@ jump_offset i = offset_by (profile i).successors
 abbrev pub jumps_to : Insn → ℕ → Option ℕ
 jumps_to i at = slot_of_integer (pos (at + 1) +ℤ jump_offset i)
 
--- whether control may pass to the next instruction, by an instruction's successors
+-- whether control may pass to the next instruction, by an instruction's successors: false for those
+-- of a jump without a condition (`Jump`) and of an exit (`Nothing`)
 abbrev pub falls_by : Successors → Bool
 falls_by Next = true
 falls_by (Jump off) = false
@@ -49,7 +51,9 @@ falls_by Nothing = false
 abbrev pub falls : Insn → Bool
 falls i = falls_by (profile i).successors
 
--- whether control may pass to a jump's target, by an instruction's successors
+-- whether control may pass to a jump's target, by an instruction's successors: true for a jump
+-- without a condition (`Jump`) or with one (`NextOrJump`); false if only the next instruction
+-- follows (`Next`), and for the exit (`Nothing`)
 abbrev pub jumps_by : Successors → Bool
 jumps_by Next = false
 jumps_by (Jump off) = true
@@ -78,8 +82,8 @@ jump_target i at = target_by (profile i).successors at
 abbrev pub written_register : Insn → Option ℕ
 written_register i = (profile i).written
 
--- the descriptor in a reference to a map, or to a byte of a map's first value; None in a reference
--- to a helper or to nothing
+-- the descriptor in what an instruction names (`Reference`): that of a map, or of the map in whose
+-- first value it names a byte; None for a helper, and for nothing. For an instruction: `descriptor`
 abbrev pub descriptor_by : Reference → Option ℕ
 descriptor_by names.Nothing = None
 descriptor_by (names.Helper id) = None

@@ -62,8 +62,10 @@ loaded_register (loads size signed dst) = Some dst
 loaded_register (stores size src) = None
 loaded_register (changes size op src) = None
 
--- the row of an instruction, by its group (`View`): the registers of its first and its second
--- operand, the register that it writes, its successors, what it names, the number of its slots. An
+-- the row of an instruction, by its group (`View`): the registers that it reads as its first and
+-- its second operand, the register that it writes, its successors, what it names, the number of its
+-- slots. A move does not read its destination. An operator of one operand reads its source as the
+-- first. The first operand of an access is its base, the second the register that is stored. An
 -- exit reads register 0, the result; the row of a call has neither the arguments that it reads nor
 -- the registers that it changes. An atomic operation writes no register: an `Insn` has no atomic
 -- operation that fetches the old value

@@ -17,7 +17,8 @@ use Rattle.words.specs.Operate.{extended_bits, kept_bits}
 
 -- ---- the second operand, section 4: the source bit, and the field that it selects
 
--- the source bit of an operand: 0 for a constant, 1 for a register
+-- the source bit of an operand, in the opcode of arithmetic and of a conditional jump: 0 for a
+-- constant, 1 for a register. The class of a store is 2 plus this bit: ST or STX (section 3.3)
 abbrev pub source_bit : Operand → ℕ
 source_bit (Imm n) = 0
 source_bit (Reg r) = 1
@@ -28,7 +29,8 @@ abbrev pub src_field : Operand → ℕ
 src_field (Imm n) = 0
 src_field (Reg r) = r
 
--- the immediate field of an operand: the constant, or 0 with a register (section 3.1)
+-- the immediate field of a slot with this operand: the 32 bits of the constant, in two's complement
+-- (`imm_bits`); 0 for a register, whose number is in the source field (section 3.1)
 abbrev pub imm_field : Operand → ℕ
 imm_field (Imm n) = imm_bits n
 imm_field (Reg r) = 0
@@ -38,10 +40,12 @@ imm_field (Reg r) = 0
 
 -- an instruction's first slot: opcode, destination, source, offset and immediate; a field that is
 -- not used is 0. `opcode` makes an opcode of a code, a source bit and a class: code 11 is a move, 8
--- a negation or, in class 5, a call, and 9 the exit. `memory_opcode` makes one of a mode, a size
--- and a class: mode 3 is MEM, 6 ATOMIC. A sign extension has its number of bits in the offset, a
--- byte-order conversion in the immediate. In a wide load (0x18) the source field is 0 for a number,
--- 1 for a map, and 2 for the address of a byte in a map's first value
+-- a negation or, in class 5, a call, 9 the exit, and 0 a jump without a condition, whose distance
+-- is in the offset in class 5 and in the immediate in class 6. `memory_opcode` makes one of a mode,
+-- a size and a class: mode 3 is MEM, 6 ATOMIC. A sign extension has its number of bits in the
+-- offset, a byte-order conversion in the immediate, an atomic operation its operator there. In a
+-- wide load (0x18) the source field is 0 for a number, 1 for a map, and 2 for the address of a byte
+-- in a map's first value; the immediate is the low half of the number, or the map's descriptor
 abbrev pub first : Insn → SlotFields
 first (Alu wide op dst src) =
     slot (opcode (alu_number op) (source_bit src) (alu_class wide)) dst (src_field src)

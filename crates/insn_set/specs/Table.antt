@@ -14,12 +14,12 @@ Row A = A × ℕ × List ℕ
 abbrev pub shown : {A : Type 0} → List (A × ℕ × Bor (List ℕ)) → List (Row A)
 shown rows = map (λ row. (row.0, row.1, row.2.now)) rows
 
--- the value of the first row with this number; None if there is no such row
+-- the value (row.0) of the first row whose number (row.1) is n; None if there is no such row
 abbrev pub by_number : {A : Type 0} → List (Row A) → ℕ → Option A
 by_number [] n = None
 by_number (row ∷ rows) n = if row.1 == n then Some row.0 else by_number rows n
 
--- the value of the first row with this symbol; None if there is no such row
+-- the value (row.0) of the first row whose symbol (row.2) has the bytes s; None if there is none
 abbrev pub by_symbol : {A : Type 0} → List (Row A) → List ℕ → Option A
 by_symbol [] s = None
 by_symbol (row ∷ rows) s = if bytes_eq s row.2 then Some row.0 else by_symbol rows s

@@ -31,7 +31,8 @@ pub number_of : {A : Type 0} (number : A → ℕ) (rows : List (Row A)) (n : ℕ
 number_of number rows n v all e =
     eqb-true (number v) n (found_number (λ v n. eqb (number v) n) rows n v all e)
 
--- lists that the test of equality accepts are equal
+-- two lists for which the test `bytes_eq` is true are equal. `by_symbol` and `named` compare by
+-- this test, so a row that they find has exactly the symbol or name that they were given
 is_eq : (x y : List ℕ) → bytes_eq x y ≡ true → x ≡ y
 is_eq x y e = (bytes_eq-Decides x y).0 e
 

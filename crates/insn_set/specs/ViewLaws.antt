@@ -8,13 +8,15 @@ use Rattle.insn_set.specs.View.{view, WideLoadFitsWord}
 use Rattle.insn_set.specs.Profile.{profile}
 use Rattle.insn_set.specs.Spelling.{slots, IsInsn}
 
--- the number of slots in the profile of an instruction is that of its spelling
+-- an instruction takes as many slots by its profile (`slots` of the profile) as its spelling has:
+-- one, or two for a wide load
 pub profile_slots : (i : Insn) → (profile i).slots ≡ length (slots i)
 profile_slots (Alu wide op dst src) = refl
 profile_slots _ = refl
 
--- if the numbers of an instruction fit their fields (`IsInsn`), the 64-bit number that its view
--- loads, if it loads one, is less than 2 ^ 64 (`WideLoadFitsWord`)
+-- if the numbers of an instruction fit their fields (`IsInsn`), its view (`View`: what it does, and
+-- its operands) meets `WideLoadFitsWord`: a number that it loads into a register is less than
+-- 2 ^ 64. Only the view of `Const` has such a number; of the others nothing is required
 pub view_is : (i : Insn) → IsInsn i → WideLoadFitsWord (view i)
 view_is (Const dst value) h = h.1
 view_is _ h = tt

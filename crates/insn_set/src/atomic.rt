@@ -35,7 +35,7 @@ impl AtomicOp {
     ghost use Rattle.insn_set.specs.Atomic.{atomic_number, atomic_symbol};
     ghost use Rattle.insn_set.specs.AtomicRows.{atomic_by_number, atomic_by_symbol};
 
-    /// The immediate by which a slot names the operation: 0x00, 0x40, 0x50 or 0xa0.
+    /// The immediate of the operation in a slot (RFC 9669, section 5.3): 0x00 for `Add`, 0x40 for `Or`, 0x50 for `And`, 0xa0 for `Xor`.
     #[inline(always)]
     pub fn number(self) -> u32
         ensures { result ≡ atomic_number self }
@@ -43,7 +43,9 @@ impl AtomicOp {
         OPERATIONS[self as usize].1
     }
 
-    /// The operation with this immediate, if there is one.
+    /// The operation that has `number` as its immediate (`value`): 0x00 (`Add`), 0x40 (`Or`), 0x50 (`And`) or 0xa0 (`Xor`). `None` for any
+    /// other number, also for that of an operation with FETCH, which is no instruction here. `inverse`: `number()` of the result is
+    /// `number` again.
     pub fn from_number(number: u32) -> Option<AtomicOp>
         ensures value { result ≡ atomic_by_number number }
         ensures inverse { IfSome result (λ op. atomic_number op ≡ number) }
@@ -51,14 +53,15 @@ impl AtomicOp {
         by_number(&OPERATIONS, number)
     }
 
-    /// The symbol of the operation in a line of text.
+    /// The symbol of the operation in a line of text, between the operand in memory and the register: `+=`, `|=`, `&=` or `^=`.
     pub fn symbol(self) -> &'static str
         ensures { result.now ≡ atomic_symbol self }
     {
         OPERATIONS[self as usize].2
     }
 
-    /// The operation with this symbol, if there is one.
+    /// The operation that has this symbol in a line of text: `+=`, `|=`, `&=` or `^=`. `None` for any other text. The parser of a line uses
+    /// it. By `value` the result is that of a search in the rows of `OPERATIONS`; by `inverse` its `symbol` is the given one.
     pub fn from_symbol(symbol: &str) -> Option<AtomicOp>
         ensures value { result ≡ atomic_by_symbol symbol.now }
         ensures inverse { IfSome result (λ op. atomic_symbol op ≡ symbol.now) }
@@ -81,7 +84,7 @@ impl AtomicSize {
         }
     }
 
-    /// Whether the operation works on 64 bits.
+    /// Whether an atomic operation of this size works on 64 bits: `true` for `Double`, `false` for `Word`, 32 bits.
     #[inline(always)]
     pub fn is_wide(self) -> bool
         ensures { result ≡ is_wide_atomic self }

@@ -44,7 +44,8 @@ const CONDITIONS_BY_CODE: [Option<Condition>; 16] = [
     None,
 ];
 
-/// The code of a condition, the upper four bits of a jump's opcode.
+/// The code of a condition, the upper four bits of a jump's opcode (RFC 9669, section 4.3). `bound`: 13, the code of `SignedBelowOrEqual`,
+/// is the greatest one, so every code fits in these bits.
 pub fn condition_number(condition: Condition) -> u8
     ensures value { result ≡ condition_number condition }
     ensures bound { result ≤ 13 }
@@ -52,7 +53,8 @@ pub fn condition_number(condition: Condition) -> u8
     CONDITIONS[condition as usize].1 as u8
 }
 
-/// The condition with this code; `None` for 0, 8, 9, and 14 and above, which no condition has.
+/// The condition whose code, the upper four bits of a jump's opcode, is `number`. `None` if no condition has this code: for 0, 8 and 9,
+/// those of an unconditional jump, a call and the exit, and for 14 and above. `inverse`: `condition_number` returns the code again.
 pub fn condition_by_number(number: u8) -> Option<Condition>
     ensures value { result ≡ condition_by_number number }
     ensures inverse { IfSome result (λ c. condition_number c ≡ number) }
@@ -60,14 +62,15 @@ pub fn condition_by_number(number: u8) -> Option<Condition>
     *CONDITIONS_BY_CODE.get(usize::from(number))?
 }
 
-/// The symbol of a condition in a line of text.
+/// The symbol that a condition has in a line of text, for example `s<=` for `SignedBelowOrEqual`. The disassembler writes it.
 pub fn condition_symbol(condition: Condition) -> &'static str
     ensures { result.now ≡ condition_symbol condition }
 {
     CONDITIONS[condition as usize].2
 }
 
-/// The condition with this symbol, if there is one.
+/// The condition for which a line of text has this symbol, as `==` or `s>`; `None` if no condition has it. By `inverse`, `condition_symbol`
+/// gives the symbol of the condition back.
 pub fn condition_by_symbol(symbol: &str) -> Option<Condition>
     ensures value { result ≡ condition_by_symbol symbol.now }
     ensures inverse { IfSome result (λ c. condition_symbol c ≡ symbol.now) }

@@ -29,15 +29,18 @@ const EXTENSIONS: [(&str, ExtendedBits); 3] = [
     ("s32", ExtendedBits::Bits32),
 ];
 
-/// The name that a line of text has for the byte-order conversion that keeps `bits` low bits. `ORDERS` has three rows for each `ByteOrder`,
-/// one for each `KeptBits`.
+/// The name of a byte-order conversion in a line of text, as `le16` for `Little` and `Bits16`: `how` is the order of the bytes, and `bits`
+/// the number of low bits that are kept. `ORDERS` has three rows for each `ByteOrder`, one for each `KeptBits`, in the order of the
+/// variants.
 pub fn order_name(how: ByteOrder, bits: KeptBits) -> &'static str
     ensures { result.now ≡ order_name how bits }
 {
     ORDERS[3 * (how as usize) + bits as usize].0
 }
 
-/// The byte-order conversion with this name, and the number of low bits that it keeps; `None` if there is none.
+/// The byte-order conversion that has this name in a line of text, and the number of low bits that it keeps: to big endian and 16 bits for
+/// `be16`. They are found in `ORDERS` (`value`); `None` if no conversion has the name. By `inverse`, `order_name` returns this name for the
+/// result. The reader of a line of text (crate `text_line`) calls this function.
 pub fn order_by_name(name: &str) -> Option<(ByteOrder, KeptBits)>
     ensures value { result ≡ order_by_name name.now }
     ensures inverse { IfSome result (λ o. order_name o.0 o.1 ≡ name.now) }
@@ -45,14 +48,17 @@ pub fn order_by_name(name: &str) -> Option<(ByteOrder, KeptBits)>
     named(&ORDERS, name)
 }
 
-/// The name that a line of text has for the sign extension from `bits` low bits.
+/// The name that a line of text has for the sign extension from `bits` low bits: `s8`, `s16` or `s32`. `bits as usize` is the index of the
+/// row, since `EXTENSIONS` has its rows in the order of the variants.
 pub fn extension_name(bits: ExtendedBits) -> &'static str
     ensures { result.now ≡ extension_name bits }
 {
     EXTENSIONS[bits as usize].0
 }
 
-/// The number of low bits whose sign is extended by the sign extension with this name, as 8 for `s8`; `None` if none has this name.
+/// The sign extension that has this name in a line of text, as the number of low bits that it reads as a signed number: 8 for `s8`. It is
+/// found in `EXTENSIONS` (`value`); `None` if no sign extension has the name. By `inverse`, `extension_name` returns this name for the
+/// result. The reader of a line of text (crate `text_line`) calls this function.
 pub fn extension_by_name(name: &str) -> Option<ExtendedBits>
     ensures value { result ≡ extension_by_name name.now }
     ensures inverse { IfSome result (λ b. extension_name b ≡ name.now) }

@@ -37,7 +37,7 @@ impl Reg {
         Reg { number }
     }
 
-    /// The register's number.
+    /// The register's number, 0 to 10 (`bound`). Contracts see a register as this number (`value`).
     pub fn number(self) -> u8
         ensures value { result ≡ self }
         ensures bound { result ≤ 10 }
@@ -174,7 +174,9 @@ impl Insn {
         self.profile().slots == 2
     }
 
-    /// The number of the instruction's slots: two for `Const`, `MapFd` and `MapValue`, else one.
+    /// The number of the instruction's slots: two for `Const`, `MapFd` and `MapValue`, else one. By `count` it is the length of the list
+    /// that the definition `slots` has for the instruction. By `some` and `room` it is 1 or 2 for any instruction, so a caller can add it
+    /// to a bounded number of slots without overflow.
     pub fn slots(&self) -> usize
         ensures count { result ≡ length (slots self.now) }
         ensures some { 1 ≤ result }
@@ -238,14 +240,16 @@ impl Insn {
     }
 }
 
-/// A law: a `u64` is below 2^64. `in_range` of `Insn` uses it, and nothing is done when it runs.
+/// A law: a `u64` is below 2^64. `in_range` of `Insn` uses it for the value of a wide load of a number (`Const`), and nothing is done when
+/// it runs.
 fn word_in_range(value: u64)
     ensures { value < 2 ^ 64 }
 {
     let _ = value;
 }
 
-/// A law: a `u32` is below 2^32. `in_range` of `Insn` uses it, and nothing is done when it runs.
+/// A law: a `u32` is below 2^32, as the offset of a `MapValue` has to be. `in_range` of `Insn` calls it for the proof, and nothing is done
+/// when it runs.
 fn offset_in_range(offset: u32)
     ensures { offset < 2 ^ 32 }
 {
@@ -255,8 +259,9 @@ fn offset_in_range(offset: u32)
 impl Operand {
     ghost use Rattle.insn_set.specs.Spelling.{IsOperand};
 
-    /// A law: a register operand has a number from 0 to 10, by the contract of `number`, and a constant has 32 bits by its type. Nothing is
-    /// done when it runs.
+    /// A law: the number of an operand lies in its range (`IsOperand`). That of a register is 0 to 10, by the contract of `number`; a
+    /// constant is a signed number of 32 bits, by its type. `in_range` of `Insn` uses the law for the operand `src` of an instruction.
+    /// Nothing is done when it runs.
     fn in_range(self)
         ensures { IsOperand self }
     {

@@ -14,13 +14,13 @@ const _: () = prove!(size_of::<Option<Insn>>() == 24);
 /// A raw slot takes the eight bytes in which it is spelled.
 const _: () = prove!(size_of::<RawSlot>() == 8);
 
-/// A register that is made of the number 10 has this number.
+/// A register that is made of the number 10, the greatest that `Reg::new` allows, has this number.
 fn registers() {
     let number = Reg::new(10).number();
     prove!(number == 10);
 }
 
-/// A load of a 64-bit number takes two slots, the exit one.
+/// A load of a 64-bit number (`Const`) takes two slots, and the exit takes one, by `slots` and by `has_two_slots`.
 fn slots_of_instructions() {
     let (dst, value) = (Reg::new(2), 7);
     let (wide, exit) = (Insn::Const { dst, value }, Insn::Exit);

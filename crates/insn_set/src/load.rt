@@ -20,8 +20,9 @@ const LOADS: [((bool, AccessSize), u32, &str); 7] = [
     ((true, AccessSize::Word), 0x81, "s32"),
 ];
 
-/// Whether the load with this opcode extends the sign, and its size; `None` if no load has this opcode. No load of a double word extends
-/// the sign (`listed`).
+/// The load with this opcode, found in the table `LOADS` (`value`): whether it extends the sign, and then its size; `None` if no load has
+/// the opcode. The decoder of loads (`read_load` of `insn_codec`) calls this function. By `inverse`, `load_opcode` of the load that is
+/// found is this opcode. By `listed` a load of a double word does not extend the sign, since `LOADS` has no row for such a load.
 pub fn load_by_opcode(opcode: u8) -> Option<(bool, AccessSize)>
     ensures value { result ≡ load_by_opcode opcode }
     ensures inverse { IfSome result (λ l. load_opcode l.0 l.1 ≡ opcode) }
@@ -30,8 +31,9 @@ pub fn load_by_opcode(opcode: u8) -> Option<(bool, AccessSize)>
     by_number(&LOADS, u32::from(opcode))
 }
 
-/// The load for whose size a line of text has this name (`u8` to `u64`, `s8` to `s32`): whether the load extends the sign, and its access
-/// size. `None` if no load has the name.
+/// The load whose size has this name in a line of text: `u8`, `u16`, `u32` or `u64`, or, if the load extends the sign, `s8`, `s16` or
+/// `s32`. The result is whether the load extends the sign, and then its access size; `None` if `name` is none of these seven. The parser of
+/// a memory operand, as `*(u32 *)(r6 + 0)`, needs this. `inverse`: `size_name` gives `name` for the two values of the result.
 pub fn load_by_name(name: &str) -> Option<(bool, AccessSize)>
     ensures value { result ≡ load_by_name name.now }
     ensures inverse { IfSome result (λ l. size_name l.0 l.1 ≡ name.now) }

@@ -48,7 +48,8 @@ const OPERATORS_BY_CODE: [Option<AluOp>; 16] = [
     None,
 ];
 
-/// The code of an operator, the upper four bits of its opcode. Signed division and remainder have that of the unsigned ones.
+/// The code of an operator (RFC 9669, section 4.1): the upper four bits of its opcode, as a number from 0 to 12 (`bound`). Signed division
+/// and remainder have that of the unsigned ones; the offset field of the slot (`alu_offset`) distinguishes them.
 pub fn alu_number(op: AluOp) -> u8
     ensures value { result ≡ alu_number op }
     ensures bound { result ≤ 12 }
@@ -67,8 +68,8 @@ pub fn alu_offset(op: AluOp) -> u16
     }
 }
 
-/// The operator with this code in a slot whose offset field is 0, so the unsigned one if two have the code; `None` for 8 and for 13 and
-/// above, which no operator of two operands has.
+/// The operator with the code `number`, the upper four bits of an opcode, in a slot whose offset field is 0: if two have the code (3, 9),
+/// the unsigned one (`unsigned`). `None` for 8 and for 13 and above, which no operator of two operands has.
 pub fn alu_by_number(number: u8) -> Option<AluOp>
     ensures value { result ≡ alu_by_number number }
     ensures inverse { IfSome result (λ op. alu_number op ≡ number) }
@@ -77,14 +78,16 @@ pub fn alu_by_number(number: u8) -> Option<AluOp>
     *OPERATORS_BY_CODE.get(usize::from(number))?
 }
 
-/// The symbol of an operator in a line of text.
+/// The symbol of an operator in a line of text, as `+=` for `Add` and `s/=` for `SignedDiv`. The disassembler writes it; `alu_by_symbol`
+/// finds the operator by it.
 pub fn alu_symbol(op: AluOp) -> &'static str
     ensures { result.now ≡ alu_symbol op }
 {
     OPERATORS[op as usize].2
 }
 
-/// The operator that a line of text writes by this symbol, as `+=`; `None` if no operator with two operands has the symbol.
+/// The operator whose symbol in a line of text is `symbol` (`inverse`), as `Add` for `+=`; `None` if no operator with two operands has the
+/// symbol. No two operators share a symbol. The parser of lines (`text_line`) calls this.
 pub fn alu_by_symbol(symbol: &str) -> Option<AluOp>
     ensures value { result ≡ alu_by_symbol symbol.now }
     ensures inverse { IfSome result (λ op. alu_symbol op ≡ symbol.now) }

@@ -55,7 +55,9 @@ pub struct Profile {
     pub slots: usize,
 }
 
-/// The profile with these fields, in their order: a row of the table of instructions.
+/// The profile with these fields, in their order: the registers that an instruction reads first and second, the register that it writes
+/// (`None` if there is none), its successors, what it names outside the registers, and the number of its slots. So the table in
+/// `Insn::profile` has a short row for each instruction. The definition `row` has the fields in this order too.
 #[inline(always)]
 fn row(
     first_read: Option<Reg>,
@@ -77,7 +79,8 @@ fn row(
     }
 }
 
-/// The register of a second operand, or of the value that a store writes; `None` if it is a constant.
+/// The register of an operand: of an instruction's second operand, or of the value that a store writes. It is the column `second_read` of
+/// the table of instructions. `None` if the operand is a constant.
 #[inline(always)]
 fn register_of(operand: Operand) -> Option<Reg>
     ensures { result ≡ register_of operand }
@@ -88,8 +91,8 @@ fn register_of(operand: Operand) -> Option<Reg>
     }
 }
 
-/// The register of an operation's first operand, which is its destination; `None` for a move, which does not read it (RFC 9669, section
-/// 4.1).
+/// The register that an operation of two operands reads as its first one: the destination `dst`. `None` for a move, which does not read its
+/// destination (RFC 9669, section 4.1).
 #[inline(always)]
 fn first_operand(op: AluOp, dst: Reg) -> Option<Reg>
     ensures { result ≡ first_operand op dst }
@@ -103,9 +106,11 @@ fn first_operand(op: AluOp, dst: Reg) -> Option<Reg>
 impl Insn {
     ghost use Rattle.insn_set.specs.Profile.{profile};
 
-    /// The properties of the instruction, its row of the table. The columns are the registers that it reads first and second, the register
-    /// that it writes, its successors, what it names outside the registers, and the number of its slots. An exit reads register 0, the
-    /// program's result. The row of a call has neither the arguments of the helper nor registers 0 to 5, which the call changes.
+    /// The properties of the instruction that no register value affects, for the verifier and its log: its row of the table. The columns
+    /// are the registers that it reads first and second (`None` if there is none, as for a constant operand), the register that it writes
+    /// (`None` also for an atomic operation, which writes memory), its successors, what it names outside the registers (a descriptor as an
+    /// unsigned number), and the number of its slots. An exit reads register 0, the program's result. The row of a call has neither the
+    /// arguments of the helper nor registers 0 to 5, which the call changes.
     #[inline(always)]
     pub fn profile(&self) -> Profile
         ensures { result ≡ profile self.now }
@@ -190,7 +195,7 @@ impl Insn {
 impl Successors {
     ghost use Rattle.insn_set.specs.Flow.{falls_by, jumps_by, offset_by, target_by};
 
-    /// Whether control may pass to the next instruction.
+    /// Whether control may pass to the next instruction (the falling edge): false of an unconditional jump and of the exit, else true.
     #[inline(always)]
     pub fn falls(self) -> bool
         ensures { result ≡ falls_by self }
@@ -203,7 +208,7 @@ impl Successors {
         }
     }
 
-    /// Whether control may pass to a jump's target.
+    /// Whether control may pass to the target of a jump (`Jump`, `NextOrJump`). `falls` is for the next instruction.
     #[inline(always)]
     pub fn jumps(self) -> bool
         ensures { result ≡ jumps_by self }
@@ -229,8 +234,9 @@ impl Successors {
         }
     }
 
-    /// The slot to which an instruction at `slot` may jump, also one past the program's end. `None` if there is no jump, or the target is
-    /// below slot 0. The bound of `slot`, which each slot of a program meets, keeps the next slot from overflowing.
+    /// The slot to which an instruction at `slot` may jump, if these are its successors: the next slot, `slot + 1`, plus the jump's offset
+    /// in slots. `None` if there is no jump, or if the target is below slot 0. The target may be past the program's end, which is not
+    /// tested here. A slot of a program is below `MAX_SLOTS`, so it meets the precondition, by which `slot + 1` does not overflow.
     #[inline(always)]
     pub fn target(self, slot: usize) -> Option<usize>
         requires { slot ≤ MAX_SLOTS }
@@ -247,7 +253,8 @@ impl Successors {
 impl Reference {
     ghost use Rattle.insn_set.specs.Flow.{descriptor_by};
 
-    /// The descriptor of the map that the instruction names, or whose first value it names; `None` if it names neither.
+    /// The descriptor of the map that an instruction with this reference names (`Map`), or a byte of whose first value it names (`Value`).
+    /// `None` if it names a helper or nothing.
     #[inline(always)]
     pub fn descriptor(self) -> Option<u32>
         ensures { result ≡ descriptor_by self }

@@ -26,7 +26,8 @@ pub struct RawSlot {
 impl RawSlot {
     ghost use Rattle.insn_set.specs.Slot.{fields, slot_bytes, slot_of};
 
-    /// Reads the slot at the front of the bytes; `None` if there are fewer than eight.
+    /// Reads the slot in the first eight of `bytes` (`some`). Later bytes are ignored, so a caller may give all that is left of a program.
+    /// `None` exactly if there are fewer than eight (`long`, `none`).
     pub fn first(bytes: &[u8]) -> Option<RawSlot>
         ensures some { IfSome result (λ slot. fields slot ≡ slot_of bytes.now) }
         ensures long { IfSome result (λ slot. 8 ≤ length bytes.now) }
@@ -38,7 +39,7 @@ impl RawSlot {
         Some(RawSlot::in_front(bytes))
     }
 
-    /// Reads the slot in the first eight bytes. The caller has checked that there are eight.
+    /// Reads the slot in the first eight bytes, without a test. The caller, `first`, has checked that there are eight.
     #[inline(always)]
     #[tactic(auto, unfolding(crate::specs::Slot::slot_of))]
     fn in_front(bytes: &[u8]) -> RawSlot
@@ -57,7 +58,7 @@ impl RawSlot {
         }
     }
 
-    /// The number in the field of the destination register, the low four bits of `registers`: 0 to 15.
+    /// The number in the field of the destination register, the low four bits of `registers`: 0 to 15, of which only 0 to 10 are registers.
     #[inline(always)]
     pub fn dst(&self) -> u8
         ensures { result ≡ (fields self.now).dst }
@@ -73,7 +74,8 @@ impl RawSlot {
         self.registers / 16
     }
 
-    /// Whether the fields of both registers are zero.
+    /// Whether the fields of both registers are zero, as they have to be in a slot that uses no register (RFC 9669, section 3.1). True also
+    /// of a slot that uses register 0 in both fields.
     #[inline(always)]
     pub fn has_no_register(&self) -> bool
         ensures { result ≡ ((fields self.now).dst == 0 && (fields self.now).src == 0) }
@@ -81,7 +83,8 @@ impl RawSlot {
         self.registers == 0
     }
 
-    /// The slot's eight bytes: the opcode, the registers, the offset and the immediate, both little-endian.
+    /// The slot's eight bytes: the opcode, the byte of both registers, the offset in two bytes and the immediate in four, both
+    /// little-endian.
     pub fn bytes(&self) -> [u8; 8]
         ensures { result ≡ slot_bytes (fields self.now) }
     {

@@ -3,7 +3,9 @@
 ghost use Rattle.std.specs.Prelude.{◌≡◌};
 ghost use Rattle.insn_set.specs.Table.{shown, by_number, by_symbol, names, named};
 
-/// The value of the first row with this number; `None` if there is no such row. A row has a value, its number and its symbol.
+/// The value of the first row with this number; `None` if there is no such row. A row has a value, its number and its symbol. The number is
+/// the opcode of a load, or the immediate of an atomic operation. `shown` has the rows as definitions read them, with the bytes of each
+/// symbol.
 #[inline(always)]
 pub(crate) fn by_number<T: Copy>(rows: &[(T, u32, &str)], number: u32) -> Option<T>
     ensures { result ≡ by_number (shown rows.now) number }
@@ -28,7 +30,8 @@ pub(crate) fn by_symbol<T: Copy>(rows: &[(T, u32, &str)], symbol: &str) -> Optio
     None
 }
 
-/// The value of the first row with this name; `None` if there is no such row. A row has a name and its value.
+/// Looks up a name from a program's text in a table, in which a row has a name and its value: returns the value of the first row with this
+/// name; `None` if there is no such row. Byte-order conversions and sign extensions have such tables, and registers in `text_line`.
 pub fn named<T: Copy>(rows: &[(&str, T)], name: &str) -> Option<T>
     ensures { result ≡ named (names rows.now) name.now }
 {

@@ -13,8 +13,9 @@ use Rattle.interval.specs.Ranges.{span, is_constant, IsMember}
 abbrev pub RangePair : Type 0
 RangePair = Range × Range
 
--- the ranges of the two operands on an edge, exchanged, since a comparison `a below b` is refined
--- as `b above a`; None if the edge can't be taken
+-- the ranges of the two operands on an edge, exchanged. `edges` does this, since it refines
+-- `a below b` as `b above a`, and `a above or equal b` as `b at most a`. None, an edge that can't
+-- be taken, is not changed
 abbrev pub swapped : Option RangePair → Option RangePair
 swapped None = None
 swapped (Some p) = Some (p.1, p.0)
@@ -89,7 +90,8 @@ abbrev pub refined : ℕ → Condition → Range → Range → EdgePairs
 refined n condition a b =
     if nat_lt a.hi (2 ^ n) && nat_lt b.hi (2 ^ n) then edges condition a b else unchanged a b
 
--- x and y are members of the ranges on the edge; not so on an edge that can't be taken (None)
+-- x, the first operand's value, and y, the second's, are members of the ranges on the edge; false
+-- on an edge that can't be taken (None)
 abbrev pub IsPairOn : Option RangePair → ℕ → ℕ → Type 0
 IsPairOn None x y = ⊥
 IsPairOn (Some p) x y = IsMember x p.0 × IsMember y p.1

@@ -129,8 +129,9 @@ abbrev pub are_alu_constants : AluOp → Range → Range → Bool
 are_alu_constants Mov a b = is_constant b
 are_alu_constants op a b = is_constant a && is_constant b
 
--- whether each operand that the operator reads is one number: a sign extension only reads the
--- second, a change of sign and a byte-order conversion only the first
+-- whether each operand that the operator reads is one number, so that the result is one too. a is
+-- the range of the destination, b that of the source. A move and a sign extension read only the
+-- source, a change of sign and a byte-order conversion only the destination, all others both
 abbrev pub are_constants : Operator → Range → Range → Bool
 are_constants (Binary op) a b = are_alu_constants op a b
 are_constants Neg a b = is_constant a

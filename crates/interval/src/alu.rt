@@ -13,8 +13,9 @@ use crate::range::{Range, greatest};
 use crate::shifts::{shift_left, shift_right, sign_extend, signed_shift_right};
 use words::{AluOp, KeptBits, Operator, words32, words64};
 
-/// The range of the results of `op` on 64 bits, as the table of ranges (`range_of`) gives it: it includes the result of every two members.
-/// An operand that `op` does not read is ignored.
+/// The range of the results of `op` on 64 bits, for first operands (destinations) in `a` and second ones (sources) in `b`. `exact`: it is
+/// that of the table of ranges (`range_of`). `sound`: it includes the result of every two members. An operand that `op` does not read is
+/// ignored: a move and a sign extension read only the second one, a change of sign and a byte-order conversion only the first.
 #[inline(always)]
 pub fn alu64(op: Operator, a: Range, b: Range) -> Range
     ensures exact { result ≡ range_of 64 op a b }
@@ -26,9 +27,10 @@ pub fn alu64(op: Operator, a: Range, b: Range) -> Range
     }
 }
 
-/// The range of the results of `op`, an operator of two operands or a move, on 64 bits, for first operands in `a` and second ones in `b`:
-/// one number if the range of each operand that `op` reads has only one number, else that of `alu_range`. `alu64` calls this function for
-/// most operators, after one test; those of one operand it gives to `any64`.
+/// The range of the results of `op`, an operator of two operands or a move, on 64 bits, for first operands in `a` and second ones in `b`; a
+/// move reads only the second one. The range has one number if the range of each operand that `op` reads has only one, else it is that of
+/// `alu_range`. So it is what the table of ranges gives (`exact`), and includes the result of every two members (`sound`). `alu64` calls
+/// this function after one test, for most operators. It gives the others, which have one operand, to `any64`.
 fn binary64(op: AluOp, a: Range, b: Range) -> Range
     ensures exact { result ≡ range_of 64 (Binary op) a b }
     ensures sound { (x y : ℕ) → IsMember x a → IsMember y b
@@ -41,9 +43,11 @@ fn binary64(op: AluOp, a: Range, b: Range) -> Range
     }
 }
 
-/// The range of the results of `op` on 64 bits: a single number if the range of each operand that `op` reads is a single number, else the
-/// range that `general_range` gives. The function is right for each operator, but `alu64` calls it only for the operators of one operand;
-/// those of two operands go to `binary64`.
+/// The range of the results of `op` on 64 bits, as the table of ranges gives it (`exact`): it includes the result for every member of `a`
+/// and every member of `b` (`sound`). It is a single number if the range of each operand that `op` reads is a single number, else the range
+/// that `general_range` gives. The contract holds for each operator, but `alu64` calls this function only for the operators of one operand:
+/// a sign extension, which reads only `b`, a change of sign and a byte-order conversion, which read only `a`. Those of two operands and
+/// moves go to `binary64`.
 fn any64(op: Operator, a: Range, b: Range) -> Range
     ensures exact { result ≡ range_of 64 op a b }
     ensures sound { (x y : ℕ) → IsMember x a → IsMember y b → IsMember (operate 64 op x y) result }
@@ -55,9 +59,10 @@ fn any64(op: Operator, a: Range, b: Range) -> Range
     }
 }
 
-/// The range of the results of `op` on 32 bits, as the table of ranges (`range_of`) gives it: it includes the result of every two members.
-/// An operand that may be 2^32 or more is truncated first. A byte-order conversion reads all 64 bits of its operand, so its range is that
-/// on 64 bits.
+/// The range of the results of `op` on 32 bits, for first operands in `a` and second ones in `b`. By `exact` it is the range that the table
+/// of ranges (`range_of`) gives, and by `sound` it includes the result for each member of `a` and each of `b`. An operation reads the low
+/// 32 bits of an operand, so a range with a member of 2^32 or more is first replaced by a range of the low halves of its members. But a
+/// byte-order conversion reads all 64 bits of its operand, so its range is that of the operation on 64 bits.
 pub fn alu32(op: Operator, a: Range, b: Range) -> Range
     ensures exact { result ≡ range_of 32 op a b }
     ensures sound { (x y : ℕ) → IsMember x a → IsMember y b → IsMember (operate 32 op x y) result }
@@ -74,8 +79,9 @@ pub fn alu32(op: Operator, a: Range, b: Range) -> Range
     }
 }
 
-/// The range of the members' low 32 bits: the range itself if all members have 32 bits, one number if there is one member, else all 32-bit
-/// numbers.
+/// The range of the low 32 bits of the members of `r`, which are what an operation on 32 bits reads (`value`): `r` itself if all members
+/// are below 2^32, one number if `r` has only one member, else all 32-bit numbers. `bound`: each number of the result is below 2^32, as
+/// `general_range` requires of operands of 32 bits.
 fn range_of_low_word(r: Range) -> Range
     ensures value { result ≡ operand_range 32 r }
     ensures bound { result.hi < 2 ^ 32 }
@@ -89,8 +95,9 @@ fn range_of_low_word(r: Range) -> Range
     }
 }
 
-/// Whether the range of each operand that `op` reads has only one member. `a` is the range of the destination, `b` that of the source. A
-/// sign extension reads only the source, a change of sign and a byte-order conversion only the destination.
+/// Whether the range of each operand that `op` reads has only one member: then callers compute the one result of `op`. `a` is the range of
+/// the destination, `b` that of the source. A move and a sign extension read only the source, a change of sign and a byte-order conversion
+/// only the destination, any other operator both.
 fn are_constants(op: Operator, a: Range, b: Range) -> bool
     ensures { result ≡ are_constants op a b }
 {
@@ -101,8 +108,9 @@ fn are_constants(op: Operator, a: Range, b: Range) -> bool
     }
 }
 
-/// Whether all operands that `op` reads are constants: their ranges, `a` and `b`, have one member each. A move reads only the second
-/// operand.
+/// Whether all operands that `op` reads are constants: the range `a` of the first and the range `b` of the second have one member each. A
+/// move reads only the second operand, so for a move `a` does not count. `are_constants` is for all operators, this function for those of
+/// `AluOp`.
 fn are_alu_constants(op: AluOp, a: Range, b: Range) -> bool
     ensures { result ≡ are_alu_constants op a b }
 {
@@ -112,9 +120,11 @@ fn are_alu_constants(op: AluOp, a: Range, b: Range) -> bool
     }
 }
 
-/// The range of an operator's results on first operands in `a` and second ones in `b`, all of 64 bits (`wide`) or 32; `alu32` has truncated
-/// the operands. A change of sign may give all numbers of that width, a byte-order conversion all numbers of as many bits as it keeps. A
-/// sign extension reads only the second operand. If the operands that the operator reads are constants, callers compute the result instead.
+/// The range of the results of `op`, from the ends of its operands' ranges: for first operands in `a` and second ones in `b`, all of 64
+/// bits (`wide`) or 32, as the preconditions require; `alu32` has truncated the operands to 32 bits. A change of sign may give all numbers
+/// of that width, a byte-order conversion all numbers of as many bits as it keeps. A sign extension reads only the second operand. For
+/// constants the range may be wider than needed: if each operand that `op` reads has only one member, the callers (`any64`, `alu32`)
+/// compute the result instead.
 fn general_range(wide: bool, op: Operator, a: Range, b: Range) -> Range
     requires first { a.hi < 2 ^ width wide }
     requires second { b.hi < 2 ^ width wide }
@@ -128,8 +138,10 @@ fn general_range(wide: bool, op: Operator, a: Range, b: Range) -> Range
     }
 }
 
-/// The range of the results of an operator of two operands on 64 bits (`wide`) or 32, for first operands in `a` and second ones in `b`, of
-/// that width. Signed divisions and remainders give all numbers. If both operands are constants, callers compute the result instead.
+/// The range of the results of an operator of two operands on 64 bits (`wide`) or 32, for first operands in `a` and second ones in `b`,
+/// numbers of that width (`first`, `second`). Signed divisions and remainders give all numbers of the width; a move reads only `b`. If each
+/// operand that `op` reads is a constant, callers compute the result instead. No clause requires that: the range here has that result too,
+/// and maybe other numbers.
 fn alu_range(wide: bool, op: AluOp, a: Range, b: Range) -> Range
     requires first { a.hi < 2 ^ width wide }
     requires second { b.hi < 2 ^ width wide }
@@ -153,7 +165,7 @@ fn alu_range(wide: bool, op: AluOp, a: Range, b: Range) -> Range
     }
 }
 
-/// All numbers of `bits` bits, the range of a byte-order conversion that keeps these bits.
+/// All numbers of 16, 32 or 64 bits, as many as a byte-order conversion keeps of its operand (`bits`): the range of its results.
 fn full_of(bits: KeptBits) -> Range
     ensures { result ≡ full (kept_bits bits) }
 {

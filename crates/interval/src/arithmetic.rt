@@ -7,8 +7,9 @@ ghost use Rattle.interval.specs.Table.{sum_range, difference_range, product_rang
 
 use crate::range::{Range, greatest};
 
-/// The range of the sums of members, numbers of 64 bits (`wide`) or 32, modulo 2^64 or 2^32: exact if none wraps or all do, else all
-/// numbers. The tests compare with differences from the greatest number, so nothing overflows.
+/// The range of the sums of a member of `a` and a member of `b`, modulo 2^64 (`wide`) or 2^32: exact if no sum wraps or all do, else all
+/// numbers of 64 or 32 bits. The members are numbers of this width (`first`, `second`). The tests compare with differences from the
+/// greatest number of the width, and sums that all wrap are reduced by such differences, so nothing overflows.
 pub(crate) fn sum(wide: bool, a: Range, b: Range) -> Range
     requires first { a.hi < 2 ^ width wide }
     requires second { b.hi < 2 ^ width wide }
@@ -24,9 +25,9 @@ pub(crate) fn sum(wide: bool, a: Range, b: Range) -> Range
     }
 }
 
-/// The range of the differences, modulo 2^64 (`wide`) or 2^32, of a member of `a` minus a member of `b`: exact if no difference wraps or
-/// all do, else all numbers of 64 or 32 bits. If all wrap, 2^64 or 2^32 is added in two steps, the greatest number first and 1 last, so
-/// that no sum overflows.
+/// The range of the differences, modulo 2^64 (`wide`) or 2^32, of a member of `a` minus a member of `b`. By the preconditions all members
+/// are numbers of 64 or of 32 bits. The range is exact if no difference wraps (is below 0) or all do, else it is all numbers of 64 or 32
+/// bits. If all wrap, 2^64 or 2^32 is added in two steps, the greatest number of the width first and 1 last, so that no sum overflows.
 pub(crate) fn difference(wide: bool, a: Range, b: Range) -> Range
     requires first { a.hi < 2 ^ width wide }
     requires second { b.hi < 2 ^ width wide }
@@ -42,8 +43,9 @@ pub(crate) fn difference(wide: bool, a: Range, b: Range) -> Range
     }
 }
 
-/// The range of the products of a member of `a` and one of `b`, modulo 2^64 (`wide`) or 2^32. It is all numbers of this width if the
-/// greatest product is above the greatest of them. `checked_mul` gives `None` for a product of more than 64 bits.
+/// The range of the products of a member of `a` and one of `b`, modulo 2^64 (`wide`) or 2^32; the members are below that power (`first`,
+/// `second`). If the greatest product, that of both high ends, is below the power too, none wraps, and the range is from the product of the
+/// low ends to that of the high ends. Else it is all numbers of this width. `checked_mul` gives `None` for a product of more than 64 bits.
 pub(crate) fn product(wide: bool, a: Range, b: Range) -> Range
     requires first { a.hi < 2 ^ width wide }
     requires second { b.hi < 2 ^ width wide }
@@ -55,8 +57,9 @@ pub(crate) fn product(wide: bool, a: Range, b: Range) -> Range
     }
 }
 
-/// The range of the unsigned quotients of a member of `a` by a member of `b`. If the divisor, in `b`, may be 0, the range is from 0 to the
-/// greatest dividend, since a quotient by 0 is 0 and no quotient is above its dividend.
+/// The range of the unsigned quotients of a dividend in `a` by a divisor in `b`: from the least dividend by the greatest divisor, to the
+/// greatest dividend by the least divisor. If the divisor may be 0, the range is from 0 to the greatest dividend, since a quotient by 0 is
+/// 0 and no quotient is above its dividend.
 pub(crate) fn quotient(a: Range, b: Range) -> Range
     ensures { result ≡ quotient_range a b }
 {
@@ -67,8 +70,8 @@ pub(crate) fn quotient(a: Range, b: Range) -> Range
     }
 }
 
-/// The range of the unsigned remainders of members: from 0 to the greatest dividend, and below the greatest divisor if no divisor is 0. A
-/// remainder by 0 is the dividend.
+/// The range of the unsigned remainders of a dividend in `a` and a divisor in `b`, of 64 bits or 32: from 0 to the greatest dividend, and
+/// below the greatest divisor if no divisor is 0. A remainder by 0 is the dividend. The range has every remainder, and maybe other numbers.
 pub(crate) fn remainder(a: Range, b: Range) -> Range
     ensures { result ≡ remainder_range a b }
 {

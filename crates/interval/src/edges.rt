@@ -12,9 +12,11 @@ use words::Condition;
 /// The ranges of the first and the second operand on an edge of a conditional jump; `None` if no two members take the edge.
 pub type Edge = Option<(Range, Range)>;
 
-/// Refines the ranges of both operands of a conditional jump on 64 bits (`wide`) or 32: the first result is the edge that jumps, the second
-/// the one that falls through. The ranges on an edge include every two members that take it. They are not changed if the condition is
-/// signed or a test of common bits, or if an operand may be 2^32 or more on 32 bits, as only its low half is compared.
+/// Refines the ranges `a` and `b` of the operands of a conditional jump on 64 bits (`wide`) or 32. The first result is the edge that jumps,
+/// on which the condition holds; the second is the one that falls through, on which it fails. `None` is an edge that no two members take.
+/// Every two members are in the ranges of the edge that they take (`taken`, `not_taken`); `exact` has which ranges these are. They are `a`
+/// and `b` if the condition is signed or a test of common bits, or if an operand may be 2^32 or more on 32 bits, as only its low half is
+/// compared.
 pub fn refine(condition: Condition, wide: bool, a: Range, b: Range) -> (Edge, Edge)
     ensures exact { result ≡ refined (width wide) condition a b }
 
@@ -42,8 +44,8 @@ pub fn refine(condition: Condition, wide: bool, a: Range, b: Range) -> (Edge, Ed
     }
 }
 
-/// The edge with the ranges of its two operands swapped. `None` is an edge that no two members take, and stays `None`. `refine` needs the
-/// swap since it refines `a` below `b` as `b` above `a`.
+/// The edge with the ranges of its two operands swapped. `None`, an edge that no two members of the ranges take, is unchanged. `refine`
+/// needs the swap since it refines `a` below `b` as `b` above `a`, and `a` above or equal to `b` as `b` at most `a`.
 fn swapped(edge: Edge) -> Edge
     ensures { result ≡ swapped edge }
 {
@@ -53,7 +55,8 @@ fn swapped(edge: Edge) -> Edge
     }
 }
 
-/// The edge on which the operands are equal: both are in the intersection of the ranges, and `None` if it is empty.
+/// The ranges of the operands, the first of range `a` and the second of range `b`, on the edge on which they are equal: both have the
+/// intersection of `a` and `b`. `None` if it is empty: then no two members take the edge.
 fn if_equal(a: Range, b: Range) -> Edge
     ensures { result ≡ if_equal a b }
 {
@@ -66,8 +69,10 @@ fn if_equal(a: Range, b: Range) -> Edge
     Some((both, both))
 }
 
-/// The edge on which the operands differ. If one is a constant that is an end of the other's range, that range loses this end; else both
-/// ranges are unchanged. `None` if both are constants, and equal.
+/// The ranges of the operands of a comparison, the first in `a` and the second in `b`, on the edge on which they differ: the jumping edge
+/// for `NotEqual`, the falling edge for `Equal`. If one range has only one member, and this is an end of the other range, the other range
+/// loses this end; else both ranges are unchanged. `None`, an edge that is never taken, if each range has only one member, and both members
+/// are equal.
 fn if_different(a: Range, b: Range) -> Edge
     ensures { result ≡ if_different a b }
 {
@@ -82,8 +87,8 @@ fn if_different(a: Range, b: Range) -> Edge
     }
 }
 
-/// `r` without `value`, if `value` is one of its ends; `None` if no member is left. Else `r` itself: a number between the ends can't be
-/// taken out of a range.
+/// The range `r` without the number `value`. If `value` is an end of `r`, the range loses this end; `None` if no member is left. If `value`
+/// is no end of `r`, the result is `r` itself, since a range has no gaps: a number between the ends can't be taken out.
 fn except(r: Range, value: u64) -> Option<Range>
     ensures { result ≡ except r value }
 {
@@ -98,8 +103,9 @@ fn except(r: Range, value: u64) -> Option<Range>
     }
 }
 
-/// The ranges of the operands on the edge on which the first, of range `a`, is above the second, of range `b`: the first is also above the
-/// least member of `b`, the second below the greatest of `a`. `None` if no member of `a` is above one of `b`.
+/// The ranges of the operands on the edge on which the first, of range `a`, is above the second, of range `b`. The first keeps the members
+/// of `a` that are above the least of `b`, and the second the members of `b` that are below the greatest of `a`. `None` if no member of `a`
+/// is above any of `b`: then no two members take the edge.
 fn if_above(a: Range, b: Range) -> Edge
     ensures { result ≡ if_above a b }
 {

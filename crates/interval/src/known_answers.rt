@@ -3,7 +3,8 @@
 use crate::{Range, alu32, alu64, hull, refine};
 use words::{AluOp, Condition, Operator};
 
-/// The sums of 0 to 7 and 250 to 255 are 250 to 262; those of 2^32 - 1 and 1 to 2, on 32 bits, all wrap to 0 to 1.
+/// On 64 bits, the sums of a number from 0 to 7 and a number from 250 to 255 are from 250 to 262. On 32 bits, the sums of 2^32 - 1 and a
+/// number from 1 to 2 all wrap, so they are from 0 to 1.
 fn ranges_of_sums() {
     let sum = alu64(
         Operator::Binary(AluOp::Add),
@@ -21,15 +22,16 @@ fn ranges_of_sums() {
     prove!(wrapped.hi == 1);
 }
 
-/// The hull of 1 to 4 and 3 to 9 is 1 to 9.
+/// The hull of 1 to 4 and 3 to 9, the least range with the members of both, is 1 to 9.
 fn range_of_both() {
     let both = hull(Range::new(1, 4), Range::new(3, 9));
     prove!(both.lo == 1);
     prove!(both.hi == 9);
 }
 
-/// On 64 bits (`true`), a number of 0 to 255 is compared with 7: on the edge on which it is above 7, its range is 8 to 255, on the other
-/// edge 0 to 7. Then 0 is compared with 1: the edge on which they are equal can't be taken.
+/// `refine` on 64 bits (`true`) returns the edge on which the condition holds, and then the other edge. A number of 0 to 255 is compared
+/// with 7: on the edge on which it is above 7, its range is 8 to 255, on the other edge 0 to 7. Then 0 is compared with 1: the edge on
+/// which they are equal can't be taken (`None`).
 fn edges_of_a_jump() {
     let (above, at_most) = refine(
         Condition::Above,

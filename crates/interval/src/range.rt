@@ -25,7 +25,7 @@ impl Range {
         Range { lo, hi }
     }
 
-    /// The range of only `value`.
+    /// The range whose only member is `value`.
     pub fn constant(value: u64) -> Range
         ensures { result ≡ constant value }
     {
@@ -35,7 +35,8 @@ impl Range {
         }
     }
 
-    /// All numbers of 64 bits (`wide`), or of 32.
+    /// All unsigned numbers of 64 bits (`wide`), 0 to 2^64 - 1, or of 32 bits, 0 to 2^32 - 1: the range of a number of which only the width
+    /// is known.
     pub fn full(wide: bool) -> Range
         ensures { result ≡ full (width wide) }
     {
@@ -45,7 +46,7 @@ impl Range {
         }
     }
 
-    /// Whether there is exactly one member.
+    /// Whether the range has exactly one member, so that the number is known.
     pub fn is_constant(self) -> bool
         ensures { result ≡ is_constant self }
     {
@@ -53,7 +54,7 @@ impl Range {
     }
 }
 
-/// The greatest number of 64 bits (`wide`), or of 32. The contract names the number after it, a power of 2.
+/// The greatest number of 64 bits (`wide`), or of 32. By the contract the number after it is 2^64 or 2^32.
 pub(crate) fn greatest(wide: bool) -> u64
     ensures { result + 1 ≡ 2 ^ width wide }
 {

@@ -21,9 +21,11 @@ fn separator(style: LogStyle) -> &'static str {
     }
 }
 
-/// The log of a program, if descriptors name the objects of `named`: whether it is accepted, the facts before its instructions (`facts` of
-/// `Log`), and a text, as lines or as a graph (`style`). As lines the text ends with the verdict: a line with the cost and the line
-/// `accepted`, or the line of the refusal and then why. As a graph it has the text of a refusal in the block of the rejected instruction.
+/// The log of a program, verified with the open descriptors and their objects, which are listed in `named`. It has three parts: whether the
+/// program is accepted (`verdict`); the facts before each instruction that a run may reach (`facts`), of an unsafe program only up to the
+/// rejected one, and none if its shape has a fault; and a text, as lines or as a graph (`style`). Lines end with the verdict (`said`): a
+/// line with the cost and the line `accepted`, or the line of the refusal and then why. A graph has a refusal and why in the block of the
+/// rejected instruction.
 ///
 /// # Errors
 ///

@@ -19,7 +19,9 @@ pub struct SlotsLog {
     pub is_accepted: bool,
 }
 
-/// The log of slots that are no program, for this fault of the codec: the line of their refusal. The error is out of memory for the text.
+/// The log of slots that are no program, in which `fault` is why the codec rejects them. Its text, in each style of a log, is the line of
+/// their refusal with a line feed, and `is_accepted` is false (`SaysNoProgram`). `log_of_slots` does not call this function for the fault
+/// `Memory`, but that is not required here. `AllocError`: out of memory for the text.
 fn refused(alloc: Global, fault: CodecFault) -> Result<SlotsLog, AllocError>
     ensures { IfOk result (λ log. SaysNoProgram fault log.is_accepted (string_bytes log.text)) }
 {
@@ -30,8 +32,10 @@ fn refused(alloc: Global, fault: CodecFault) -> Result<SlotsLog, AllocError>
     })
 }
 
-/// The log that `log_of` makes of a program, without its facts: lines or a graph (`style`). `named` lists the open descriptors and the
-/// objects that they name. `AllocError`: out of memory.
+/// The log of a program as `log_of` makes it, but without its list of facts, which no `SlotsLog` has: the text, as lines or as a graph
+/// (`style`), and whether the program is accepted. `named` lists the open descriptors and the objects that they name. The contract
+/// (`IsLogOfProgram`): `is_accepted` is true exactly if the verifier accepts the program, and the text ends in the verdict, unless it is a
+/// graph. `AllocError`: out of memory.
 fn log_without_facts(
     alloc: Global,
     program: &Program,
@@ -49,8 +53,10 @@ fn log_without_facts(
     Ok(SlotsLog { text, is_accepted })
 }
 
-/// The log of the program that the bytes of slots spell, if descriptors name the objects of `named`. If the bytes spell no program, the log
-/// is the line of their refusal. If decoding them runs out of memory (the fault `Memory`), that is an error, no refusal.
+/// The log of the program that the bytes `slots` spell, as lines or as a graph (`style`). `named` lists the open descriptors with the
+/// objects that they name. If the bytes spell no program, `is_accepted` is false, and the text is the line of their refusal, in each style.
+/// Otherwise `is_accepted` is the verdict, and the lines end with the verdict; of the text of a graph, nothing is promised
+/// (`IsLogOfSlots`). If decoding runs out of memory (the fault `Memory`), that is an error, no refusal.
 ///
 /// # Errors
 ///

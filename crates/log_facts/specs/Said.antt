@@ -27,8 +27,10 @@ cost_line cost =
 abbrev pub refusal_line : VerifyFault → List ℕ
 refusal_line fault = refusal_text (refusal_of_program fault) ++ 10 ∷ []
 
--- the text `new` is the text `old` and then the verdict: the line of the cost and the line
--- `accepted`, or the line of a refusal and any text after it
+-- the text `new` is the text `old` and then the verdict. For an accepted program (Ok) the verdict
+-- is the line of the cost and the line `accepted`. For a rejected one (Err) it is the line of the
+-- refusal, with the slot and the number of the reason, and then `more`: the reason in words, which
+-- may be any text here
 abbrev pub AddsVerdict : Result Cost VerifyFault → List ℕ → List ℕ → Type 0
 AddsVerdict (Ok cost) old new = new ≡ old ++ cost_line cost ++ accepted_line
 AddsVerdict (Err fault) old new = (more : List ℕ) × (new ≡ old ++ refusal_line fault ++ more)

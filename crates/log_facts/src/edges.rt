@@ -32,7 +32,8 @@ fn refine(facts: &mut Facts, dst: Reg, src: &Operand, ranges: Option<(Range, Ran
 }
 
 impl Edges {
-    /// No edges. Both fields of facts are `filler`, any facts: they mean nothing, since both flags are false.
+    /// No edges, for `leave` to overwrite. Both fields of facts need a value, and get a copy of `filler`, any facts that the caller has:
+    /// they mean nothing, since both flags are false.
     pub fn none(filler: &Facts) -> Edges {
         Edges {
             falls: false,
@@ -42,9 +43,10 @@ impl Edges {
         }
     }
 
-    /// Sets which edges out of an instruction a run may take, and refines the facts on them. `flow` is the result of its transfer function.
-    /// Before the call, `falling` and `jumping` both have the facts after the instruction. A comparison sets the ranges of its operands on
-    /// each edge. A null test settles its look-up: the look-up's result is null on one edge, and not on the other.
+    /// Takes over `flow`, the result of an instruction's transfer function: sets which edges out of the instruction a run may take, and
+    /// refines the facts on them. Before the call, `falling` and `jumping` both have the facts after the instruction. A comparison sets the
+    /// ranges of its operands on each edge; an edge for which it has no ranges (`None`) is never taken. A null test settles the look-up at
+    /// `site`: its result is null on one edge, the jumping one if `jumps_on_null`, and not on the other.
     fn take(&mut self, flow: &Flow) {
         (self.falls, self.jumps) = match *flow {
             Flow::Ends => (false, false),

@@ -5,7 +5,8 @@ use reg_kinds::{Kind, ValuePointer};
 use std::alloc::AllocError;
 use std::fmt::Write;
 
-/// Writes a number, and after one of 2^63 or more its value as a signed number, in parentheses. The error is out of memory.
+/// Writes `number` in decimal. If it is 2^63 or more, its value as a signed number follows in parentheses: `18446744073709551615 (-1)`. The
+/// error is out of memory.
 fn write_number(text: &mut String, number: u64) -> Result<(), AllocError> {
     let signed = number.cast_signed();
     if signed < 0 {
@@ -15,7 +16,8 @@ fn write_number(text: &mut String, number: u64) -> Result<(), AllocError> {
     }
 }
 
-/// Writes a range: its one number, `any number` for all of 64 bits, or the least and the greatest number.
+/// Writes a range: its number if it has only one, and after a number of 2^63 or more its signed value in parentheses; `any number` for all
+/// of 64 bits; else the least and the greatest number, as `0 to 9`.
 ///
 /// # Errors
 ///
@@ -43,8 +45,8 @@ fn write_offset_from(text: &mut String, name: &str, offset: i32) -> Result<(), A
     }
 }
 
-/// Writes a pointer into a map's value: the map's descriptor, and the offset in bytes, or the least and the greatest that it may have. The
-/// error is out of memory.
+/// Writes a pointer into a map's value, as `value of map 3, offset 0 to 7`: the map's descriptor, and the offset in bytes from the start of
+/// the value, or the least and the greatest that it may have, both included. The error is out of memory.
 fn write_value_pointer(text: &mut String, pointer: ValuePointer) -> Result<(), AllocError> {
     let (map, lo, hi) = (pointer.map, pointer.lo, pointer.hi);
     write!(text, "value of map {map}, offset {lo}")?;
@@ -55,7 +57,9 @@ fn write_value_pointer(text: &mut String, pointer: ValuePointer) -> Result<(), A
     }
 }
 
-/// Writes the kind of a register or a stack slot, by the values that it admits, as `any number` or `stack - 8`.
+/// Writes the kind of a register or a stack slot, by the values that it admits: `not readable`, `any number` or a range as `5 to 9`,
+/// `context`, `map 3` (the descriptor), `stack - 8` (bytes from the stack's upper end), or `value of map 3, offset 0` (bytes from the
+/// value's start). The result of a look-up that no null test has settled has `or null` and the slot of the look-up too.
 ///
 /// # Errors
 ///

@@ -34,9 +34,10 @@ pub struct Log {
 }
 
 impl Judged {
-    /// The log with this text, and with the facts and the verdict of `self`. For each program with this verdict and these facts
-    /// (`IsJudged`), `is_accepted` is whether the program is accepted, and the log has its facts; if `text` ends in the verdict of `self`,
-    /// the log's text says the program's verdict.
+    /// Makes the log with this text, and with the facts and the verdict of `self`. The other clauses hold for each program `code`, verified
+    /// with the objects `named`, of which `self` has the facts and the verdict (`IsJudged`): `is_accepted` is whether the program is
+    /// accepted (`verdict`), and the log has its facts (`facts`). If `text` ends in the verdict of `self`, as a listing does and a graph
+    /// does not, it ends in that on the program: the cost of an accepted one, or the slot and the reason for which it is rejected (`said`).
     pub fn into_log(self, text: String) -> Log
         ensures text { result.text ≡ text }
         ensures verdict { (code : List Insn) (named : List Named)

@@ -19,7 +19,9 @@ pub struct KnownFacts {
     pub facts: Facts,
 }
 
-/// Facts in which nothing is known: no register is readable, and no byte of the stack is written.
+/// Facts in which nothing is known: no register is readable, and no byte of the stack is written (each stack slot has the mask 0). A log
+/// compares the facts before its first instruction with these; if it shows all facts, it compares those before each instruction with these.
+/// If the pass reached no instruction, the reason of a rejection is written with these.
 pub fn nothing_known() -> Facts {
     Facts {
         registers: [Kind::Unreadable; REGISTERS],
@@ -40,7 +42,8 @@ impl Watcher for Recorder {
     // What contracts see of a recorder: the slots and facts that it keeps.
     ghost seen = { λ r. Some (facts_by_slot r.known.items) };
 
-    /// Appends the facts before the instruction at `slot`.
+    /// Appends `slot`, and a copy of the facts before the instruction there, to the list of the recorder. The pass calls this for each
+    /// instruction that it reaches, once and in the order of the slots. `AllocError`: out of memory for the list; then the pass ends.
     fn before(&mut self, slot: usize, facts: &Facts) -> Result<(), AllocError> {
         let facts = *facts;
         self.known.push(KnownFacts { slot, facts })?;
@@ -57,8 +60,10 @@ pub struct Judged {
     pub verdict: Result<Cost, VerifyFault>,
 }
 
-/// Verifies a program, and keeps what is known before each instruction that the pass reaches. `named` has the open descriptors, each with
-/// the object that it names.
+/// Verifies a program for the log, with the open descriptors `named`, each with the object that it names. Returns the verdict, the
+/// program's cost or the fault for which it is rejected, and in `known` the facts before the instructions that the pass reached, in order
+/// (`IsJudged`). If the program is accepted, these are all instructions that a run may reach. If a rule of safety rejects it, the last is
+/// that of the fault. If its shape is rejected, there is none.
 ///
 /// # Errors
 ///

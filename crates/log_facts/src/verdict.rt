@@ -8,12 +8,14 @@ use std::alloc::AllocError;
 use std::fmt::Write;
 use verifier::{Cost, Refusal, VerifyFault};
 
-/// Whether a reason concerns a program's shape: these have the numbers 1 to 9. Those of safety, and `Memory`, are numbered from 20 on.
+/// Whether the reason of a rejection concerns the program's shape: these have the numbers 1 to 9. Those of safety, and `Memory`, are
+/// numbered from 20 on. Of a program that is rejected for its shape no facts are known, since the verifier tests the shape before its pass.
 pub fn is_of_shape(reason: Reason) -> bool {
     reason.number() < 20
 }
 
-/// Writes the first line of a refusal, with its slot and the number of its reason. The error is out of memory.
+/// Appends to `text` the first line of a refusal (`refusal_line`), `refused: slot SLOT reason NUMBER`, with its line feed: the slot of
+/// `fault` and the number of its reason. `write_refusal` then appends the reason in words. The error is out of memory.
 fn write_fault(text: &mut String, fault: VerifyFault) -> Result<(), AllocError>
     ensures { OnOk result (string_bytes text.new ≡ string_bytes text.old ++ refusal_line fault) }
 {
@@ -21,7 +23,9 @@ fn write_fault(text: &mut String, fault: VerifyFault) -> Result<(), AllocError>
     writeln!(text, "{refusal}")
 }
 
-/// Writes the line of a refusal with its line feed, and then `why`, the reason in words, unchanged. The error is out of memory.
+/// Appends the verdict on a rejected program: the line of `fault` (its slot and the number of its reason), with a line feed, and then
+/// `why`, the reason in words, unchanged. The contract (`AddsVerdict`) allows any text after that line, so it does not depend on `why`. The
+/// error is out of memory.
 fn write_refusal(text: &mut String, fault: VerifyFault, why: &str) -> Result<(), AllocError>
     ensures { OnOk result (AddsVerdict (Err fault) (string_bytes text.old)
         (string_bytes text.new)) }
@@ -41,7 +45,9 @@ fn write_cost(text: &mut String, cost: Cost) -> Result<(), AllocError>
     writeln!(text, "cost: instructions {instructions}, calls {calls}")
 }
 
-/// Writes the line of the cost, and the line `accepted`. The error is out of memory.
+/// Writes the verdict on an accepted program: the line `cost: instructions I, calls C`, with the most instructions and the most calls of
+/// helpers on a path, and the line `accepted`. These two lines are all that `text` gets (`AddsVerdict` for `Ok`). The error is out of
+/// memory; then `text` may have got a front of them.
 fn write_acceptance(text: &mut String, cost: Cost) -> Result<(), AllocError>
     ensures { OnOk result (AddsVerdict (Ok cost) (string_bytes text.old) (string_bytes text.new)) }
 {
@@ -49,8 +55,10 @@ fn write_acceptance(text: &mut String, cost: Cost) -> Result<(), AllocError>
     text.push_str("accepted\n")
 }
 
-/// Writes the verdict. If the program is accepted, this is the line of what it costs and the line `accepted`; if it is rejected, the line
-/// of the refusal and then `why`, the reason in words.
+/// Appends the verdict on a program to `text`, a listing or the lines of a graph's label. For an accepted program these are the lines
+/// `cost: instructions I, calls C`, with the most of each on a path, and `accepted`; `why` is then not read. For a rejected one it is the
+/// line `refused: slot S reason N`, and then `why`, the reason in words, unchanged. By the contract (`AddsVerdict`) any text may follow
+/// that line.
 ///
 /// # Errors
 ///

@@ -11,8 +11,9 @@ pub(crate) struct JumpEdge {
     pub from: usize,
 }
 
-/// The target of the jump at a slot, which may be past the end if the program's shape has a fault; `None` if no jump begins there, or its
-/// target is below slot 0. The test of `MAX_SLOTS` never fails for an instruction of a program; the contract of `target` needs it.
+/// The target of the jump, conditional or not, that begins at a slot; it may be past the program's end if the program's shape has a fault.
+/// `None` if no instruction begins at the slot, the instruction is no jump, or the target is below slot 0. An instruction of a program
+/// begins at a slot below `MAX_SLOTS`, so the test of `MAX_SLOTS` never fails; the contract of `target` needs it.
 pub(crate) fn target_at(program: &Program, slot: usize) -> Option<usize> {
     let insn = program.get(slot)?;
     if slot > MAX_SLOTS {
@@ -21,8 +22,10 @@ pub(crate) fn target_at(program: &Program, slot: usize) -> Option<usize> {
     insn.profile().successors.target(slot)
 }
 
-/// The jumping edges that a run may take: one for each of the steps whose `jumping` is not `None`, in the order of their targets and then
-/// of the jumps' slots. A jump to below slot 0 is omitted (`target_at`). `AllocError`: out of memory.
+/// The jumping edges that a run may take, for the notes of a listing that say from which slots control comes to a line. `steps` has the
+/// instructions that a run may reach. A step's `jumping` is `None` if the instruction does not jump, is a rejected conditional jump, or
+/// never takes its jump by the facts; each other step gives one edge. A jump to below slot 0 is omitted. The edges are in the order of
+/// their targets, and those of one target in that of the jumps' slots. `AllocError`: out of memory.
 pub(crate) fn live_jumps(
     alloc: Global,
     program: &Program,
@@ -41,21 +44,21 @@ pub(crate) fn live_jumps(
     Ok(jumps)
 }
 
-/// Whether an instruction ends a basic block: a jump or an exit does.
+/// Whether an instruction ends a basic block: a jump or an exit does, a call does not.
 fn ends_block(insn: &Insn) -> bool {
     insn.profile().successors != Successors::Next
 }
 
-/// Records in `flags`, which has a flag for each slot of a program, that a basic block begins at `slot`. Does nothing if `slot` is past the
-/// end of the program: the one after the last instruction, or the target of a jump that leads there.
+/// Records in `flags`, which has a flag for each slot of a program, that a basic block begins at `slot`. If `slot` is past the end of the
+/// program, nothing is done: it is the slot after the last instruction, or the target of a jump in a rejected program.
 fn mark_start(flags: &mut [bool], slot: usize) {
     if let Some(flag) = flags.get_mut(slot) {
         *flag = true;
     }
 }
 
-/// For each slot whether a basic block begins there: at slot 0, at the target of a jump, and after a jump or an exit. `AllocError`: out of
-/// memory.
+/// For each slot whether a basic block begins there: at slot 0, at the target of a jump, and after a jump or an exit. A target past the end
+/// of the program is left out. `AllocError`: out of memory.
 pub(crate) fn block_starts(alloc: Global, program: &Program) -> Result<Vec<bool>, AllocError> {
     let slots = program.slots();
     let mut starts = vec![in alloc; false; slots]?;

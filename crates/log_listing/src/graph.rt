@@ -28,8 +28,9 @@ enum Edge<'a> {
     Dead,
 }
 
-/// What is known of an edge: with a text of what is new on the edge (`seen`), that a run may take it (`Taken`). Without a text: that no run
-/// takes it (`Dead`) or, if there was no pass (`has_pass` of `input`), nothing (`Unknown`).
+/// What is known of an edge. If a run may take the edge, `seen` is the text of what is new on it, and the result is `Taken` with this text.
+/// If `seen` is `None`, the result is `Dead`: no run takes the edge. But if there was no pass over the program (`has_pass` of `input` is
+/// false), since its shape has a fault, the result is `Unknown`: nothing is known of the edge.
 fn edge_of<'a>(input: &ListingInput<'_>, seen: Option<&'a String>) -> Edge<'a> {
     match seen {
         Some(text) => Edge::Taken(text.as_str()),
@@ -49,8 +50,9 @@ struct Block {
     is_refused: bool,
 }
 
-/// Writes the style of an edge if no run takes it, else its label: `name`, and what is new on the edge. `name` is `taken` or `not taken`
-/// after a conditional jump; else it is empty, nothing is new, and no label is written.
+/// Writes the style or the label of an edge, by what is known of it (`edge`). An edge that no run takes (`Dead`) gets the style `UNREACHED`
+/// and no label. Any other edge gets the label `name`, followed by what is new on the edge (`seen`), if anything is. `name` is `taken` or
+/// `not taken` after a conditional jump. Otherwise it is empty and nothing is new, so no label is written.
 fn write_style(text: &mut String, name: &str, edge: Edge<'_>) -> Result<(), AllocError> {
     match edge {
         Edge::Dead => write!(text, " [{UNREACHED}]"),
@@ -61,8 +63,9 @@ fn write_style(text: &mut String, name: &str, edge: Edge<'_>) -> Result<(), Allo
 }
 
 /// Writes the edge from the block with the first slot `from` to the block with the first slot `to`. `edge` is what is known of this edge.
-/// An edge that no run takes gets a style, any other a label, if there is something to write in it (`write_style`). The label begins with
-/// `name`, which is `taken` or `not taken` after a conditional jump, else empty.
+/// If no run takes the edge (`Dead`), its style is dashed and gray. Any other edge has a label if it leaves a conditional jump: `name`,
+/// which is then `taken` or `not taken`, and after it what is new on the edge, if anything is. For other edges `name` is empty and nothing
+/// is new, so they have no label.
 fn write_edge(
     text: &mut String,
     from: usize,
@@ -75,9 +78,11 @@ fn write_edge(
     text.push_str(";\n")
 }
 
-/// Writes the edges out of the block with the first slot `first`: those of its last instruction, `insn`, which is at `slot`. `step` has
-/// what is new on each edge; it is `None` if the pass did not reach this instruction, or an instruction of the block is rejected. No edge
-/// is written to a slot at which no instruction begins: only a program whose shape has a fault has such edges.
+/// Writes the edges out of the block with the first slot `first`: those of its last instruction, `insn`, which is at `slot`. The two edges
+/// of a conditional jump are named `not taken` and `taken`. `step` has what is new on each edge. It is `None` if the pass did not reach
+/// this instruction, or if an instruction of the block is rejected. Then the edges are written as edges that no run takes or, if there was
+/// no pass (`has_pass`), as edges of which nothing is known. No edge is written to a slot at which no instruction begins: only a program
+/// whose shape has a fault has such edges.
 fn write_edges(
     text: &mut String,
     input: &ListingInput<'_>,
@@ -106,7 +111,9 @@ fn write_edges(
     }
 }
 
-/// Appends `lines` to `text` inside a label: each line is aligned to the left. `AllocError`: out of memory.
+/// Appends `lines`, the lines of a verdict, to the label that is being written in `text`. Each line ends with `\l` instead of its line
+/// feed: so Graphviz aligns it to the left. Nothing is escaped, since a verdict has neither a quote nor a backslash. `AllocError`: out of
+/// memory.
 fn write_label(text: &mut String, lines: &str) -> Result<(), AllocError> {
     for line in lines.lines() {
         write!(text, "{line}\\l")?;
@@ -131,13 +138,15 @@ struct Graph<'a> {
 }
 
 impl<'a> Graph<'a> {
-    /// Whether a block begins at a slot. True past the last slot, since the last block ends there.
+    /// Whether a basic block begins at `slot`. `write_slot` also calls this for the slot after an instruction: the block ends with the
+    /// instruction if another begins there. So the result is true past the program's last slot, at which the last block ends.
     fn is_start(&self, slot: usize) -> bool {
         self.starts.get(slot).copied().unwrap_or(true)
     }
 
-    /// Returns the step of the instruction at a slot and advances to the next step; `None` if the pass did not reach the instruction. Slots
-    /// are asked for in ascending order, which is also that of the steps.
+    /// Returns the step of the instruction at `slot`, with what is new before it and on its edges; `None` if the pass did not reach it.
+    /// Only the step of index `next` is compared with `slot`; if it is returned, `next` becomes the index of the step after it. This is
+    /// enough, since the steps are in ascending order of their slots, and `write_blocks` asks for slots in that order.
     fn step_at(&mut self, slot: usize) -> Option<&'a Step> {
         let step = self.input.steps.get(self.next)?;
         if step.slot != slot {
@@ -147,8 +156,10 @@ impl<'a> Graph<'a> {
         Some(step)
     }
 
-    /// Writes the beginning of the block at `slot`, up to the quote that opens its label, and makes it the block that is being written.
-    /// `is_reached`: whether a run may reach it.
+    /// Writes the beginning of the block whose first slot is `slot`: its name, and its attributes up to the quote that opens its label.
+    /// Makes it the block that is being written (`block`), of which no instruction is rejected so far: `write_fault` sets `is_refused`.
+    /// `is_reached` is whether the pass over the facts reached the block, so that a run may reach it. It is false of every block if there
+    /// was no pass, since the program's shape has a fault.
     fn begin(
         &mut self,
         text: &mut String,
@@ -163,7 +174,9 @@ impl<'a> Graph<'a> {
         write!(text, "    block_{slot} [label=\"")
     }
 
-    /// Writes the verdict into the label and marks the block as rejected, if the rejected instruction is at `slot`; else does nothing.
+    /// If the instruction at `slot`, which was written last, is the rejected one: writes the verdict after it, into the label of the block
+    /// that is being written, and sets `is_refused` of this block, so that `end` makes it red. Else, also if the program is accepted, does
+    /// nothing.
     fn write_fault(&mut self, text: &mut String, slot: usize) -> Result<(), AllocError> {
         match self.fault {
             Some(fault) if fault.slot == slot => {
@@ -188,8 +201,8 @@ impl<'a> Graph<'a> {
         text.push_str("];\n")
     }
 
-    /// Writes the instruction at `slot` into the label of the block that is being written; and the verdict after it, if the rejected
-    /// instruction is this one.
+    /// Writes a line with `slot` and the instruction there, `insn`, into the label of the block that is being written. If it is the
+    /// rejected instruction, the lines of the verdict follow in the label, and the block is recorded as rejected (`write_fault`).
     fn write_line(
         &mut self,
         text: &mut String,
@@ -203,9 +216,11 @@ impl<'a> Graph<'a> {
         self.write_fault(text, slot)
     }
 
-    /// Writes the instruction `insn`, which is at `slot`. If a block begins there, the beginning of the block is written first; if the
-    /// block ends there, its end and its edges follow. The edges of a block with a rejected instruction are written as edges that no run
-    /// takes or, if there was no pass (`has_pass`), as edges of which nothing is known.
+    /// Writes the instruction `insn`, which is at `slot`, as a line in its block's label; the verdict follows if the instruction is
+    /// rejected. If a block begins at `slot`, the beginning of the block is written first. If the block ends with `insn`, its end and its
+    /// edges follow. The edges of a block with a rejected instruction are written as edges that no run takes or, if the program's shape has
+    /// a fault, so that there was no pass (`has_pass`), as edges of which nothing is known. Slots are passed in ascending order, as
+    /// `step_at` needs.
     fn write_slot(
         &mut self,
         text: &mut String,
@@ -226,8 +241,9 @@ impl<'a> Graph<'a> {
     }
 }
 
-/// Writes the blocks of the program of `graph` in the order of their slots, and after each block its edges. A slot at which no instruction
-/// begins, the second one of a wide instruction, is skipped.
+/// Writes the blocks of the program of `graph` in the order of their slots, and after each block its edges. `write_slot` writes an
+/// instruction, before it the beginning of a block, if one begins there, and after it the end of a block, if one ends there. A slot at
+/// which no instruction begins, the second one of a wide instruction, is skipped.
 fn write_blocks(text: &mut String, mut graph: Graph<'_>) -> Result<(), AllocError> {
     let program = graph.input.program;
     for slot in 0..program.slots() {
@@ -238,10 +254,11 @@ fn write_blocks(text: &mut String, mut graph: Graph<'_>) -> Result<(), AllocErro
     Ok(())
 }
 
-/// The graph of the program of `input`: its basic blocks with their instructions, and the edges between them with what is new on each.
-/// Blocks and edges that the pass did not reach are dashed. If the program's shape has a fault, there was no pass, and nothing is dashed.
-/// `fault` is the rejection, `None` if the program is accepted. The block with the rejected instruction is red, and has the verdict with
-/// `why`, the fault in words, which is empty for an accepted program. `AllocError`: out of memory.
+/// The control flow of the program of `input` as text in the language of Graphviz: a node for each basic block, with its instructions, and
+/// the edges between the blocks, those of a conditional jump with the facts that are new on each. Blocks that the verifier's pass did not
+/// reach, and edges that it did not follow, are dashed. If the program's shape has a fault, there was no pass, and nothing is dashed.
+/// `fault` is the rejection, `None` if the program is accepted; `why` is its reason in words, empty for an accepted program. The block of
+/// the rejected instruction is red, and has the verdict and `why` after this instruction. `AllocError`: out of memory.
 pub(crate) fn graph_of(
     alloc: Global,
     input: &ListingInput<'_>,

@@ -11,8 +11,8 @@ use std::alloc::AllocError;
 use std::fmt::Write;
 use words::{REGISTERS, STACK_SLOTS};
 
-/// Separates a note from the notes before it by a semicolon and a space. Writes nothing before the first note, that is, if the text ends at
-/// the offset `start`, at which notes begin.
+/// Separates the note that the caller writes next from the notes before it, by a semicolon and a space. Writes nothing before the first
+/// note, that is, if the text ends at the offset `start`, at which notes begin.
 pub(crate) fn separate_note(text: &mut String, start: usize) -> Result<(), AllocError> {
     if text.len() > start {
         text.push_str("; ")
@@ -21,8 +21,9 @@ pub(crate) fn separate_note(text: &mut String, start: usize) -> Result<(), Alloc
     }
 }
 
-/// Writes each register that is readable in `new` and had another kind in `old`, with its kind, as a note of its own. Notes begin at offset
-/// `start` of the text.
+/// Writes a note, as `r1 = any number`, with the kind that a register has in the facts `new`: for each register that is readable in `new`,
+/// and in `old` is not readable or has another kind. A register that is readable only in `old` gets its note from `write_lost_registers`. A
+/// note that begins at offset `start` of the text is the first; each other note has a semicolon and a space before it.
 fn write_registers(
     text: &mut String,
     start: usize,
@@ -40,7 +41,9 @@ fn write_registers(
     Ok(())
 }
 
-/// Writes the registers that are readable in `old` and not in `new`, as one note. Notes begin at offset `start` of the text.
+/// Appends one note with the registers that are readable in `old` and not in `new`, as `r1, r3 lost`; nothing if there are none. `start` is
+/// the offset in the text at which the first note begins; each other note has a semicolon before it (`separate_note`). `AllocError`: out of
+/// memory for the text.
 fn write_lost_registers(
     text: &mut String,
     start: usize,
@@ -66,8 +69,9 @@ fn write_lost_registers(
     }
 }
 
-/// The mask of the bytes of a stack slot that are written in `new` and were not in `old`; bit 0 is the lowest byte. If only `old` is a
-/// spill, all written bytes of `new` count. 0 if `new` is a spill, since a new spill has a note of its own (`write_spills`).
+/// The mask of the bytes of a stack slot that a note lists as newly written; bit 0 is the lowest byte. If neither `old` nor `new` is a
+/// spill, they are the bytes that are written in `new` and not in `old`. If only `old` is a spill, they are all bytes that are written in
+/// `new`. If `new` is a spill, the mask is 0: a new spill has a note of its own (`write_spills`).
 fn written(old: Slot, new: Slot) -> u8 {
     match (old, new) {
         (Slot::Bytes(before), Slot::Bytes(after)) => after & !before,
@@ -76,8 +80,8 @@ fn written(old: Slot, new: Slot) -> u8 {
     }
 }
 
-/// The mask of the bytes of a stack slot that are readable in `old` and not in `new`; bit 0 is the lowest byte. All bytes of a spill are
-/// readable, so the mask is 0 if `new` is a spill.
+/// The mask of the bytes of a stack slot that the log lists as lost, those that are readable in `old` and not in `new`; bit 0 is the lowest
+/// byte. All bytes of a spill are readable, so the mask is 0 if `new` is a spill.
 fn lost(old: Slot, new: Slot) -> u8 {
     match (old, new) {
         (Slot::Bytes(before), Slot::Bytes(after)) => before & !after,
@@ -86,7 +90,8 @@ fn lost(old: Slot, new: Slot) -> u8 {
     }
 }
 
-/// The offset of a stack slot's lowest byte from the stack's upper end: -8 for the highest slot. Stack slots are numbered from the lowest.
+/// The offset of a stack slot's lowest byte from the stack's upper end: -8 for the highest stack slot. `index` is the number of the stack
+/// slot, from 0 for the lowest, and is below `STACK_SLOTS`.
 fn lowest_byte(index: usize) -> i64
     requires { index < STACK_SLOTS }
 {
@@ -105,8 +110,9 @@ struct Row {
 }
 
 impl Row {
-    /// Writes a note on the bytes of the row: the offsets of the first and the last from the stack's upper end, or one offset for a single
-    /// byte, and the word `what`, which is `written` or `lost`. Writes nothing if the row has no byte.
+    /// Writes a note on the bytes of the row, as `stack -8 to -5 written`, or `stack -8 written` for a single byte: the offsets of the
+    /// first and the last byte from the stack's upper end, and the word `what`, which is `written` or `lost`. Writes nothing if the row has
+    /// no byte.
     fn write(&self, text: &mut String, what: &str) -> Result<(), AllocError> {
         if self.first == self.end {
             return Ok(());
@@ -120,9 +126,9 @@ impl Row {
         }
     }
 
-    /// Adds the stack byte at `byte`, an offset from the stack's upper end, to this `Row`. If `byte` does not follow the last byte that the
-    /// `Row` has, those bytes are first written into `text`, as a note with the word `what` (`written` or `lost`), and the `Row` begins
-    /// anew at `byte`.
+    /// Adds the stack byte at `byte`, an offset from the stack's upper end, to this row of consecutive bytes. If `byte` does not follow the
+    /// last byte of the row, the row ends: it is written into `text`, as a note with the word `what` (`written` or `lost`), unless it is
+    /// empty, and a new row begins at `byte`.
     fn add_byte(&mut self, text: &mut String, what: &str, byte: i64) -> Result<(), AllocError> {
         if byte != self.end {
             self.write(text, what)?;
@@ -132,9 +138,10 @@ impl Row {
         Ok(())
     }
 
-    /// Adds to the row each byte of stack slot `index` whose bit in `mask` is 1; bit 0 is that of the lowest byte. Before a byte that does
-    /// not follow the last byte of the row, the row is written as a note with the word `what`, `written` or `lost`, and a new row begins
-    /// (`add_byte`).
+    /// Adds bytes of stack slot `index`, 0 for the lowest slot, to this `Row` of consecutive stack bytes: those whose bit in `mask` is 1;
+    /// bit 0 is that of the slot's lowest byte. If a byte does not follow the last byte of the `Row`, those in the `Row` are first written
+    /// into `text`, as a note with the word `what`, `written` or `lost`, and the `Row` begins anew at this byte (`add_byte`). The bytes
+    /// that the `Row` has at the end are left to the caller, who writes them after the last stack slot.
     fn take_slot(
         &mut self,
         text: &mut String,
@@ -154,10 +161,11 @@ impl Row {
     }
 }
 
-/// Writes a note for each row of consecutive stack bytes that changed from the facts `old` to the facts `new`. If `are_lost`, these are the
-/// bytes that were readable in `old` and are not in `new` (`lost`). Else they are the bytes that are written in `new`, and in `old` were
-/// unwritten or in a slot with a spill (`written`). No byte of a slot with a spill in `new` is among the changed bytes. Notes begin at
-/// offset `start` of the text.
+/// Appends a note for each row of consecutive stack bytes that changed from the facts `old` to the facts `new`, as `stack -8 to -5 lost`.
+/// If `are_lost`, these are the bytes that were readable in `old` and are not in `new`, with the word `lost`. Else they are the bytes that
+/// are written in `new`, and in `old` were unwritten or in a slot with a spill, with the word `written`. A slot with a spill in `new` has
+/// none of these bytes: a new spill has a note of its own (`write_spills`). `start` is the offset in the text at which the first note
+/// begins; each other note has a semicolon before it (`separate_note`). `AllocError`: out of memory for the text.
 fn write_stack_bytes(
     text: &mut String,
     start: usize,

@@ -43,8 +43,9 @@ struct Line {
     end: usize,
 }
 
-/// Begins a note after the instruction of a line. Before the line's first note it writes spaces, until the line has at least `CODE_WIDTH`
-/// bytes, and ` // `; before each later note, `; `. If the text goes on after the instruction (`line.end`), the line has a note already.
+/// Writes what separates a note on `line` from the text before it; the caller then writes the note. `text` ends in this line. If `text`
+/// ends at `line.end`, the end of the line's instruction, the note is the line's first: spaces fill the line up to `CODE_WIDTH` bytes (a
+/// longer line gets none), and ` // ` follows. If `text` is longer, the line has a note already, and `; ` is written.
 fn begin_note(text: &mut String, line: Line) -> Result<(), AllocError> {
     if text.len() > line.end {
         return text.push_str("; ");
@@ -55,7 +56,8 @@ fn begin_note(text: &mut String, line: Line) -> Result<(), AllocError> {
     text.push_str(" // ")
 }
 
-/// Writes `note` at the end of `line`, with the separator before it that `begin_note` writes. Writes nothing if `note` is empty.
+/// Writes `note` at the end of `line`, the last line of `text`. Before the note is a separator (`begin_note`): before the first note of the
+/// line spaces, which align the notes, and ` // `, and before a later one `; `. If `note` is empty, nothing is written, also no separator.
 fn write_note(text: &mut String, line: Line, note: &str) -> Result<(), AllocError> {
     if note.is_empty() {
         return Ok(());
@@ -64,9 +66,10 @@ fn write_note(text: &mut String, line: Line, note: &str) -> Result<(), AllocErro
     text.push_str(note)
 }
 
-/// Writes a note on `line` with the slots of the instructions from which control comes to `slot`: first the jumps, last the instruction
-/// that falls through to it. Writes nothing if no jump leads there. The jumps are in the order of their targets, so those to `slot` come
-/// next at the cursor, which is moved past them.
+/// Writes a note at the end of `line` with the slots of the instructions from which control comes to `slot`, as `from 3, 7, 8`: first the
+/// jumps that a run may take, in the order of their slots, last the instruction on the line before, if a run may fall through from it
+/// (`falls_from` of the cursor). Writes nothing if no such jump leads to `slot`. The jumps of `input` are in the order of their targets,
+/// and the lines in the order of slots, so the jumps to `slot` are the next ones at the cursor, which is moved past them.
 fn write_sources(
     text: &mut String,
     line: Line,
@@ -95,9 +98,11 @@ fn write_sources(
     }
 }
 
-/// Writes the note on the edges of a conditional jump, which is the instruction of `step`: that it always or never jumps, if no run takes
-/// the other edge, else what is new on the jumping edge, if anything. What is new on the falling edge is left to the next line. A rejected
-/// jump has no edges, and nothing is written.
+/// Writes the note on the edges of a conditional jump, the instruction of `step`, at the end of its line. `falling` and `jumping` of `step`
+/// have what is new on each edge, and are `None` if no run takes the edge. With only the jumping edge the note is `always jumps`, with only
+/// the falling edge `never jumps`. With both it is the target and what is new on the jumping edge, if anything; what is new on the falling
+/// edge is left to the next line. A rejected jump has no edges, and nothing is written. A target is always found: a program with steps has
+/// no fault of its shape.
 fn write_edges(
     text: &mut String,
     line: Line,
@@ -120,10 +125,11 @@ fn write_edges(
     }
 }
 
-/// Writes the notes on `insn`, an instruction that a run may reach, at the end of its line: the slots from which jumps come, what is new
-/// before the instruction (`known`), and for a conditional jump the note on its edges (`write_edges`). `line` has the offsets in `text` at
-/// which the line begins and the instruction ends. Sets `falls_from` of the cursor, for the next line: the slot of this instruction if a
-/// run may fall through from the instruction, else `None`.
+/// Writes the notes on `insn`, an instruction that a run may reach, at the end of its line: the slots from which control comes, if a jump
+/// leads to the instruction; what is new before the instruction, or all that is known (`known` of `step`); and for a conditional jump the
+/// note on its edges (`write_edges`). `line` has the offsets in `text` at which the line begins and the instruction ends. Sets `falls_from`
+/// of the cursor, which the next line needs: to the slot of this instruction if a run may fall through from the instruction, else to
+/// `None`.
 fn write_step(
     text: &mut String,
     line: Line,
@@ -141,10 +147,12 @@ fn write_step(
     }
 }
 
-/// Writes the notes after the instruction at `slot`. `line` has the offsets in the text of the line's beginning and of the instruction's
-/// end. If the pass reached the instruction, the next step of the cursor is for it: the notes are those of this step (`write_step`), and
-/// the cursor moves past this step. Else the note is `not reached`, or there is none if there was no pass. After an instruction that was
-/// not reached, `falls_from` of the cursor is `None`: the next line does not name this instruction as one from which control comes.
+/// Writes the notes on `insn`, the instruction at `slot`, at the end of its line. `line` has the offsets in `text` at which the line begins
+/// and the instruction ends. `steps` of `input` has a step for each instruction that the verifier's pass reached, in the order of the
+/// slots, and `cursor.step` is the index of the next one. If that is the step of `slot`, `write_step` writes its notes, and the cursor
+/// moves past it. Else the pass did not reach the instruction: the note is `not reached`, or nothing is written if there was no pass, since
+/// the program's shape has a fault. Then `falls_from` of the cursor becomes `None`, so that the next line does not name this instruction as
+/// one from which control comes.
 fn write_notes(
     text: &mut String,
     input: &ListingInput<'_>,
@@ -170,8 +178,10 @@ fn write_notes(
     }
 }
 
-/// Writes the line of the instruction `insn` at `slot`, with its notes and a line feed. `cursor` has the next step and the next jump of
-/// `input`, and the slot of the line before, if a run may fall through from it. It advances to what the next line needs.
+/// Writes the line of the instruction `insn` at `slot`, with its notes and a line feed. So the text then ends with a line feed, whatever it
+/// was before (`AreLines`). `cursor` has the next step and the next jump of `input`, and the slot of the line before, if a run may fall
+/// through from it. Then, if the pass reached `insn`, it is moved past the step of `insn` and the jumps to `slot`; and it has `slot` if a
+/// run may fall through from `insn`.
 fn write_line(
     text: &mut String,
     input: &ListingInput<'_>,
@@ -189,8 +199,9 @@ fn write_line(
     text.push_str("\n")
 }
 
-/// Writes the lines of the instructions from slot 0 to slot `last`, or to the end if `last` is past it. The second slot of a wide
-/// instruction has no line. `text`, as `lines_of` passes it, is empty or ends with a line feed.
+/// Appends the line of each instruction that begins at a slot from 0 to `last`, in their order. `last` is the slot of the rejected
+/// instruction; for an accepted program it is past the end, and all lines are written. The second slot of a wide instruction has no line.
+/// `AreLines`: `text`, which `lines_of` passes empty, is empty or ends with a line feed, before the call and after it.
 pub(crate) fn write_lines(
     text: &mut String,
     input: &ListingInput<'_>,

@@ -30,7 +30,8 @@ struct StepMaker<'a> {
 }
 
 impl StepMaker<'_> {
-    /// What is known in `new` and not in `old`, and what is not known any more, as text. Empty if both are equal.
+    /// What is known in the facts `new` and not in `old`, and what is known in `old` and not any more in `new`, as text: notes with a
+    /// semicolon between them. Empty if `old` and `new` are equal.
     fn news(&self, old: &Facts, new: &Facts) -> Result<String, AllocError> {
         let mut text = String::new(self.alloc);
         // The text is empty, so its first note begins at offset 0.
@@ -38,7 +39,8 @@ impl StepMaker<'_> {
         Ok(text)
     }
 
-    /// What is new in the facts `new` on an edge against the facts `old` before the instruction; `None` if no run takes it (not `taken`).
+    /// The text for one edge of a conditional jump (`branch`): what is new in `new`, the facts on the edge, against `old`, the facts before
+    /// the jump; empty if both are equal. `taken` is whether a run may take the edge. If it is false, the result is `None`.
     fn edge(&self, old: &Facts, taken: bool, new: &Facts) -> Result<Option<String>, AllocError> {
         if taken {
             Ok(Some(self.news(old, new)?))
@@ -47,8 +49,9 @@ impl StepMaker<'_> {
         }
     }
 
-    /// Adds to `step` what is new on each edge of the conditional jump `insn` against `facts`, the facts before it. An edge that no run
-    /// takes gets `None`; if the jump is rejected, both edges do.
+    /// Adds to `step` what is new on each edge of the conditional jump `insn` against `facts`, the facts before it: `falling` for the edge
+    /// to the next instruction, `jumping` for the edge to the target. An edge that no run takes gets `None`; if the jump is rejected, both
+    /// edges do.
     fn branch(&mut self, step: &mut Step, insn: &Insn, facts: &Facts) -> Result<(), AllocError> {
         self.edges.leave(facts, self.named, step.slot, insn);
         let Edges {
@@ -62,9 +65,10 @@ impl StepMaker<'_> {
         Ok(())
     }
 
-    /// Adds to `step` the edges out of its instruction `insn`. `facts` are those before it. An exit has no edge. An edge of a conditional
-    /// jump has the text of what is new on it; an edge that no run takes is omitted, and so are both if the jump is rejected (`branch`).
-    /// Any other instruction has one edge with the empty text, also if it is rejected: what it changes is new before the next instruction.
+    /// Sets the texts of the edges out of the instruction `insn`, `falling` and `jumping`, in its `step`, which has none yet. `facts` are
+    /// those before `insn`. An exit has no edge. The text of an edge of a conditional jump (`branch`) is what is new on this edge; it is
+    /// `None` if no run takes the edge, and for both edges if the jump is rejected. Any other instruction has one edge, and its text is
+    /// empty, also if the instruction is rejected: what it changes is new before the next instruction.
     fn leave(&mut self, step: &mut Step, insn: &Insn, facts: &Facts) -> Result<(), AllocError> {
         match insn.profile().successors {
             Successors::Next => step.falling = Some(String::new(self.alloc)),
@@ -75,10 +79,11 @@ impl StepMaker<'_> {
         Ok(())
     }
 
-    /// The step of the instruction at the slot of `known`: what is new in the facts of `known` against `shown`, and the edges out of the
-    /// instruction (`leave`). `shown` are the facts of the step before. For the first step, and for every step if steps have all that is
-    /// known (`is_whole` of `steps_of`), `shown` are the facts in which nothing is known. An instruction begins at each slot with facts, so
-    /// `get` finds it. `AllocError`: out of memory.
+    /// The step of the instruction at the slot of `known`, which has the facts before it. The step has what is new in these facts against
+    /// `shown`, and each edge out of the instruction with the text of what is new on it (`leave`). `shown` are the facts before the
+    /// instruction of the preceding step; for the first step, and for every step if steps have all that is known (`is_whole` of
+    /// `steps_of`), the facts in which nothing is known. An instruction begins at each slot with facts, so `get` finds it. `AllocError`:
+    /// out of memory.
     fn step(&mut self, shown: &Facts, known: &KnownFacts) -> Result<Step, AllocError> {
         let KnownFacts { slot, facts } = known;
         let mut step = Step {
@@ -94,9 +99,10 @@ impl StepMaker<'_> {
     }
 }
 
-/// The steps of a program, one for each element of `known`, which has the facts before the instruction at a slot. `named` lists the open
-/// descriptors and their objects. The text `known` of a step is what is new since the step before it, or if `is_whole`, all that is known.
-/// `AllocError`: out of memory.
+/// The steps of a program, in the order of `known`: an element of `known` has a slot and the facts before the instruction there, and
+/// becomes one step. `named` lists the open descriptors and their objects. The field `known` of a step is all that is known in these facts
+/// if `is_whole`; else only what is new, or no longer known, since the element before, and for the first element all. The fields `falling`
+/// and `jumping` are what is new on the edges out of the instruction. `AllocError`: out of memory.
 pub(crate) fn steps_of(
     alloc: Global,
     program: &Program,

@@ -57,8 +57,9 @@ fn write_need(
     }
 }
 
-/// The line on a rejection: the reason in words, then `between`, then what is known and what is required. Each fault is at a slot at which
-/// an instruction begins, so the line always has these three. `AllocError`: out of memory.
+/// The text on a rejection: the reason in words, then `between` (in the log a colon, and a space or a line feed), then what is known and
+/// what is required (`write_need`), and a line feed. Each fault is at a slot at which an instruction begins, so `get` finds the
+/// instruction, and nothing of this is ever left out. `AllocError`: out of memory.
 fn reason_line(refusal: &RefusedProgram<'_>, between: &str) -> Result<String, AllocError> {
     let mut line = String::from_str(refusal.alloc, reason_words(refusal.fault.reason))?;
     if let Some(insn) = refusal.program.get(refusal.fault.slot) {
@@ -69,8 +70,9 @@ fn reason_line(refusal: &RefusedProgram<'_>, between: &str) -> Result<String, Al
     Ok(line)
 }
 
-/// The facts before the last instruction that the pass reached. If it reached none, for example because the shape of the program has a
-/// fault, they are those in which nothing is known.
+/// The facts before the last instruction that the pass reached; `known` has those before each, in order. If an instruction is rejected, it
+/// is the last, since the pass ends at it. If the pass reached none, for example because the shape of the program has a fault, the result
+/// is the facts in which nothing is known.
 fn last_facts(known: &[KnownFacts]) -> Facts {
     match known.last() {
         Some(last) => last.facts,
@@ -78,8 +80,10 @@ fn last_facts(known: &[KnownFacts]) -> Facts {
     }
 }
 
-/// Why a program is rejected by the verdict in `judged`, if descriptors name the objects of `named`: the reason in words, then `between`,
-/// then what was known and what is required, and a line feed. Empty if the program is accepted.
+/// Why a program is rejected, by the verdict in `judged`, as a text for its log; empty if the program is accepted. `named` has the open
+/// descriptors, each with the object that it names. The text is the reason in words, then `between`, then what was known at the rejected
+/// instruction and what is required, and a line feed. `log_of` of `log_core` gives as `between` a colon, and then a space in a log of lines
+/// or a line feed in a graph.
 ///
 /// # Errors
 ///

@@ -2,7 +2,7 @@
 
 use reg_kinds::Reason;
 
-/// A reason in words.
+/// The reason for which a program is rejected, in words: the phrase with which the log begins to explain the rejection (`reason_line`).
 pub(crate) fn reason_words(reason: Reason) -> &'static str {
     match reason {
         Reason::JumpOutside => {

@@ -19,8 +19,9 @@ pub(crate) enum Wanted {
     Stack { first: i64, last: i64 },
 }
 
-/// Whether the stack byte at the offset `byte` is written on each path; each byte of a spill is. False outside the stack. In the mask of a
-/// stack slot, bit 0 is the lowest byte.
+/// Whether the stack byte at the offset `byte` counts as written in `facts`: then it is written on each path to the instruction, or to the
+/// edge, that has these facts. The offset counts from the stack's upper end, so -1 is the highest byte; the result is false outside the
+/// stack. In the mask of a stack slot (`Bytes`), bit 0 is the lowest byte. Each byte of a spill counts as written.
 pub(crate) fn is_written(facts: &Facts, byte: i64) -> bool {
     let Ok(byte_index) = usize::try_from(byte.saturating_add(8 * STACK_SLOTS as i64)) else {
         return false;
@@ -35,8 +36,8 @@ pub(crate) fn is_written(facts: &Facts, byte: i64) -> bool {
 }
 
 impl Wanted {
-    /// Whether this value is readable by these facts: the kind of the register is not `Unreadable`, or each of the stack bytes is
-    /// written on each path (`is_written`). False if one of the bytes is outside the stack.
+    /// Whether an instruction may read this value by these facts: the kind of the register is not `Unreadable`, or each of the stack bytes
+    /// from `first` to `last` is written on each path (`is_written`). False if one of these bytes is outside the stack.
     fn is_readable_by(self, facts: &Facts) -> bool {
         match self {
             Wanted::Register(register) => kind_of(facts, register) != Kind::Unreadable,
@@ -89,10 +90,10 @@ struct Finder<'a> {
 
 impl Finder<'_> {
     /// Why the value that the rejected instruction needs (`wanted`) is missing before the instruction at `slot`; `None` if the value is
-    /// present. `facts` are those before this instruction. If the value is missing on some edges to the slot and present on others, the
-    /// cause is the first edge on which it is missing (`OnEdge`); if it is present on none, the cause is why it is missing on the first
-    /// edge; if it is missing on none, the join of the edges loses the value (`Joined`). Slot 0, to which no edge leads, has the cause
-    /// `Never` from the start (`first_arrivals`).
+    /// present there, by `facts`, the facts before this instruction. The cause depends on the edges to the slot (`arrivals`). If the value
+    /// is present on some and missing on others, the cause is the first edge on which it is missing (`OnEdge`). If it is missing on all of
+    /// them, the cause is why it is missing on the first. If it is present on all, the cause is that their join loses it (`Joined`). Slot
+    /// 0, to which no edge leads, has the cause `Never` from the start (`first_arrivals`).
     fn cause_at(&self, slot: usize, facts: &Facts) -> Option<Cause> {
         if self.wanted.is_readable_by(facts) {
             return None;
@@ -114,9 +115,11 @@ impl Finder<'_> {
         }
     }
 
-    /// Notes whether the value (`wanted`) is present on the edge from slot `from` to slot `to`; `facts` are those on this edge. If it is
-    /// missing, `from` and a cause are stored, unless they are stored for an earlier edge to `to`. The cause is why the value is missing
-    /// before the instruction at `from` or, if it is present there, that this instruction destroys it.
+    /// Records in `arrivals`, for the slot `to`, whether the value that the rejected instruction needs (`wanted`) is present on the edge
+    /// from slot `from` to slot `to`: whether an instruction may read it by `facts`, those on this edge. If the value is missing, `from`
+    /// and a cause are stored in `lack`, unless those of another edge to `to` are stored already. The cause is why the value is missing
+    /// before the instruction at `from` (`cause`) or, if it is present there, that this instruction destroys it (`Destroyed`). If `to` is
+    /// past the end of the program, which is a fault of the shape and does not occur here, nothing is recorded.
     fn arrive(&mut self, from: usize, to: usize, facts: &Facts) {
         let is_present = self.wanted.is_readable_by(facts);
         let cause = self.cause.unwrap_or(Cause::Destroyed(from));
@@ -129,9 +132,10 @@ impl Finder<'_> {
         }
     }
 
-    /// Notes whether the value that the rejected instruction needs (`wanted`) is present on each edge out of the instruction `insn` at
-    /// `slot` that a run may take. `facts` are those before this instruction. The test of `slot` against `MAX_SLOTS` always holds; the
-    /// contract of `target` needs it.
+    /// Follows each edge out of `insn`, the instruction at `slot`, that a run may take; `facts` are those before `insn`. For the slot to
+    /// which the edge leads, `arrive` records whether the value that the rejected instruction needs (`wanted`) is present on this edge, and
+    /// if not, why. For that, `follow` has set `cause` before: why the value is missing before `insn`. The test of `slot` against
+    /// `MAX_SLOTS` always holds, since a program has no more slots; the contract of `target` needs it.
     fn leave(&mut self, slot: usize, insn: &Insn, facts: &Facts) {
         let mut edges = Edges::none(facts);
         edges.leave(facts, self.named, slot, insn);
@@ -146,8 +150,10 @@ impl Finder<'_> {
         }
     }
 
-    /// Records why the value that is needed is missing before the instruction at `slot` (`cause`), and on which edges out of it this value
-    /// is present (`arrivals`). `facts` are those before it. At each slot with facts an instruction begins, so the `if` always holds.
+    /// Follows the instruction at `slot`, before which `facts` are known. Sets `cause` to why the value that the rejected instruction needs
+    /// is missing before this instruction; `None` if the value is present there. Then records in `arrivals`, for each edge out of it that a
+    /// run may take, whether the value is present or missing on the edge. At each slot with facts an instruction begins, so the `if` always
+    /// holds.
     fn follow(&mut self, slot: usize, facts: &Facts) {
         self.cause = self.cause_at(slot, facts);
         if let Some(insn) = self.program.get(slot) {
@@ -156,9 +162,10 @@ impl Finder<'_> {
     }
 }
 
-/// For each slot of a program of `slots` slots, the arrival before any edge is followed: no edge to the slot is known on which the value is
-/// present (`is_present`), and none on which it is missing (`lack`). Slot 0, at which a run begins, is the exception: it has a lack, since
-/// the value was never written. No edge leads to slot 0, so the slot that this lack names as the start of an edge, 0, is never used.
+/// The arrivals before any edge is followed, one for each slot of a program of `slots` slots. No edge to the slot is known on which the
+/// value that the rejected instruction needs is present (`is_present` is false), and none on which it is missing (`lack` is `None`). Slot
+/// 0, at which a run begins, is the exception: its `lack` says that the value was never written. No edge leads to slot 0, so the other
+/// number in this `lack`, the slot from which an edge leads, means nothing: it is 0, and is never used.
 fn first_arrivals(alloc: Global, slots: usize) -> Result<Vec<Arrival>, AllocError> {
     let nothing = Arrival {
         is_present: false,
@@ -171,9 +178,10 @@ fn first_arrivals(alloc: Global, slots: usize) -> Result<Vec<Arrival>, AllocErro
     Ok(arrivals)
 }
 
-/// Why the value `wanted` is missing before the rejected instruction; `None` if this value is present there. `follow` takes the
-/// instructions that the pass reached, in the order of their slots, and records in `cause` why the value is missing before each of them.
-/// The rejected instruction is the last, so `cause` is the result. The error is out of memory.
+/// Why the value `wanted`, that of a register or of stack bytes, is missing before the rejected instruction; `None` if this value is
+/// present there. `follow` is called for each instruction that the pass over the program reached, in the order of the slots, and records in
+/// `cause` why the value is missing before it. The rejected instruction is the last, so its `cause` is the result. The error is out of
+/// memory.
 fn cause_of(refusal: &RefusedProgram<'_>, wanted: Wanted) -> Result<Option<Cause>, AllocError> {
     let (alloc, program, named) = (refusal.alloc, refusal.program, refusal.named);
     let mut finder = Finder {
@@ -197,7 +205,8 @@ struct Verbs {
     holds: &'static str,
 }
 
-/// The verbs for what is missing: in the singular for a register, in the plural for stack bytes.
+/// The verbs of the sentence in which `write_way` writes why `wanted` is missing: in the singular for a register, in the plural for stack
+/// bytes.
 fn verbs_of(wanted: Wanted) -> Verbs {
     match wanted {
         Wanted::Register(_) => Verbs {
@@ -213,8 +222,10 @@ fn verbs_of(wanted: Wanted) -> Verbs {
     }
 }
 
-/// Writes why the value `wanted` is missing before the rejected instruction, as a sentence without its subject, the register or the stack
-/// bytes. The caller knows that it is missing, so `cause_of` finds a cause, and `unwrap_or` does not use its default.
+/// Writes why the value that the rejected instruction needs (`wanted`) is missing before this instruction: it was never written, it is
+/// missing on an edge from some slot but present on another edge to the same instruction, the instruction at some slot destroys it, or the
+/// join at some slot loses it. The text is a sentence without its subject, the register or the stack bytes, which the caller has written
+/// before. The caller knows that the value is missing, so `cause_of` finds a cause, and `unwrap_or` does not use its default.
 pub(crate) fn write_way(
     text: &mut String,
     refusal: &RefusedProgram<'_>,

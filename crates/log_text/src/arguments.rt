@@ -13,7 +13,8 @@ pub(crate) enum ProgramForm {
     Text,
 }
 
-/// An option `--name` without a value, with the line that the help has for it.
+/// The option that is written as `--` and then `name`, without a value; `get_flag` with this name returns whether it is given. `help` is
+/// the line that the text of the help has for it.
 fn flag<'a>(alloc: Global, name: &'a str, help: &'a str) -> Arg<'a> {
     Arg::new(alloc, name)
         .long(name)
@@ -21,7 +22,8 @@ fn flag<'a>(alloc: Global, name: &'a str, help: &'a str) -> Arg<'a> {
         .action(ArgAction::SetTrue)
 }
 
-/// The command line of the program, without its options and its arguments.
+/// The command line of `verifier_log` for clap: its name, its line of help and its version, without its options and its arguments, which
+/// `parse_arguments` adds. The words that are parsed do not begin with the name of the command (`no_binary_name`).
 fn program<'a>(alloc: Global) -> Command<'a> {
     Command::new(alloc, "verifier_log")
         .about(
@@ -31,7 +33,8 @@ fn program<'a>(alloc: Global) -> Command<'a> {
         .no_binary_name(true)
 }
 
-/// Adds `--all` and `--dot`, the options for what is written, of which at most one may be given. `AllocError`: out of memory.
+/// Adds to `program` the options for what is written, of which at most one may be given: `--all` for all that is known before each
+/// instruction, instead of only what is new, and `--dot` for the control flow as a graph. `AllocError`: out of memory.
 fn with_styles<'a>(alloc: Global, program: Command<'a>) -> Result<Command<'a>, AllocError> {
     let all = flag(
         alloc,
@@ -47,8 +50,9 @@ fn with_styles<'a>(alloc: Global, program: Command<'a>) -> Result<Command<'a>, A
     program.arg(dot.conflicts_with("all")?)
 }
 
-/// Adds to `program` the options `--hex` and `--text`, which say whether the input is hex lines or the text of a program. At most one of
-/// them may be given. `AllocError`: out of memory.
+/// Adds to `program`, the command line, the options `--hex` and `--text`, which say whether the input is hex lines or the text of a
+/// program. At most one of them may be given; without them the first line that is not blank decides (`begins_with_hex`). `AllocError`: out
+/// of memory.
 fn with_forms<'a>(alloc: Global, program: Command<'a>) -> Result<Command<'a>, AllocError> {
     let hex = flag(alloc, "hex", "Read hex lines, whatever the first line is");
     let program = program.arg(hex.conflicts_with("text")?)?;
@@ -59,7 +63,9 @@ fn with_forms<'a>(alloc: Global, program: Command<'a>) -> Result<Command<'a>, Al
     ))
 }
 
-/// Adds any number of positional arguments, each of which names a map. `AllocError`: out of memory.
+/// Adds the map arguments to `program`, which describes the command line to clap: any number of positional arguments. Each names a map and
+/// its descriptor, as `4:hash:4:16:64`: the fields are descriptor, kind, the sizes of a key and of a value in bytes, and `max_entries`.
+/// Clap does not read the fields, `maps_named` of `host` does. `AllocError`: out of memory.
 fn with_maps<'a>(alloc: Global, program: Command<'a>) -> Result<Command<'a>, AllocError> {
     let maps = Arg::new(alloc, "map")
         .value_name("MAP")
@@ -96,8 +102,9 @@ fn is_hex(line: &str) -> bool {
     !line.is_empty() && line.bytes().all(|byte| byte.is_ascii_hexdigit())
 }
 
-/// Whether the first line that is not blank consists of hex digits. True if there is no such line or the input is not
-/// UTF-8: then it is read as hex lines, and rejected as such.
+/// Whether an input is read as hex lines, not as the text of a program, if no option says how to read it (`form_of`): its first line that
+/// is not blank has only hex digits. Also true if all lines are blank or the input is not UTF-8: then it is read as hex lines, and rejected
+/// as such.
 fn begins_with_hex(input: &[u8]) -> bool {
     let Ok(text) = str::from_utf8(input) else {
         return true;
@@ -111,7 +118,9 @@ fn begins_with_hex(input: &[u8]) -> bool {
     true
 }
 
-/// How the program of the input is written: as an option says; without one, as hex lines if `begins_with_hex`, else as text.
+/// How the program of the input is written: as the option `--hex` or `--text` says, of which clap accepts at most one. Without an option,
+/// hex lines if the first line that is not blank consists of hex digits, if there is no such line, or if the input is not UTF-8
+/// (`begins_with_hex`); else the text of a program.
 pub(crate) fn form_of(matches: &ArgMatches<'_>, input: &[u8]) -> ProgramForm {
     if matches.get_flag("hex") {
         ProgramForm::Hex

@@ -15,8 +15,9 @@ struct Output {
     status: u8,
 }
 
-/// The maps that the map arguments name; an empty list without map arguments. `MapArgument` if an argument names no map, or the descriptor
-/// of an earlier argument; `Memory` if out of memory.
+/// The maps that the map arguments of the command line describe, each with its descriptor, in order; the program is verified as if they
+/// were open. The list is empty without map arguments. The failure is `MapArgument`, with the number of the first wrong argument from 1, if
+/// an argument describes no map, or has the descriptor of an earlier one. It is `Memory` if out of memory.
 fn maps_given(alloc: Global, matches: &ArgMatches<'_>) -> Result<Vec<Named>, Failure> {
     match matches.get_strs("map") {
         Some(arguments) => maps_named(alloc, arguments),
@@ -32,9 +33,11 @@ impl Output {
     }
 }
 
-/// The output for an input, by the parsed arguments `matches`: the log of its program, and the exit status of the verdict. The program is
-/// hex lines or text (`form_of`). If the slots on its hex lines are no program, the log says why. The failures are those of
-/// `maps_given`, of `whole_input`, and of `hex_slots` or `text_program`, and `Memory`.
+/// The output for an input, by the parsed arguments `matches`: the log of its program, in the style that they choose, and the exit status,
+/// 0 if the program is accepted, else 1. The program is hex lines or text, as an option says, or else as the first line that is not blank
+/// shows (`form_of`). If the slots on hex lines are no program, the log says why. The failures: `MapArgument` for a wrong map argument;
+/// then `TooLong` if the input has more than `LONGEST_INPUT` bytes, or `Read` if a call of it failed; then `Line` if the input is not
+/// UTF-8, a line has a fault, or no line has a slot or an instruction. `Memory` at any of these steps if out of memory.
 fn log_output<I: Read + Drop>(
     alloc: Global,
     matches: &ArgMatches<'_>,
@@ -62,8 +65,9 @@ fn log_output<I: Read + Drop>(
     }
 }
 
-/// The output for the arguments: the log, or the text of the help or of the version if they ask for it. `Failure` if clap rejects them, if
-/// `log_output` fails, or if out of memory.
+/// The output for the arguments and its exit status: the log of the program in `input` with the status of the verdict (`log_output`), or,
+/// if the arguments ask for it, the text of the help or of the version with status 0. Clap returns such a text as an error, but one that is
+/// not for the error stream (`use_stderr`). `Failure` if clap rejects the arguments, if `log_output` fails, or if memory is refused.
 fn output_of<I: Read + Drop>(
     alloc: Global,
     arguments: &[&str],
@@ -88,8 +92,10 @@ fn write_out<O: Write>(output: &mut O, text: &str) -> Result<(), Failure> {
     Ok(())
 }
 
-/// Writes the output for the arguments, and returns the exit status. Fails like `output_of`, before anything is written, or like
-/// `write_out`.
+/// Writes the output for the arguments, a log of the input's program, the help or the version, and returns the exit status: 1 if the
+/// program is rejected or the slots on hex lines are no program, else 0. Fails before anything is written if arguments are wrong, if the
+/// input can't be read, is too long, or has a fault as hex lines or as text, or if out of memory; fails with `Write` if the output can't be
+/// written or flushed.
 fn run<I: Read + Drop, O: Write + Drop>(
     alloc: Global,
     arguments: &[&str],
@@ -101,11 +107,12 @@ fn run<I: Read + Drop, O: Write + Drop>(
     Ok(status)
 }
 
-/// Runs the program on its arguments, those after its name, and returns its exit status: 0 if the input's program is accepted,
-/// or help or the version is asked for, 1 if the input or its program is rejected, 2 if arguments are wrong, 3 if input or output
-/// failed, 4 if out of memory. `output` gets the log, also of a rejected program, or why the slots on hex lines are no program; it is
-/// written only once it is complete. Every other failure (`Failure`) is one line on `faults`, as `bpfhost verify` writes it; if that line
-/// can't be written, the status is still that of the failure.
+/// Runs the command `verifier_log` on its arguments, those after its name, and returns its exit status: 0 if the eBPF program in the input
+/// is accepted, or help or the version is asked for, 1 if the input or its program is rejected, 2 if arguments are wrong, 3 if input or
+/// output failed, 4 if out of memory. `output` gets the log of the program, accepted or rejected, or the text of the help or of the
+/// version. If the slots on hex lines are no program, the log says why. `output` is written only once the text is complete. Every other
+/// failure (`Failure`) is one line on `faults`, as `bpfhost verify` writes it; if that line can't be written, the status is still that of
+/// the failure.
 pub fn run_log_words<I: Read + Drop, O: Write + Drop, F: Write + Drop>(
     alloc: Global,
     arguments: &[&str],

@@ -17,7 +17,8 @@ pub record Order : Type 0 where
   pub bound : ℕ
   pub elements : List ℕ
 
--- the first element in a list of elements of a map; None if the list is empty
+-- the first element in a list of elements of a map, with which a walk over its keys begins; None if
+-- the list is empty
 abbrev pub first_element : List ℕ → Option ℕ
 first_element [] = None
 first_element (x ∷ xs) = Some x

@@ -57,7 +57,8 @@ impl ElementOrder {
         })
     }
 
-    /// `element`, or `None` if `element` is the bound, at which the order begins and ends.
+    /// Returns the element for a number in a link: the number itself, or `None` if it is the bound. In the ring the bound is after the last
+    /// element and before the first, so `None` says that no element follows, or that the order has no element.
     fn element_or_none(&self, element: u32) -> Option<u32>
         ensures { result ≡ (if nat_eq element self.now.bound then None else Some element) }
     {
@@ -85,8 +86,9 @@ impl ElementOrder {
         self.element_or_none(self.links[element as usize].after)
     }
 
-    /// Puts an element last. The element is less than the bound and not yet in the order. So the number of elements is below
-    /// the bound (`few`), and `count` does not overflow.
+    /// Puts an element last. The element is less than the bound (`within`) and not yet in the order (`new`). The elements of an order are
+    /// distinct and less than the bound, so without the new one they are fewer than the bound. This is also required (`few`), so that
+    /// `count` does not overflow. The bound is unchanged.
     pub(crate) fn push(&mut self, element: u32)
         requires within { element < self.old.bound }
         requires new { occurrences element self.old.elements ≡ 0 }
@@ -106,8 +108,9 @@ impl ElementOrder {
         self.count += 1;
     }
 
-    /// Takes all elements out: in the ring the bound is then its own neighbour. No other link is written, since the link of an element that
-    /// is not in the order means nothing.
+    /// Takes all elements out. The bound, which is above all elements and at which the ring of links begins and ends, is unchanged
+    /// (`bound`), and is then its own neighbour in the ring. No other link is written, since the link of an element that is not in the
+    /// order means nothing: so the steps are few, however many elements there were.
     pub fn clear(&mut self)
         ensures bound { self.new.bound ≡ self.old.bound }
         ensures elements { self.new.elements ≡ [] }
@@ -120,8 +123,9 @@ impl ElementOrder {
         self.count = 0;
     }
 
-    /// Takes an element out of the order, which has it: the links before and after it in the ring, elements or the bound, at which the ring
-    /// begins and ends, are linked to each other. The other elements keep their order.
+    /// Takes an element out of the order. The order has it, by the precondition, and only once; the other elements keep their order
+    /// (`taken_out`), and the bound is unchanged. In the ring its two neighbours are linked to each other. Each of them is an element, or
+    /// the bound, at which the ring begins and ends. The link of the element itself is not written: it means nothing then.
     pub(crate) fn remove(&mut self, element: u32)
         requires { 0 < occurrences element self.old.elements }
         ensures bound { self.new.bound ≡ self.old.bound }

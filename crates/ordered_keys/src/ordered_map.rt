@@ -49,9 +49,10 @@ impl<K: Eq + Hash + Copy, S: BuildHasher> Model for OrderedMap<K, S> {
 }
 
 impl<K: Eq + Hash + Copy, S: BuildHasher> OrderedMap<K, S> {
-    /// A map without keys, for elements less than `bound`. Allocates all memory that it will ever have. The table gets room for four times
-    /// the bound, since removals take some of its room (head of the crate). `rows` gets room for more than half of the bound: a removal
-    /// that fills the table anew copies the second half of the entries to `rows` (`rebuild_without`). `AllocError`: out of memory.
+    /// A map without keys, for elements less than `bound`, whose table hashes keys by `hash_builder`. Allocates all memory that the map
+    /// will ever have. The table of keys gets room for four times the bound, since removals take some of its room (head of the crate).
+    /// `rows`, a buffer, gets room for more than half of the bound: a removal that fills the table anew copies the second half of the
+    /// entries to `rows`, and from there back (`rebuild_without`). `AllocError`: out of memory.
     pub fn new(alloc: Global, bound: u32, hash_builder: S) -> Result<OrderedMap<K, S>, AllocError>
     where
         S: Drop,
@@ -71,7 +72,9 @@ impl<K: Eq + Hash + Copy, S: BuildHasher> OrderedMap<K, S> {
         })
     }
 
-    /// The element of a key; `None` if the key is absent.
+    /// The element of a key; `None` if the key is absent. `key` may have another type `Q` than the map's keys, `K`: `KeyBytes` of
+    /// `bpf_maps`, for instance, finds the stored key that has its bytes. `Q.equivalent key` is the test that a key of the map has to pass,
+    /// and `lookup` gives the element of the first one that does; by the laws of `Equivalent` all keys that do are equal.
     #[inline(always)]
     pub fn get<Q: Equivalent<K>>(&self, key: Q) -> Option<u32>
         ensures { result ≡ lookup (Q.equivalent key) self.now.entries }
@@ -81,7 +84,9 @@ impl<K: Eq + Hash + Copy, S: BuildHasher> OrderedMap<K, S> {
         self.table.get(key).copied()
     }
 
-    /// The key that follows `key`, or the first key if `key` is absent. `None` if `key` is the last, or there are no keys.
+    /// The key that follows `key` in the order of insertion, or the first key if `key` is absent. `None` if `key` is the last, or there are
+    /// no keys. `key` may be of another type than the keys, for example borrowed bytes; `Q.equivalent key` is whether a key is equal to it.
+    /// The indexes of `bpf_maps` find the next key for MAP_GET_NEXT_KEY with it.
     pub fn key_after<Q: Equivalent<K>>(&self, key: Q) -> Option<&K>
         ensures { option_map (λ k. k.now) result
             ≡ key_following (Q.equivalent key) self.now.entries }
@@ -94,15 +99,17 @@ impl<K: Eq + Hash + Copy, S: BuildHasher> OrderedMap<K, S> {
         key_at(&self.table, &self.indices, self.order.after(*element))
     }
 
-    /// The first key; `None` if there are no keys.
+    /// The first key in the order of the map: the one that was added before all other keys that the map has now. `None` if the map has no
+    /// keys. In the contract, `k.now` is the key that a borrow `k` lends.
     pub fn first(&self) -> Option<&K>
         ensures { option_map (λ k. k.now) result ≡ first_key_of self.now.entries }
     {
         key_at(&self.table, &self.indices, self.order.first())
     }
 
-    /// The key that follows the key of `element`, or the first key if no element is given; and the element of the key that is returned.
-    /// `None` if no key follows, or if no key has `element`.
+    /// The key that follows the key of `element` in the order in which keys were added, or the first key if `element` is `None`; and the
+    /// element of the key that is returned. `None` if no key follows, if no key has `element`, or if there are no keys. A save goes over
+    /// the entries of a map by this function. Unlike `key_after`, it hashes no key.
     pub fn entry_after(&self, element: Option<u32>) -> Option<(&K, u32)>
         ensures { option_map lent_entry result ≡ next_entry element self.now.entries }
     {
@@ -111,8 +118,9 @@ impl<K: Eq + Hash + Copy, S: BuildHasher> OrderedMap<K, S> {
         Some((key, next))
     }
 
-    /// Adds a key with its element at the end. The caller has found the key absent, no key has the element, and the element and the
-    /// number of keys are less than the bound. It allocates nothing: `new` made room for `bound` keys.
+    /// Adds a key with its element, after all other keys (`added`). The caller has found the key absent, no key has the element (`free`),
+    /// and the element (`within`) and the number of keys (`few`) are less than the bound. It allocates nothing: `new` made room for `bound`
+    /// keys.
     pub fn insert(&mut self, key: K, element: u32)
         requires absent { lookup (K.eq key) self.old.entries ≡ None }
         requires within { element < self.old.bound }
@@ -136,7 +144,9 @@ impl<K: Eq + Hash + Copy, S: BuildHasher> OrderedMap<K, S> {
         self.order.clear();
     }
 
-    /// Removes a key and returns its element; `None` if the key is absent. The other keys keep their order.
+    /// Removes the key that is equivalent to `key`, a value of any type that can be compared with keys (`Equivalent`), and returns its
+    /// element. `None` if there is no such key (`element`); then nothing changes. The other keys keep their elements and their order
+    /// (`left`). The bound that each element has to be less than is unchanged (`bound`).
     pub fn remove<Q: Equivalent<K>>(&mut self, key: Q) -> Option<u32>
         ensures element { result ≡ lookup (Q.equivalent key) self.old.entries }
         ensures left { self.new.entries ≡ remove_entry (Q.equivalent key) self.old.entries }
@@ -153,9 +163,10 @@ impl<K: Eq + Hash + Copy, S: BuildHasher> OrderedMap<K, S> {
     }
 }
 
-/// Whether `table` has an entry of `element` at the index that `indices` has for `element`. In an `OrderedMap` this is so exactly if a key
-/// has `element`: for an element without a key the index leads to an entry of another element, or to none. If `indices` has no index for
-/// `element`, the entry at index 0 is tested: this is none, or one of an element for which `indices` has an index, so the result is false.
+/// Whether `table` has an entry of `element` at the index that `indices` has for `element`. For the fields of an `OrderedMap` this is
+/// whether a key has `element`: for an element without a key the index leads to an entry of another element, or to none. If `indices` has
+/// no index for `element`, the entry at index 0 is tested: this is none, or one of an element for which `indices` has an index, so the
+/// result is false. `next_element` needs this test, since `ElementOrder::after` requires an element of the order.
 fn has_element<K: Eq + Hash, S: BuildHasher>(
     table: &IndexMap<K, u32, S>,
     indices: &[u32],
@@ -170,8 +181,10 @@ fn has_element<K: Eq + Hash, S: BuildHasher>(
     }
 }
 
-/// The element after `element` in the order, or the first one if `element` is `None`. The result is `None` if no element follows, if no key
-/// has `element`, or if the order is empty.
+/// The element that follows `element` in the order, or the first one if `element` is `None`. The result is `None` if `element` is the last,
+/// if no key has `element`, or if the order is empty. By the precondition (`IsIndexed`) the order has exactly the elements of the table's
+/// entries, and `indices` leads to the entry of each. So `has_element` finds whether the order has `element`, which `after` requires:
+/// `entry_after`, the caller, may pass any element.
 fn next_element<K: Eq + Hash, S: BuildHasher>(
     table: &IndexMap<K, u32, S>,
     indices: &[u32],
@@ -193,8 +206,9 @@ fn next_element<K: Eq + Hash, S: BuildHasher>(
     }
 }
 
-/// The key of an element, by its index in the table; `None` if no element is given, or the table has no entry at the index. The element is
-/// in range: `indices` has an index for it.
+/// The key of `element`: that of the entry at the index that `indices` has for the element. `None` if no element is given, or the table has
+/// no entry at the index. By the precondition an element that is given is in range: `indices` has an index for it. The callers pass only
+/// elements of the order, which have entries. For any other element the index means nothing, and the key may be that of another element.
 fn key_at<'a, K: Eq + Hash, S: BuildHasher>(
     table: &'a IndexMap<K, u32, S>,
     indices: &[u32],
@@ -208,7 +222,9 @@ fn key_at<'a, K: Eq + Hash, S: BuildHasher>(
     Some(key)
 }
 
-/// The element of the entry at an index of the table; `otherwise` if there is none.
+/// The element of the entry at `index` of the table; an entry is a pair of a key and its element (`e.1`). The result is `otherwise` if no
+/// entry has this index. `remove` calls this when the last entry has taken the index of the removed one, with the removed element as
+/// `otherwise`: if the removed entry was itself the last, no entry has its index now.
 fn element_at<K: Eq + Hash, S: BuildHasher>(
     table: &IndexMap<K, u32, S>,
     index: usize,
@@ -222,8 +238,9 @@ fn element_at<K: Eq + Hash, S: BuildHasher>(
     }
 }
 
-/// Adds an entry at the end of the table. Its key is absent, and the table has room for one entry more, so the insertion is never refused
-/// memory.
+/// Adds the entry of `key` and `element` at the end of the table (`entries`). The key is absent, and the table has room for one entry more
+/// (`spare`, the number of further entries that fit without allocating, is not 0), so the insertion is never refused memory. Afterwards the
+/// table has room for at most one entry fewer than before (the second `room`), so `put_all` can call this for each of its entries.
 fn put_last<K: Eq + Hash + Copy, S: BuildHasher>(
     table: &mut IndexMap<K, u32, S>,
     key: K,
@@ -238,10 +255,11 @@ fn put_last<K: Eq + Hash + Copy, S: BuildHasher>(
     let Ok(_) = added else { unreachable!() };
 }
 
-/// Takes out the entry at an index, and returns it; the last entry gets the index. Before and after, the table has room for `bound` entries
-/// in all. A removal (`take_at`) may lose room for one entry, so it is only called if the table's capacity is above `bound`. Else
-/// `rebuild_without` copies the second half of the entries to `rows`, and puts them back without the entry. `rows` is empty before and
-/// after, and has room for half of `bound` (`buffer`).
+/// Removes the entry at `index`, at which the table has one (`within`), and returns it (`entry`); the last entry gets the index
+/// (`entries`). The table has at most `bound` entries before (`few`). Before and after, it has room for `bound` entries in all (`room`), so
+/// that insertions never need memory. A removal by `take_at` may lose room for one entry, so `take_at` is only called if the table's
+/// capacity, its entries and the room for more, is above `bound`. Else `rebuild_without` copies the second half of the entries to `rows`,
+/// and puts them back without the entry. `rows` is empty before and after (`empty`), and has room for half of `bound` entries (`buffer`).
 fn take_out<K: Eq + Hash + Copy, S: BuildHasher>(
     table: &mut IndexMap<K, u32, S>,
     rows: &mut Vec<(K, u32)>,
@@ -266,8 +284,9 @@ fn take_out<K: Eq + Hash + Copy, S: BuildHasher>(
     }
 }
 
-/// Takes out the entry at `index`, at which the table has one, and returns it. The last entry moves to `index`. The capacity of the table
-/// (its entries and the further ones for which it has room) falls by at most one (`room`).
+/// Takes out the entry at `index`, at which the table has one, and returns it. The last entry moves to `index` (`entries`). The capacity of
+/// the table (its entries and the further ones for which it has room) falls by at most one (`room`). So `take_out` calls this function only
+/// if the capacity is above the bound of the map. Otherwise it calls `rebuild_without`, which loses no capacity but takes more steps.
 #[inline(always)]
 fn take_at<K: Eq + Hash + Copy, S: BuildHasher>(
     table: &mut IndexMap<K, u32, S>,
@@ -285,10 +304,12 @@ fn take_at<K: Eq + Hash + Copy, S: BuildHasher>(
     entry
 }
 
-/// Takes out the entry at an index, and returns it; the last entry gets the index. The table loses no capacity (`room`), while `take_at`
-/// may lose that for one entry. To keep it, the second half of the table's entries is copied to `rows`, removed from the table, and put
-/// back without the entry. `rows` is empty before and after, and has room for this half (`buffer`). A call takes more steps the more
-/// entries there are, but is rare, so the function is out of line.
+/// Takes out the entry at `index`, at which the table has one, and returns it; the last entry gets this index. The capacity of the table,
+/// its entries and the further ones for which it has room (`spare`), does not fall (`room`). With `take_at`, which is quicker, it may fall
+/// by one; so `take_out` calls this function only if it must not fall. The entry is swapped to the end. Then the second half of the entries
+/// is copied to `rows`, removed from the table, which keeps its capacity if at least half of its entries go, and put back without the
+/// entry. `rows` is empty before and after, has room for this half (`requires buffer`), and keeps its capacity (`ensures buffer`). A call
+/// takes more steps the more entries there are, but is rare, so the function is out of line.
 #[cold]
 #[inline(never)]
 fn rebuild_without<K: Eq + Hash + Copy, S: BuildHasher>(
@@ -320,7 +341,9 @@ fn rebuild_without<K: Eq + Hash + Copy, S: BuildHasher>(
     taken
 }
 
-/// Copies the entries from index `start` on to `rows`, which is empty and has room for them.
+/// Copies the entries of the table from index `start` on to `rows`, in their order (`items`): for `rebuild_without`, which then removes
+/// them from the table. `start` is at most the number of entries (`within`); if it is that number, nothing is copied. `rows` is empty
+/// before, and has room for these entries (`requires buffer`): no memory is taken, so its capacity does not change (`ensures buffer`).
 fn copy_entries<K: Eq + Hash + Copy, S: BuildHasher>(
     table: &IndexMap<K, u32, S>,
     start: usize,
@@ -340,7 +363,9 @@ fn copy_entries<K: Eq + Hash + Copy, S: BuildHasher>(
     }
 }
 
-/// Adds these entries at the end of the table, which has room for them. No two keys of the table and of the entries are equal.
+/// Adds the entries `rows` at the end of the table, in their order (`entries`). The table has room for them without an allocation (`room`
+/// of `requires`), and loses room for no more entries than these (`room` of `ensures`). No two keys of the table and of `rows` are equal
+/// (`apart`), so none is replaced. `rebuild_without` puts back entries with it.
 fn put_all<K: Eq + Hash + Copy, S: BuildHasher>(table: &mut IndexMap<K, u32, S>, rows: &[(K, u32)])
     requires room { length rows.now ≤ spare table.old }
     requires apart { AreApart K.eq (table.old.entries ++ rows.now) }

@@ -10,8 +10,10 @@ use Rattle.reg_kinds.specs.declared.facts.Facts.{Facts}
 use Rattle.reg_kinds.specs.Pointers.{offsets_hull}
 use Rattle.reg_kinds.specs.Kinds.{kind_at, slot_at, facts_of}
 
--- the join of kinds: the hull (the least range that includes both) of two ranges, or of two ranges
--- of offsets into values of one map; else the kind, if both are the same; otherwise Unreadable
+-- the join of kinds: what is known of a value that has one kind or the other. Two ranges, and two
+-- ranges of offsets into values of one map, give their hull, the least range that includes both.
+-- Else the join is the kind, if both are the same (of a `MaybeValue`: its map m and the slot s of
+-- its look-up); otherwise it is Unreadable
 abbrev pub kind_join : Kind → Kind → Kind
 kind_join (Scalar a) (Scalar b) = Scalar (hull a b)
 kind_join (MapRef m) (MapRef n) = if m == n then MapRef m else Unreadable
@@ -28,9 +30,9 @@ abbrev pub spilled : Kind → Slot
 spilled Unreadable = Bytes 0
 spilled k = Spill k
 
--- the join of stack slots: of two spills, a spill with the join of their kinds, or no written byte
--- if that join is Unreadable; else the bytes that are written in both slots, none if one slot is a
--- spill
+-- the join of what is known of a stack slot on two edges: of two masks of written bytes (`Bytes`),
+-- the bytes that are written in both; of two spills (whole pointers or maps), a spill with the join
+-- of their kinds, or no written byte if that is Unreadable; of a mask and a spill, no written byte
 abbrev pub slot_join : Slot → Slot → Slot
 slot_join (Bytes x) (Bytes y) = Bytes (bit_and x y)
 slot_join (Spill j) (Spill k) = spilled (kind_join j k)

@@ -9,7 +9,9 @@ use Rattle.reg_kinds.specs.declared.kind.Slot.{Slot}
 use Rattle.reg_kinds.specs.declared.kind.Slot.TheVariants.{Bytes}
 use Rattle.reg_kinds.specs.declared.facts.Facts.{Facts}
 
--- whether values of the kind are pointers, possibly null, or maps, which count as pointers here
+-- whether a value of the kind is a pointer, possibly null, or a map, which counts as a pointer
+-- here; false for a number, and if nothing is known. No store puts a part of a pointer into the
+-- stack (`PartOfSpill`), or a pointer into a map's value (`PointerStored`)
 abbrev pub is_pointer : Kind → Bool
 is_pointer Unreadable = false
 is_pointer (Scalar r) = false

@@ -18,18 +18,21 @@ use Rattle.reg_kinds.specs.Stack.{bytes_over}
 abbrev pub bits_in : ℕ → ℕ → ℕ → ℕ
 bits_in p n i = (2 ^ (min 8 (p + n - 8 * i) - (p - 8 * i)) - 1) * 2 ^ (p - 8 * i)
 
--- whether the test holds of some number below n
+-- whether the test holds of at least one of the numbers 0 to n - 1, which are here those of stack
+-- slots; false for n = 0
 unfoldable pub any_below : ℕ → (ℕ → Bool) → Bool
 any_below zero test = false
 any_below (suc n) test = test n || any_below n test
 
--- whether the slot is a spill, and the bytes of an access touch it (`touched`)
+-- whether a stack slot is a spill, and an access touches a byte of the slot (`touched`). A helper
+-- may not read such bytes (`stack_input`), since a spill, a pointer or a map, is kept whole
 abbrev pub is_touched_spill : Slot → Bool → Bool
 is_touched_spill (Bytes mask) touched = false
 is_touched_spill (Spill k) touched = touched
 
--- whether one of the bytes of the slot that are in the mask `bits` may be unwritten; all bytes of a
--- spill are written
+-- whether one of the bytes of a stack slot that a helper reads, those of the mask `bits`, may be
+-- unwritten: it is not in `mask`, the bytes that are known to be written. False for a spill: all
+-- its bytes are written, and `stack_input` rejects a read that touches a spill as PartOfSpill
 abbrev pub lacks : Slot → ℕ → Bool
 lacks (Bytes mask) bits = not (bit_and mask bits == bits)
 lacks (Spill k) bits = false

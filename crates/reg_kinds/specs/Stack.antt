@@ -35,9 +35,10 @@ abbrev pub loaded : AccessSize → Bool → Kind
 loaded size true = Scalar (full 64)
 loaded size false = Scalar (full (8 * bytes_of size))
 
--- the kind of the value that a load of the bytes of mask `bits` from a slot gives, with its sign
--- extended if `signed`. A spill is loaded only whole, by a double word, else PartOfSpill. Other
--- bytes are loaded as a number, and only if all of them are written, else UnwrittenStack
+-- the kind that a load of this size from a stack slot gives. `bits` is the mask of the bytes that
+-- are loaded, bit k for byte k of the slot; `signed`: the load extends the sign. A spill, of kind
+-- k, is loaded only whole, by a double word, else PartOfSpill. Other bytes are loaded as a number
+-- (`loaded`), and only if all of them are written (in `mask`), else UnwrittenStack
 abbrev pub read_slot : Slot → ℕ → AccessSize → Bool → Result Kind Reason
 read_slot (Spill k) bits size signed = if is_double size then Ok k else Err PartOfSpill
 read_slot (Bytes mask) bits size signed =
@@ -50,8 +51,9 @@ stack_read f offset size signed =
 
 -- ---- stores
 
--- the slot after a write of its bytes of mask `bits`: other written bytes stay written; a spill is
--- lost, and its other bytes count as unwritten
+-- what is known of a stack slot after a write of its bytes in the mask `bits`, bit k for byte k:
+-- these bytes are written, and so are those that were written before (`mask`). A spill, eight bytes
+-- that hold a pointer or a map, is lost, and its other bytes count as unwritten
 abbrev pub bytes_over : Slot → ℕ → Slot
 bytes_over (Bytes mask) bits = Bytes (bit_or mask bits)
 bytes_over (Spill k) bits = Bytes bits
@@ -77,8 +79,10 @@ abbrev pub stack_write : Facts → ℤ → AccessSize → Kind → Result Facts 
 stack_write f offset size Unreadable = Err UnreadableRegister
 stack_write f offset size k = and_then_ok (touched offset size) (facts_written f size k)
 
--- the stack of facts g, after a change, is that of facts f, before it: in all slots (None), or in
--- all except stack slot i, which is one of the 64
+-- the stack of facts g, after a change, is that of facts f, before it: in all stack slots (None),
+-- or in all but slot i (Some i), which may differ and is less than `stack_slots`. Nothing is said
+-- of registers. So the verifier learns which slots an instruction may have changed (`KeepsStack` of
+-- `transfer`)
 abbrev pub ChangesAtMost : Option ℕ → Facts → Facts → Type 0
 ChangesAtMost None f g = g.slots ≡ f.slots
 ChangesAtMost (Some i) f g = (i < stack_slots) × ((k : ℕ) → k ≢ i → slot_at g k ≡ slot_at f k)

@@ -37,7 +37,7 @@ impl Facts {
         self.registers[usize::from(reg.number())]
     }
 
-    /// Sets the kind of a register.
+    /// Sets the kind of a register. Nothing else in the facts changes.
     pub fn set_kind(&mut self, reg: Reg, kind: Kind)
         ensures { self.new ≡ with_kind self.old reg kind }
     {
@@ -52,7 +52,8 @@ impl Facts {
         self.slots[index]
     }
 
-    /// Sets what is known of stack slot `number`, 0 to 63.
+    /// Sets what is known of the stack slot with this number, below `STACK_SLOTS`; number 0 is the lowest stack slot. No other facts
+    /// change.
     pub(crate) fn set_slot(&mut self, number: usize, slot: Slot)
         requires { number < STACK_SLOTS }
         ensures { self.new ≡ with_slot self.old number slot }

@@ -47,8 +47,9 @@ impl Kind {
 }
 
 impl Slot {
-    /// The join of two stack slots: the bytes that are written in both, or the join of two spilled values. If that is
-    /// `Unreadable`, or only one side is a spill, no byte counts as written.
+    /// The join of two stack slots (`slot_join`), for edges that merge. Of two slots without a spill, it has the bytes that are written in
+    /// both. Of two spills, it is a spill with the join of their kinds, or a slot without a written byte if that join is `Unreadable`. If
+    /// only one slot is a spill, no byte of the join counts as written.
     pub fn join(self, other: Slot) -> Slot
         ensures { result ≡ slot_join self other }
     {
@@ -60,14 +61,18 @@ impl Slot {
     }
 }
 
-/// The join of two pointers into values of one map, as callers have checked: the least range of offsets that includes both.
+/// The join of two pointers into values of one map: a pointer into a value of this map with the least range of offsets, in bytes, that
+/// includes both ranges. Each caller has tested that `p` and `q` have one map. The contract does not require it: for two maps the result
+/// has the map of `p`, and is not the join of the two kinds, which is `Unreadable`.
 fn offsets_hull(p: ValuePointer, q: ValuePointer) -> ValuePointer
     ensures { result ≡ offsets_hull p q }
 {
     ValuePointer::new(p.map, p.lo.min(q.lo), p.hi.max(q.hi))
 }
 
-/// What is known of a stack slot that has a spilled value of this kind; if the kind is `Unreadable`, no byte counts as written.
+/// What is known of a stack slot with a spill on both edges, if the join of the two spilled kinds is `kind`: a spill of this kind. If
+/// `kind` is `Unreadable`, the two values have no kind in common: then no byte of the slot counts as written (`Bytes(0)`), so a read of the
+/// slot is rejected.
 fn spilled(kind: Kind) -> Slot
     ensures { result ≡ spilled kind }
 {
@@ -77,7 +82,9 @@ fn spilled(kind: Kind) -> Slot
     }
 }
 
-/// The join of two facts: that of each register and of each stack slot.
+/// The join of the facts on two edges to one instruction, as new facts: each register has the join of its two kinds, and each stack slot
+/// the join of what is known of it on the two edges. Only `known_answers.rt` and the worked cases of joins call it: the verifier joins
+/// registers and groups of stack slots by themselves (`join_registers`, `join_group`).
 pub fn join(a: &Facts, b: &Facts) -> Facts
     ensures { result ≡ facts_join a.now b.now }
 {
@@ -94,7 +101,9 @@ pub fn join_into(facts: &mut Facts, edge: &Facts)
     join_stack(facts, edge);
 }
 
-/// Whether the range `a` includes `b`; then a join of `b` into `a` changes nothing, since their hull is `a`.
+/// Whether the range `a` includes the range `b`. If it does, a join of `b` into `a` changes nothing, since `hull`, the least range that
+/// includes both, is `a`: so `join_kind` tests this first, and then writes nothing. If the result is false, the contract claims nothing,
+/// and `join_kind` has the join computed.
 #[tactic(auto, using(crate::proofs::Absorption::hull_holds))]
 #[inline(always)]
 fn holds_range(a: &Range, b: &Range) -> bool
@@ -117,7 +126,8 @@ fn join_other_kind(known: &mut Kind, edge: &Kind)
     }
 }
 
-/// Joins the kind `edge` into `known`. It is out of line, so that `join_other_kind` need not save machine registers on the machine's stack.
+/// Joins the kind `edge` into `known`, for any two kinds; `join_other_kind` calls it unless both are ranges, or pointers into values of one
+/// map. It is not inlined, so that `join_other_kind` need not save machine registers on the machine's stack.
 #[inline(never)]
 fn join_any_kinds(known: &mut Kind, edge: &Kind)
     ensures { known.new ≡ kind_join known.old edge.now }
@@ -125,8 +135,10 @@ fn join_any_kinds(known: &mut Kind, edge: &Kind)
     *known = known.join(*edge);
 }
 
-/// Joins the kind `edge` into `known`. Nothing is written if the join is `known`: if this is `Unreadable`, the same kind as `edge`, or a
-/// range or offsets that include those of `edge`.
+/// Joins `edge`, the kind of a register on another edge to the same instruction, into `known`, its kind on the edges so far. Nothing is
+/// written if that changes nothing, which is tested first. There are three such cases: `known` is `Unreadable`; both kinds are the same;
+/// both are ranges, or ranges of offsets into values of one map, and the range in `known` includes that in `edge`. `join_other_kind` makes
+/// all other joins.
 #[inline(always)]
 fn join_kind(known: &mut Kind, edge: &Kind)
     ensures { known.new ≡ kind_join known.old edge.now }
@@ -169,8 +181,9 @@ pub fn join_registers(facts: &mut Facts, edge: &Facts)
     join_register(facts, edge, 10);
 }
 
-/// Whether the range of offsets of `p` includes that of `q`, for pointers into values of one map; then a join of `q` into `p` changes
-/// nothing.
+/// Whether the range of offsets of `p` includes that of `q`. Then the least range with both (`offsets_hull`) is that of `p`, so `join_kind`
+/// and `join_slot` have nothing to write. They ask only if both point into values of one map, but that is not required: neither the result
+/// nor `offsets_hull`, which has the map of `p`, depends on the map of `q`.
 #[inline(always)]
 fn includes_offsets(p: &ValuePointer, q: &ValuePointer) -> bool
     ensures { result ≡ true → offsets_hull p.now q.now ≡ p.now }
@@ -178,9 +191,10 @@ fn includes_offsets(p: &ValuePointer, q: &ValuePointer) -> bool
     p.lo <= q.lo && q.hi <= p.hi
 }
 
-/// Whether both kinds are the context, the same stack offset, the same map, or the result of the same look-up: then their join changes
-/// nothing. False for two numbers, pointers into values or unreadable kinds, even if they are equal: the callers test or join these
-/// themselves.
+/// Whether `known` and `edge`, two kinds that are joined, are both the context, pointers to the same stack offset, the same map, or results
+/// of the same look-up: then their join is `known`, so nothing has to be written. This holds for the kinds of a register (`kinds`) and for
+/// those of spilled values in a stack slot (`spills`). False for two numbers, pointers into values or unreadable kinds, even if they are
+/// equal: the callers test or join these themselves.
 #[inline(always)]
 fn are_same(known: &Kind, edge: &Kind) -> bool
     ensures kinds { result ≡ true → kind_join known.now edge.now ≡ known.now }
@@ -197,7 +211,9 @@ fn are_same(known: &Kind, edge: &Kind) -> bool
     }
 }
 
-/// Joins the mask `other` of written bytes into `mask`: only bytes in both count as written. Returns whether that changes `mask`.
+/// Joins `other`, the mask of the written bytes of a stack slot on another edge, into `mask`: a byte counts as written only if its bit is 1
+/// in both masks. Returns whether this changes `mask`. The contract promises only that after `false` it is unchanged (`stays`), which is
+/// all that the contract of the caller `join_slot` needs.
 #[inline(always)]
 fn keep_common(mask: &mut u8, other: u8) -> bool
     ensures mask { mask.new ≡ bit_and mask.old other }
@@ -211,9 +227,10 @@ fn keep_common(mask: &mut u8, other: u8) -> bool
     true
 }
 
-/// Joins `edge`, what is known of a stack slot on another edge, into `known`. If only one of them is a spill, no byte of the join counts as
-/// written (`Bytes(0)`). Returns false only if `known` is unchanged. After a join by `join_other_slots`, which is not inlined, returns true
-/// whether `known` has changed or not.
+/// Joins `edge`, what is known of a stack slot on another edge to the same instruction, into `known`. The join of two masks of written
+/// bytes is the mask of the bytes in both; that of two spills is a spill with the join of their kinds. If that join is `Unreadable`, or
+/// only one side is a spill, no byte counts as written (`Bytes(0)`). Returns false only if `known` is unchanged (`stays`). After a join by
+/// `join_other_slots`, which is not inlined, returns true whether `known` has changed or not.
 #[inline(always)]
 fn join_slot(known: &mut Slot, edge: &Slot) -> bool
     ensures slot { known.new ≡ slot_join known.old edge.now }
@@ -236,10 +253,10 @@ fn join_slot(known: &mut Slot, edge: &Slot) -> bool
     }
 }
 
-/// Joins the stack slot `edge` into `known`, which is a spill that the join may change (`join_slot`). Two cases, which a program can force
-/// in many slots, are joined here: two spilled pointers into values of one map give the least range of offsets that includes both, and a
-/// spill with an `edge` that is no spill gives a slot without a written byte. `join_any_slots`, which is not inlined, joins in all other
-/// cases.
+/// Joins the stack slot `edge` into `known`. The contract is for any two slots, but the only caller, `join_slot`, has found that `known` is
+/// a spill that the join may change. Two cases, which a program can force in many slots, are joined here: two spilled pointers into values
+/// of one map give the least range of offsets that includes both (`offsets_hull`), and a spill with an `edge` that is no spill gives a slot
+/// without a written byte (`Bytes(0)`). `join_any_slots`, which is not inlined, joins in all other cases.
 #[inline(never)]
 fn join_other_slots(known: &mut Slot, edge: &Slot)
     ensures { known.new ≡ slot_join known.old edge.now }
@@ -253,8 +270,9 @@ fn join_other_slots(known: &mut Slot, edge: &Slot)
     }
 }
 
-/// Joins the stack slot `edge` into `known`. It is out of line, so that `join_other_slots` need not save machine registers on the machine's
-/// stack.
+/// Joins `edge`, what is known of a stack slot on another edge, into `known`, for any two stack slots (`Slot::join`). The only caller,
+/// `join_other_slots`, joins by itself the cases that a program can force in many slots, and calls this function for the others. It is out
+/// of line, so that `join_other_slots` need not save machine registers on the machine's stack.
 #[inline(never)]
 fn join_any_slots(known: &mut Slot, edge: &Slot)
     ensures { known.new ≡ slot_join known.old edge.now }
@@ -262,8 +280,9 @@ fn join_any_slots(known: &mut Slot, edge: &Slot)
     *known = known.join(*edge);
 }
 
-/// Joins the stack slots of `group` in `edge`, the facts on another edge to the same instruction, into those in `facts`; no other slot and
-/// no register changes. Returns false only if no slot has changed.
+/// Joins the eight stack slots of `group` in `edge`, the facts on another edge to the same instruction, into those in `facts`; no other
+/// slot and no register changes (`group_joined`). If it returns false, no slot has changed (`stack`), and the verifier keeps the number of
+/// the group (`GROUP_SLOTS`). After true, which does not promise a change, the group gets a new number.
 pub fn join_group(facts: &mut Facts, edge: &Facts, group: StackGroup) -> bool
     ensures facts { facts.new ≡ with_slots facts.old
         (group_joined group.number facts.old edge.now) }

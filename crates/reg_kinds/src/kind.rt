@@ -21,7 +21,8 @@ impl ValuePointer {
     ghost use Rattle.std.specs.Prelude.{◌≡◌, ◌≤ℤ◌};
     ghost use Rattle.reg_kinds.specs.Pointers.{value_span};
 
-    /// A pointer into a value of the map with descriptor `map`, at an offset from `lo` to `hi`. Callers pass the ends of a range, in order.
+    /// A pointer into a value of the map with descriptor `map`, at an offset from `lo` to `hi`, both included. Callers pass the ends of a
+    /// range, in order; so `value_span`, whose upper end is the greater of both, is this pointer.
     pub fn new(map: u32, lo: i32, hi: i32) -> ValuePointer
         requires { lo ≤ℤ hi }
         ensures { result ≡ value_span map lo hi }
@@ -67,8 +68,9 @@ impl Kind {
     ghost use Rattle.std.specs.Prelude.{◌≡◌};
     ghost use Rattle.reg_kinds.specs.Kinds.{is_pointer};
 
-    /// Whether values of the kind are pointers, possibly null, or map references, which count as pointers here: a store puts them into the
-    /// stack whole or not at all.
+    /// Whether the kind counts as a pointer: true for a pointer, for the result of a look-up before its null test, and for a map reference.
+    /// A store puts such a value into the stack whole or not at all, and never into the value of a map. False for a number, and for
+    /// `Unreadable`.
     pub fn is_pointer(self) -> bool
         ensures { result ≡ is_pointer self }
     {

@@ -36,7 +36,8 @@ fn joins() {
     prove!(is_hull);
 }
 
-/// A pointer can be stored, and a load of only some of its bytes is then rejected.
+/// A pointer can be stored whole, with its eight bytes, into the highest stack slot (offset -8 from the stack's upper end). A load of only
+/// some of its bytes, here two from offset -6, without sign extension (`false`), is then rejected: `PartOfSpill`.
 fn a_pointer_is_spilled_whole() {
     let mut facts = Facts::at_entry();
     let stored = write_stack(&mut facts, -8, AccessSize::Double, Kind::Stack(0));
@@ -47,7 +48,8 @@ fn a_pointer_is_spilled_whole() {
     prove!(is_refused);
 }
 
-/// If the result of the look-up at slot 5 is not null (`false`), a register with it is a pointer into a value.
+/// If a null test has found that the result of the look-up at slot 5 is not null (`false` in the call of `settle`), a register with this
+/// result, here register 6, is known to be a pointer into a value.
 #[tactic(auto, unfolding(crate::specs::Kinds::tabulate))]
 fn a_null_test_settles() {
     let mut facts = Facts::at_entry();
@@ -58,7 +60,8 @@ fn a_null_test_settles() {
     prove!(is_value);
 }
 
-/// Out of memory is reason 40, and the context counts as a pointer.
+/// The number that a refusal reports for out of memory (`Memory`) is 40. The kind of a pointer to the context (`Ctx`) counts as a pointer
+/// (`is_pointer`): a store puts it into the stack whole or not at all.
 fn numbers_of_reasons() {
     let number = Reason::Memory.number();
     prove!(number == 40);

@@ -7,7 +7,9 @@ ghost use Rattle.reg_kinds.specs.Laws.{SlotsAssociate, SlotsAbsorb, FactsCommute
 
 use crate::facts::Facts;
 
-/// A law: the joins of kinds, of stack slots and of facts are commutative. Nothing is done when it runs.
+/// A law: the joins of kinds (`kinds`), of stack slots (`slots`) and of facts (`facts`) are commutative. So if two edges merge, the facts
+/// of either may be joined into those of the other. The proofs of `join_admits` of `abstraction` and of `check_safety` of `verifier` use
+/// this. Nothing is done when it runs.
 pub fn joins_commute()
     ensures kinds { KindsCommute }
     ensures slots { SlotsCommute }
@@ -16,7 +18,9 @@ pub fn joins_commute()
     interval::laws::hull_is_a_join();
 }
 
-/// A law: the joins of kinds, of stack slots and of facts are associative. Nothing is done when it runs.
+/// A law: the joins of kinds (`kinds`), of stack slots (`slots`) and of facts (`facts`) are associative: for all a, b and c the join of a
+/// and b, joined with c, equals a joined with the join of b and c. The proof of `check_safety` of `verifier` needs `facts`: its pass joins
+/// the facts that arrive at a slot in another order than the definition (`facts_before`). Nothing is done when it runs.
 pub fn joins_associate()
     ensures kinds { KindsAssociate }
     ensures slots { SlotsAssociate }
@@ -25,7 +29,8 @@ pub fn joins_associate()
     interval::laws::hull_is_a_join();
 }
 
-/// A law: if slot t is joined into the join of the stack slots s and t, nothing changes. Nothing is done when it runs.
+/// A law for what is known of a stack slot (`Slot`): once t has been joined into s, a second join with t changes nothing. So the pass of
+/// `verifier` may leave out a join that would repeat the last one into a group of stack slots. Nothing is done when it runs.
 pub fn slots_absorb()
     ensures { SlotsAbsorb }
 {

@@ -15,8 +15,9 @@ use crate::reason::Reason;
 use crate::stack::{LOWEST, bytes_over};
 use words::{REGISTERS, STACK_SLOTS};
 
-/// Whether `count` bytes of the stack, from byte index `start` on, touch stack slot `index`: one of them lies there. With `count` 0 it is
-/// true of the slot with byte `start`, unless this is the slot's first byte.
+/// Whether `count` bytes of the stack, from byte index `start` on, touch stack slot `index`: one of them is among the slot's eight bytes.
+/// The `count` bytes lie in the stack (`within`), and the slot is one of its 64 (`slot`), so no sum overflows. With `count` 0 the result is
+/// true for the slot with byte `start`, unless this is the slot's first byte.
 fn touches(start: usize, count: usize, index: usize) -> bool
     requires within { start + count ≤ stack_size }
     requires slot { index < stack_slots }
@@ -47,7 +48,8 @@ fn bits_in(start: usize, count: usize, index: usize) -> u8
     if from < to { ones(to - from, from) } else { 0 }
 }
 
-/// The byte index at which `count` bytes at `offset` from the stack's upper end start; `None` if they don't all lie in the stack.
+/// The byte index at which `count` bytes at `offset` from the stack's upper end start (`value`); `None` if they don't all lie in the stack.
+/// By `within` the bytes end at byte index `STACK_SIZE` or below, which is the stack's upper end.
 fn start_of(offset: i32, count: u32) -> Option<usize>
     ensures value { result ≡ (if is_in_stack offset count then Some (byte_index offset) else None) }
     ensures within { IfSome result (λ p. p + count ≤ stack_size) }
@@ -59,7 +61,8 @@ fn start_of(offset: i32, count: u32) -> Option<usize>
     }
 }
 
-/// Whether the slot is a spill, and the bytes of an access touch it (`touched`).
+/// Whether the stack slot is a spill that an access touches. `touched` is whether the access touches a byte of the slot. `touch_a_spill`
+/// needs this of the slots with bytes that a helper reads: a helper may not read any byte of a spill (`PartOfSpill`).
 fn is_touched_spill(slot: Slot, touched: bool) -> bool
     ensures { result ≡ is_touched_spill slot touched }
 {
@@ -69,7 +72,8 @@ fn is_touched_spill(slot: Slot, touched: bool) -> bool
     }
 }
 
-/// Whether one of the bytes of the slot that are in the mask `bits` may be unwritten. All bytes of a spill are written.
+/// Whether one of the bytes of a stack slot that are in the mask `bits` (bit k for byte k) may be unwritten, so that a helper may not read
+/// them. The mask of `Slot::Bytes` has the bytes that are written; of a spill all bytes are written.
 fn lacks(slot: Slot, bits: u8) -> bool
     ensures { result ≡ lacks slot bits }
 {
@@ -80,7 +84,7 @@ fn lacks(slot: Slot, bits: u8) -> bool
 }
 
 /// The number of the first stack slot that begins at or after the end of the `count` stack bytes from byte index `start` on; `STACK_SLOTS`
-/// if no slot does. The bytes touch neither this slot nor a higher one.
+/// if no slot does. The bytes touch neither this slot nor a higher one, so a loop over the slots that they touch ends before it.
 fn past_touched(start: usize, count: usize) -> usize
     requires { start + count ≤ stack_size }
     ensures bytes { start + count ≤ 8 * result }
@@ -89,8 +93,9 @@ fn past_touched(start: usize, count: usize) -> usize
     (start + count).div_ceil(8)
 }
 
-/// Whether `count` bytes of the stack, from byte index `start` on, touch a spill. The slots below and above those of the loop are not
-/// touched.
+/// Whether the `count` stack bytes from byte index `start` on touch a spill; if so, `check_read` rejects a helper's read of them. The
+/// contract is about all `stack_slots` stack slots (`any_below`). The loop leaves out those that end before the bytes or begin after them,
+/// since the bytes do not touch these. If `count` is 0, the stack slot of byte `start` counts as touched, unless this byte is its first.
 fn touch_a_spill(facts: &Facts, start: usize, count: usize) -> bool
     requires { start + count ≤ stack_size }
     ensures { result ≡ any_below stack_slots
@@ -104,8 +109,9 @@ fn touch_a_spill(facts: &Facts, start: usize, count: usize) -> bool
     false
 }
 
-/// Whether at least one of the `count` stack bytes from byte index `start` on may be unwritten. The loop leaves out only stack slots that
-/// have none of these bytes.
+/// Whether at least one of the `count` stack bytes from byte index `start` on may be unwritten: then `check_read` rejects a helper's read
+/// of them. All bytes of a spill are written. In the contract, `bits_in` is the mask of these bytes in stack slot `i`, and `lacks` is
+/// whether one of them may be unwritten. The loop leaves out only stack slots that have none of these bytes, so that their masks are 0.
 fn is_any_unwritten(facts: &Facts, start: usize, count: usize) -> bool
     requires { start + count ≤ stack_size }
     ensures { result ≡ any_below stack_slots
@@ -136,10 +142,11 @@ pub fn check_read(facts: &Facts, offset: i32, count: u32) -> Result<(), Reason>
     }
 }
 
-/// Changes the facts to those after a write of at least `least` and at most `most` bytes at `offset` from the stack's upper end. The first
-/// `least` bytes count as written. A spill that the first `most` bytes touch is lost: those of its bytes that are not among the first
-/// `least` count as unwritten. All other bytes that were written stay written. `OutsideStack`, and nothing changes, if `most` bytes don't
-/// all lie in the stack. If `least` is above `most`, no write has such a length, and the facts describe no run.
+/// Changes the facts to those after a helper's write at `offset` from the stack's upper end. Its length is a register's number, of which
+/// only a range is known: at least `least` and at most `most` bytes. The first `least` bytes count as written. A spill that has one of the
+/// first `most` bytes is lost: its bytes that are not among the first `least` count as unwritten. What is known of all other bytes is
+/// unchanged. `OutsideStack`, and nothing changes, if `most` bytes don't all lie in the stack. If `least` is above `most`, no write has
+/// such a length, and the facts describe no run.
 pub fn fill_stack(facts: &mut Facts, offset: i32, least: u32, most: u32) -> Result<(), Reason>
     ensures { MatchResult (stack_filled facts.old offset least most)
         (λ after. (result ≡ Ok tt) × (facts.new ≡ after))
@@ -150,11 +157,12 @@ pub fn fill_stack(facts: &mut Facts, offset: i32, least: u32, most: u32) -> Resu
     Ok(())
 }
 
-/// What is known of stack slot `index` after a write of at least `least` and at most `most` bytes from byte index `start` on. If the first
-/// `most` bytes touch no byte of the slot, the result is `slot`, which was known before. Otherwise the bytes of the slot that are among the
-/// first `least` count as written, and other written bytes stay written, except that a spill is lost: its bytes that are not among the
-/// first `least` count as unwritten. If `least` is above `most`, no write has such a length, and the result describes no run. `least` is
-/// below 2^32, so `start + least` can't overflow.
+/// What is known of stack slot `index` after a write of at least `least` and at most `most` bytes from byte index `start` on; `slot` is
+/// what was known before. The first `most` bytes lie in the stack (`within`). If they do not touch the stack slot (`touches`), the result
+/// is `slot`. If they do, those of its bytes that are among the first `least` count as written (`bits_in`). Its other bytes stay as they
+/// were, written or not; but a spill is lost, and then they count as unwritten (`bytes_over`). With `most` 0 the stack slot with byte
+/// `start` counts as touched, unless this is its first byte; so a spill there is lost. If `least` is above `most`, no write has such a
+/// length, and the result describes no run. `least` comes from a `u32`, so it is below 2^32, and `start + least` can't overflow.
 fn filled_slot(slot: Slot, start: usize, least: usize, most: usize, index: usize) -> Slot
     requires least { least < 2 ^ 32 }
     requires within { start + most ≤ stack_size }
@@ -169,9 +177,11 @@ fn filled_slot(slot: Slot, start: usize, least: usize, most: usize, index: usize
     }
 }
 
-/// Changes each stack slot to what is known of it after a write of `least` to `most` bytes from byte index `start` on, by `filled_slot`:
-/// the first `least` bytes count as written, and a spill that `most` bytes touch is lost. `start_of` has checked that `most` bytes lie in
-/// the stack; `least` comes from a `u32`.
+/// Changes the facts to what is known of each stack slot after a write of at least `least` and at most `most` bytes from byte index `start`
+/// on. A slot for which `touches` is false has none of the first `most` bytes and is unchanged. Of any other slot (`bytes_over`), the bytes
+/// that are among the first `least` (`bits_in`) count as written, and other written bytes are still written; but a spill is lost, and its
+/// other bytes count as unwritten. `within`: `start_of` has checked that `most` bytes lie in the stack. `least` comes from a `u32`, so its
+/// sum with `start` can't overflow.
 fn fill_slots(facts: &mut Facts, start: usize, least: usize, most: usize)
     requires least { least < 2 ^ 32 }
     requires within { start + most ≤ stack_size }
@@ -199,8 +209,9 @@ fn called_kind(kind: Kind, result_kind: Kind, register: usize) -> Kind
     }
 }
 
-/// Changes the facts to those after a call whose result is of the kind `given`: register 0 has it, and registers 1 to 5, which a call
-/// clobbers, are unreadable. The stack is unchanged: if a helper writes there, the caller calls `fill_stack` before.
+/// Changes the facts to those after a call whose result is of the kind `given`: register 0 has it, registers 1 to 5, which a call clobbers,
+/// are unreadable, and registers 6 to 10 are unchanged. The stack is unchanged too: if a helper writes there, the caller calls `fill_stack`
+/// before.
 pub fn facts_after_call(facts: &mut Facts, given: Kind)
     ensures { facts.new ≡ called_facts facts.old given }
 {

@@ -9,8 +9,10 @@ use crate::kind::{Kind, Slot, ValuePointer};
 use interval::Range;
 use words::{REGISTERS, STACK_SLOTS};
 
-/// Settles all copies of the result of the look-up at slot `site`, after a test that found it null (`null`) or not. If `null`, a copy in a
-/// register is the number 0, one in the stack eight written bytes; else each is a pointer to the start of a value. No other kind changes.
+/// Settles, in the facts on one edge of a null test, all copies of the result of the look-up at program slot `site`. `null` is whether the
+/// result is null on this edge. If `null`, a copy in a register becomes the number 0, one in the stack eight written bytes; else each
+/// becomes a pointer to the start of a value. No other kind changes. The log calls this function for each edge; the verifier's pass uses
+/// `settle_both`.
 pub fn settle(facts: &mut Facts, site: usize, null: bool)
     ensures { facts.new ≡ facts_settled site null facts.old }
 {
@@ -18,8 +20,9 @@ pub fn settle(facts: &mut Facts, site: usize, null: bool)
     settle_stack(facts, site, null);
 }
 
-/// Settles the kind of each register that has the result of the look-up at slot `site`: it becomes the number 0 if `null`, else a pointer
-/// to the start of a value. All other kinds are unchanged.
+/// Settles the kind of each register that has the result of the look-up at slot `site`, after a test that found this result null (`null`)
+/// or not null (false): the kind becomes the number 0 if `null`, else a pointer to the start of a value. All other kinds, and the stack
+/// slots, are unchanged.
 fn settle_registers(facts: &mut Facts, site: usize, null: bool)
     ensures { facts.new ≡ with_registers facts.old
         (λ r. kind_settled site null (kind_at facts.old r)) }
@@ -29,8 +32,9 @@ fn settle_registers(facts: &mut Facts, site: usize, null: bool)
     }
 }
 
-/// Settles each stack slot with the spilled result of the look-up at slot `site`: eight written bytes if `null`, else a pointer to the
-/// start of a value.
+/// Settles each stack slot with a spilled copy of the result of the look-up at program slot `site`, after a test that found the result null
+/// (`null`) or not. If `null`, the stack slot has eight written bytes, as after a store of a number; else it has a pointer to the start of
+/// a value. Any other stack slot is unchanged.
 fn settle_stack(facts: &mut Facts, site: usize, null: bool)
     ensures { facts.new ≡ with_slots facts.old (λ i. slot_settled site null (slot_at facts.old i)) }
 {
@@ -39,8 +43,9 @@ fn settle_stack(facts: &mut Facts, site: usize, null: bool)
     }
 }
 
-/// Settles the kind of a register, if it has the result of the look-up at slot `site`: the number 0 if `null`, else a pointer to the start
-/// of a value. Any other kind, also the result of another look-up, is unchanged.
+/// Settles the kind of a register after a null test of the result of the look-up at slot `site`. `null` is whether the test found this
+/// result null. If the register has the result, its kind becomes that of the number 0 if `null`, else that of a pointer to the start of a
+/// value of the map. Any other kind, also that of another look-up's result, is unchanged.
 #[inline(always)]
 fn settle_kind(kind: &mut Kind, site: usize, null: bool)
     ensures { kind.new ≡ kind_settled site null kind.old }
@@ -57,8 +62,9 @@ fn settle_kind(kind: &mut Kind, site: usize, null: bool)
     }
 }
 
-/// Settles a stack slot, if it has the spilled result of the look-up at slot `site`: eight written bytes if `null`, else a pointer to the
-/// start of a value. Any other slot, also with the result of another look-up, is unchanged.
+/// Settles a stack slot, if it has a spilled copy of the result of the look-up at program slot `site`, after a test that found the result
+/// null (`null`) or not. If `null`, the stack slot has eight written bytes (the mask 0xff), as after a store of a number; else it has a
+/// pointer to the start of a value. Any other stack slot, also with the result of another look-up, is unchanged.
 #[inline(always)]
 fn settle_slot(slot: &mut Slot, site: usize, null: bool)
     ensures { slot.new ≡ slot_settled site null slot.old }
@@ -87,8 +93,10 @@ pub fn settle_both(facts: &mut Facts, taken: &mut Facts, site: usize, null: bool
     settle_both_stacks(facts, taken, site, null);
 }
 
-/// Splits the registers in `facts` before a null test of the look-up at slot `site`: `taken` gets those on the jumping edge, on which the
-/// result is null exactly if `null`, and `facts` those on the falling edge, on which it is the opposite. No stack slot changes.
+/// Settles the registers for both edges of a null test of the look-up at slot `site`. Before the call `facts` has the registers before the
+/// test; afterwards `facts` has those on the falling edge, and `taken` those on the jumping edge. `null`: whether the look-up's result is
+/// null on the jumping edge; on the falling edge the opposite holds. A copy of the result becomes the number 0 on the edge with null, on
+/// the other a pointer to the start of a value; other registers keep their kinds of `facts` on both. No stack slot changes.
 fn settle_both_registers(facts: &mut Facts, taken: &mut Facts, site: usize, null: bool)
     ensures taken { taken.new ≡ with_registers taken.old
         (λ r. kind_settled site null (kind_at facts.old r)) }
@@ -101,9 +109,9 @@ fn settle_both_registers(facts: &mut Facts, taken: &mut Facts, site: usize, null
     }
 }
 
-/// Settles the stack for both edges of a null test of the look-up at slot `site`. Before the call `facts` has the stack slots before the
-/// test; afterwards `facts` has the stack slots on the falling edge, and `taken` has those on the jumping edge. The look-up's result is
-/// null on the jumping edge if `null`, else on the falling edge. No register changes.
+/// Settles the stack for both edges of a null test of the look-up at slot `site` of the program. Before the call `facts` has the stack
+/// slots before the test; afterwards `facts` has the stack slots on the falling edge (`falls`), and `taken` has those on the jumping edge.
+/// The look-up's result is null on the jumping edge if `null`, else on the falling edge. No register changes.
 fn settle_both_stacks(facts: &mut Facts, taken: &mut Facts, site: usize, null: bool)
     ensures taken { taken.new ≡ with_slots taken.old
         (λ i. slot_settled site null (slot_at facts.old i)) }
@@ -116,9 +124,10 @@ fn settle_both_stacks(facts: &mut Facts, taken: &mut Facts, site: usize, null: b
     }
 }
 
-/// Settles a register's kind for both edges of a null test of the look-up at slot `site`: `kind` for the falling edge, and its copy `taken`
-/// for the jumping one. `null`: whether the look-up's result is null on the jumping edge; on the falling edge the opposite holds. A kind
-/// that is not that of the look-up's result is unchanged in both.
+/// Settles a register's kind for both edges of a null test of the look-up at slot `site`: `kind` for the falling edge (`falls`), and
+/// `taken`, a copy of it, for the jumping edge. If it is the kind of the look-up's result, it becomes the number 0 on the edge with the
+/// null result, and a pointer to the start of a value on the other edge. The result is null on the jumping edge if `null`, else on the
+/// falling edge. Any other kind, also of the result of another look-up, is unchanged in both.
 #[inline(always)]
 fn settle_both_kinds(kind: &mut Kind, taken: &mut Kind, site: usize, null: bool)
     requires { taken.now ≡ kind.now }
@@ -134,9 +143,10 @@ fn settle_both_kinds(kind: &mut Kind, taken: &mut Kind, site: usize, null: bool)
     }
 }
 
-/// Settles a stack slot for both edges of a null test of the look-up at slot `site`: `slot` for the falling edge, and `taken`, a copy of
-/// it, for the jumping edge. If the slot has the look-up's result, this is null in `taken` if `null`, else in `slot`, and a value in the
-/// other. Any other slot is unchanged in both.
+/// Settles a stack slot for both edges of a null test of the look-up at `site`, a slot of the program. Afterwards `slot` is as on the
+/// falling edge, and `taken`, before the call a copy of it, is as on the jumping edge. `null` is whether the look-up's result is null on
+/// the jumping edge; on the falling edge the opposite holds. If the stack slot has the spilled result, it becomes eight written bytes on
+/// the edge with null, and a spilled pointer to the start of a value on the other. Any other stack slot is unchanged in both.
 #[inline(always)]
 fn settle_both_slots(slot: &mut Slot, taken: &mut Slot, site: usize, null: bool)
     requires { taken.now ≡ slot.now }

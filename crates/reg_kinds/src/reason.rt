@@ -64,7 +64,7 @@ impl Reason {
     ghost use Rattle.std.specs.Prelude.{◌≡◌};
     ghost use Rattle.reg_kinds.specs.Reason.{number};
 
-    /// The number that a refusal reports: 1 to 9 for the shape of a program, 20 to 36 for its safety, 40 for memory.
+    /// The number that a refusal reports: 1 to 9 for a fault of the program's shape, 20 to 36 for one of its safety, 40 if out of memory.
     pub fn number(self) -> u16
         ensures { result ≡ number self }
     {

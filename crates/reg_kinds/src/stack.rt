@@ -15,9 +15,10 @@ use words::{AccessSize, STACK_SIZE};
 /// The offset of the stack's lowest byte from its upper end: -512.
 pub(crate) const LOWEST: i32 = -(STACK_SIZE as i32);
 
-/// The kind of the value that a load at `offset` from the stack's upper end gives; a number is sign-extended if `signed`. The error is the
-/// first that applies: the load is not in the stack (`OutsideStack`), it is not aligned to its size (`UnalignedStack`), it reads only some
-/// bytes of a spill (`PartOfSpill`), a byte may be unwritten (`UnwrittenStack`).
+/// The kind of the value that a load of `size` bytes at `offset` from the stack's upper end gives: the kind of the spill at this offset;
+/// for other bytes any number of `size` bytes, or any of 64 bits if the load extends the sign (`signed`). The error is the first that
+/// applies: the load is not in the stack (`OutsideStack`), it is not aligned to its size (`UnalignedStack`), it reads only some bytes of a
+/// spill (`PartOfSpill`), a byte may be unwritten (`UnwrittenStack`).
 pub fn read_stack(
     facts: &Facts,
     offset: i32,
@@ -30,9 +31,9 @@ pub fn read_stack(
     read_slot(facts.slot(index), bits, size, signed)
 }
 
-/// The kind of the value that a load of this size from `slot` gives; `bits` is the mask of the slot's bytes that are loaded. A number is
-/// sign-extended if `signed`. A spill is only loaded whole, by eight bytes, else `PartOfSpill`; other bytes only if all that are loaded are
-/// written, else `UnwrittenStack`.
+/// The kind of the value that a load of this size from `slot` gives; `bits` is the mask of the slot's bytes that are loaded. A spill gives
+/// the kind of the spilled value, but only to a load of all eight bytes, else `PartOfSpill`. Other bytes give any number of this size, or
+/// of 64 bits if the load extends the sign (`signed`), but only if all that are loaded are written, else `UnwrittenStack`.
 fn read_slot(slot: Slot, bits: u8, size: AccessSize, signed: bool) -> Result<Kind, Reason>
     ensures { result ≡ read_slot slot bits size signed }
 {
@@ -44,10 +45,12 @@ fn read_slot(slot: Slot, bits: u8, size: AccessSize, signed: bool) -> Result<Kin
     }
 }
 
-/// Changes the facts to those after a store of a value of this kind at `offset` from the stack's upper end. Returns the stack slot of the
-/// store; no other slot changes. The error is the first that applies, and then nothing changes: the value is unreadable
-/// (`UnreadableRegister`), the store is not in the stack (`OutsideStack`), it is not aligned to its size (`UnalignedStack`), it stores only
-/// some bytes of a pointer (`PartOfSpill`).
+/// Changes the facts to those after a store of `size` bytes at `offset` from the stack's upper end, of a value of the kind `value`
+/// (`facts`: as `stack_write` defines). A number makes the bytes written, and a spill in the stack slot is lost; a pointer or a map is
+/// spilled, whole. Returns the index of the stack slot of the store, 0 to 63 from the lowest; by `slot` it is the only one that changes.
+/// The error is the first that applies, and then nothing changes: the value is unreadable (`UnreadableRegister`), the store is not in the
+/// stack (`OutsideStack`), it is not aligned to its size (`UnalignedStack`), it stores only some bytes of a pointer or a map
+/// (`PartOfSpill`).
 pub fn write_stack(
     facts: &mut Facts,
     offset: i32,
@@ -68,9 +71,10 @@ pub fn write_stack(
     Ok(index)
 }
 
-/// The stack slot of an access at `offset` from the stack's upper end, counted from the stack's lowest byte, and the mask of the bytes of
-/// the access in this slot: bit k for byte k. The error is `OutsideStack` if the access is not in the stack, else `UnalignedStack` if it
-/// is not aligned to its size. An aligned access is in one slot.
+/// The stack slot that an access of `size` at `offset` touches, and the mask of the bytes that it touches there: bit k for byte k of the
+/// slot. `offset` counts bytes from the stack's upper end; the stack has the offsets `LOWEST` to -1. Stack slots are numbered from the
+/// lowest byte on, and the returned number is one of them (`bound`). `OutsideStack` if not all bytes of the access are in the stack, else
+/// `UnalignedStack` if `offset` is no multiple of the size. All bytes of an aligned access are in one slot.
 fn touched(offset: i32, size: AccessSize) -> Result<(usize, u8), Reason>
     ensures value { result ≡ touched offset size }
     ensures bound { IfOk result (λ t. t.0 < stack_slots) }
@@ -86,8 +90,9 @@ fn touched(offset: i32, size: AccessSize) -> Result<(usize, u8), Reason>
     Ok((start / 8, byte_bits(start, size)))
 }
 
-/// The mask of the bytes that an access of `size` at byte index `start` has in its stack slot. `touched` has found the access aligned, so
-/// all of them lie in one slot.
+/// The mask of the bytes that an access of `size` at byte index `start`, counted from the stack's lowest byte, has in its stack slot: bit k
+/// for byte k of this slot, from 0. The access has to be aligned to its size, so all its bytes lie in one slot: the only caller, `touched`,
+/// has tested this.
 fn byte_bits(start: usize, size: AccessSize) -> u8
     requires { start % bytes_of size ≡ 0 }
     ensures { result ≡ byte_bits start (bytes_of size) }
@@ -100,8 +105,9 @@ fn byte_bits(start: usize, size: AccessSize) -> u8
     }
 }
 
-/// The kind of a load of bytes that are no spill: any number of `size` bytes, or any 64-bit number if the load extends the sign (`signed`).
-/// As words the negative numbers are the greatest, so the least range with them and 0 has all 64-bit numbers.
+/// The kind of what is loaded from a map's value, or from stack bytes that are no spill: any number of `size` bytes, or any 64-bit number
+/// if the load extends the sign (`signed`). As words the negative numbers are the greatest, so the least range with them and 0 has all
+/// 64-bit numbers.
 pub fn loaded(size: AccessSize, signed: bool) -> Kind
     ensures { result ≡ loaded size signed }
 {
@@ -112,7 +118,8 @@ pub fn loaded(size: AccessSize, signed: bool) -> Kind
     }
 }
 
-/// The range of the numbers of `size` bytes: what a load that zero-extends can give.
+/// The range of all numbers of `size` bytes, from 0 on: what a load that zero-extends can give. In the contract `full` is given a number of
+/// bits. In the code `Range::full` is the range of 64 bits if its argument is true, else that of 32 bits.
 fn zero_extended(size: AccessSize) -> Range
     ensures { result ≡ full (8 * bytes_of size) }
 {
@@ -124,9 +131,10 @@ fn zero_extended(size: AccessSize) -> Range
     }
 }
 
-/// What is known of `slot` after a store of `size` bytes of a value of kind `value`, to its bytes of the mask `bits`. A number makes these
-/// bytes written, and a spill that was in the slot is lost. A pointer or a map is spilled if all its eight bytes are stored, else the error
-/// is `PartOfSpill`. `write_stack` has rejected an unreadable value before.
+/// What is known of `slot`, a stack slot, after a store of a value of kind `value` to its bytes of the mask `bits` (bit k for byte k),
+/// which are `size` bytes. If the value is a number, these bytes are written, and a spill that was in the slot is lost (`bytes_over`). If
+/// it is a pointer or a map, the slot is a spill of it after a store of eight bytes; after one of fewer bytes the error is `PartOfSpill`.
+/// The contract allows an unreadable value, too, which would count as a number, but `write_stack` has rejected it before.
 fn slot_written(slot: Slot, bits: u8, size: AccessSize, value: Kind) -> Result<Slot, Reason>
     ensures { result ≡ slot_written slot bits size value }
 {
@@ -139,8 +147,10 @@ fn slot_written(slot: Slot, bits: u8, size: AccessSize, value: Kind) -> Result<S
     }
 }
 
-/// What is known of `slot` after a write of its bytes of the mask `bits`: other written bytes stay written; a spill is lost, and its other
-/// bytes count as unwritten.
+/// What is known of `slot`, a stack slot, after a write of numbers to its bytes of the mask `bits` (bit k for byte k). These bytes are
+/// written. If `slot` was no spill, its other bytes are as before, written or not. A spill is lost: its bytes that are not in `bits` count
+/// as unwritten. Of a write whose length is not known, `bits` has only the bytes that are certainly written (`filled_slot`), so it may be
+/// 0.
 pub(crate) fn bytes_over(slot: Slot, bits: u8) -> Slot
     ensures { result ≡ bytes_over slot bits }
 {

@@ -14,7 +14,7 @@ use Rattle.tenant.specs.Machine.{Answer}
 pub use Rattle.saving.specs.declared.birth.Birth.{Birth}
 pub use Rattle.saving.specs.declared.birth.Birth.TheVariants.{OfMap, OfProgram}
 
--- the descriptor at which the object of a birth was opened
+-- the descriptor at which the object of a birth was opened; that of a map may be closed since
 abbrev pub descriptor_of : Birth → ℕ
 descriptor_of (OfMap handle fd) = fd
 descriptor_of (OfProgram fd) = fd
@@ -26,7 +26,9 @@ birth_of fd (object.Program l) = OfProgram fd
 
 -- ---- lists of births, the latest first
 
--- the latest birth at a descriptor; None if the list has none there
+-- the latest birth at descriptor fd in a list with the latest first; None if it has no birth at fd.
+-- It may have several: the birth of a map that lives on without its descriptor, and that of the
+-- object that was opened there later
 abbrev pub latest_at : List Birth → ℕ → Option Birth
 latest_at [] fd = None
 latest_at (b ∷ older) fd = if descriptor_of b == fd then Some b else latest_at older fd
@@ -97,15 +99,17 @@ abbrev pub with_birth : ℕ → Option OpenObject → List Birth → List Birth
 with_birth fd None births = births
 with_birth fd (Some o) births = birth_of fd o ∷ births
 
--- the births after a command that may open an object, by the status of its reply. A status from 0
--- on is the descriptor of the new object, whose birth is added; after a negative one, an error, the
--- births are unchanged. s is the state after the command
+-- the births after MAP_CREATE or PROG_LOAD, from those before it, `births`, by the status of its
+-- reply and the state s after it. A status fd from 0 on is the descriptor of the new object, whose
+-- birth is added in front, as the latest; after a negative one, an error, the births are unchanged
 abbrev pub with_opened : ℤ → TenantState → List Birth → List Birth
 with_opened (pos fd) s births = with_birth fd (named s.objects fd) births
 with_opened (negsuc n) s births = births
 
--- the births after a command with result a: MAP_CREATE and PROG_LOAD add that of the object that
--- they opened, CLOSE removes those of objects that are no longer live, and others change none
+-- the births after a command with result a, which has the reply's status and the state after the
+-- command (`Answer`). MAP_CREATE and PROG_LOAD add the birth of the object that they opened, if
+-- they succeeded. CLOSE removes the births of objects that are no longer live in this state. The
+-- other commands change none
 abbrev pub births_after : Command → Answer → List Birth → List Birth
 births_after (map_create kind key value max flags) a births = with_opened a.status a.after births
 births_after (prog_load kind slots) a births = with_opened a.status a.after births

@@ -6,7 +6,9 @@ use Rattle.command_frames.specs.Frame.{reply_to}
 abbrev pub IsGoodReply : List ℕ → List ℕ → Type 0
 IsGoodReply frame reply = (n : ℕ) × (payload : List ℕ) × (reply ≡ reply_to frame (pos n) payload)
 
--- each frame has its reply, in order, and none is an error; false if the lengths differ
+-- each frame of the first list succeeds: at its index the second list has a reply to it, and this
+-- reply is no error (`IsGoodReply`). False if the lengths differ. Laws of saves state this of the
+-- frames of a save and the replies to them
 abbrev pub AreGood : List (List ℕ) → List (List ℕ) → Type 0
 AreGood [] [] = Unit {0}
 AreGood (frame ∷ frames) (reply ∷ replies) = IsGoodReply frame reply × AreGood frames replies

@@ -25,8 +25,10 @@ abbrev pub IsRecorded : RecordedTenant → Type 0
 IsRecorded t =
     (part : List ℕ) → HoldsItsMaps (tenant_state part t) × AreBirths (tenant_state part t) t.births
 
--- the births after a frame with result a, from those before it (`births`): if its bytes are a
--- command (Ok), those after this command; if they are none (Err), unchanged
+-- a tenant's births after a frame, the latest first, from those before it, `births`; `a` is the
+-- reply and the state after it. If the frame's bytes are a command (Ok), one that has opened an
+-- object adds its birth, CLOSE removes those of objects that are no longer live, and any other
+-- changes nothing (`births_after`). If they are no command (Err), the births are unchanged
 abbrev pub births_after_frame : Result Command BadFrame → Answer → List Birth → List Birth
 births_after_frame (Err fault) a births = births
 births_after_frame (Ok command) a births = births_after command a births

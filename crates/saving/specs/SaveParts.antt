@@ -13,8 +13,9 @@ use Rattle.saving.specs.Restored.{create_of, put_of, made_program, filled, closi
 use Rattle.command_frames.specs.Encoded.{frame_of}
 use Rattle.saving.specs.Pieces.{pieces}
 
--- the command that creates a map of the shape of this one, without its keys; none if the map is not
--- live (None)
+-- a list of one command, which creates a map of the shape of the saved one, but without its keys:
+-- other parts of the save put them. Empty if the map is not live (None), which does not occur for
+-- the map of a birth
 abbrev pub made_empty : Option Map → List Command
 made_empty None = []
 made_empty (Some t) = create_of t.shape ∷ []

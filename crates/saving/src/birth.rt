@@ -41,8 +41,9 @@ impl Model for Births {
     ghost invariant = { λ b. MOST_BIRTHS ≤ vec_capacity b.oldest_first };
 }
 
-/// Whether the object of a birth is still live: the map is live, or the descriptor names a program. This program is that of the
-/// birth: `keep_living` runs after each close, so no birth of a closed program is left when a load opens another one at the descriptor.
+/// Whether the object of a birth is still live: its map is live, or its descriptor names a program. This program is that of the birth:
+/// `keep_living`, which calls this, runs after each close, so no birth of a closed program is left when a load opens another one at the
+/// descriptor. The clause holds for any bytes of the tenant's part (`part`), on which the result does not depend.
 fn lives(tenant: &Tenant, birth: &Birth) -> bool
     ensures { (part : List ℕ) → result ≡ lives_in (state_in part tenant.now) birth.now }
 {
@@ -53,7 +54,8 @@ fn lives(tenant: &Tenant, birth: &Birth) -> bool
 }
 
 impl Births {
-    /// No births. Allocates room for `MOST_BIRTHS`, so that later no birth takes memory. `AllocError`: out of memory.
+    /// Makes a list without births. Allocates room for `MOST_BIRTHS`, the most that a tenant has at a time, so that later no birth takes
+    /// memory. `AllocError`: out of memory.
     pub(crate) fn new(alloc: Global) -> Result<Births, AllocError>
         ensures { IfOk result (λ births. births ≡ []) }
     {
@@ -69,8 +71,8 @@ impl Births {
         &self.oldest_first
     }
 
-    /// Adds the latest birth, which is the last one here, and the first one that contracts see. No memory is needed: `new` allocated room
-    /// for `MOST_BIRTHS`, and the caller makes sure that there are fewer before.
+    /// Adds the latest birth, which is then the last one of `oldest_first`, and the first one of the list that contracts see. No memory is
+    /// needed: `new` allocated room for `MOST_BIRTHS`, and the caller makes sure that there are fewer before.
     fn push(&mut self, birth: Birth)
         requires { length self.old < MOST_BIRTHS }
         ensures { self.new ≡ birth ∷ self.old }
@@ -78,8 +80,10 @@ impl Births {
         self.oldest_first.push_reserved(birth);
     }
 
-    /// Adds the birth of the object that a command opened, if its reply has the new descriptor; after any other reply or an error, none.
-    /// `tenant` is the tenant after the command. By the law `births_are_kept` there are at most `MOST_BIRTHS` then, so there is room.
+    /// Adds the birth of the map or program that a command opened at the descriptor in its reply (`Reply::Opened`), as the latest one: a
+    /// save creates objects in the order of their births. Any other reply, or an error, adds none (`births_after_reply`). `answer` is the
+    /// command's reply or error, `tenant` the tenant after the command. With the new birth there are at most `MOST_BIRTHS`, as callers know
+    /// by the law `births_are_kept`, so there is room.
     pub(crate) fn note(&mut self, tenant: &Tenant, answer: &Result<Reply<'_>, Errno>)
         requires { length (births_after_reply answer.now tenant.now.objects self.old)
             ≤ MOST_BIRTHS }
@@ -95,8 +99,9 @@ impl Births {
         }
     }
 
-    /// Removes, after a close, the births of maps that are no longer live and of programs that are no longer open. `tenant` is the tenant
-    /// after the close.
+    /// Removes, after a close, the births of maps that are no longer live and of programs that are no longer open; the others keep their
+    /// order. `tenant` is the tenant after the close. The contract filters by the tenant's state (`lives_in`), which needs the bytes of its
+    /// part too. Whether an object is live does not depend on them, so the equation holds for any bytes (`part`).
     pub(crate) fn keep_living(&mut self, tenant: &Tenant)
         ensures { (part : List ℕ)
             → self.new ≡ filter (lives_in (state_in part tenant.now)) self.old }

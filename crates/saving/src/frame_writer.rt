@@ -41,8 +41,8 @@ pub(crate) struct FrameWriter {
     pub(crate) number: u16,
 }
 
-/// Appends a frame with its length before it, in four bytes, little-endian (the low four of the number's eight). `AllocError`: out of
-/// memory.
+/// Appends to `frames` the length of `frame`, in four bytes, little-endian (the low four of the number's eight), and then `frame`.
+/// `AllocError`: out of memory; then the length may be in `frames` without the frame, and `SavableTenant::save_part` drops all of `frames`.
 fn append_framed(frames: &mut Vec<u8>, frame: &[u8]) -> Result<(), AllocError>
     ensures { OnOk result (frames.new.items ≡ frames.old.items ++ framed frame.now) }
 {
@@ -60,15 +60,17 @@ const BYTES_OF_LOADS: usize = 28 * MOST;
 /// How many bytes the frames have that close all descriptors. Each has length 4, tenant 2, command 2, descriptor 4.
 const BYTES_OF_CLOSES: usize = 12 * MOST;
 
-/// How many bytes the frames have that put `keys` keys into a map of this shape. Only room is reserved by this number, so it may saturate.
+/// How many bytes the frames have that put `keys` keys with their values into a map of this shape: one frame for each key, with its length
+/// field. Only room is reserved by this number, so it may saturate.
 fn bytes_of_puts(shape: MapShape, keys: usize) -> usize {
     let each = PUT_HEAD + shape.key_size as usize + shape.value_size as usize;
     each.saturating_mul(keys)
 }
 
-/// The element of the key at index `count` - 1 in the order of a map, or of the last key if the map has fewer: after this element follow
-/// the keys from index `count` on. `None` if `count` is 0 or the map has no key: then all keys follow. `part` has the tenant's `PART` bytes
-/// of the arena.
+/// The element of the last of the first `count` keys in the order of a map, or of the map's last key if it has fewer. `None` if `count` is
+/// 0 or the map has no key. A part of a save begins after these keys, which are in earlier parts. `ensures`: the entries after that of the
+/// element (`rest_after`, all entries for `None`) are all but the first `count`. `map` is the map's handle. `part` is no part of a save: it
+/// has the tenant's `PART` bytes of the arena (`whole`).
 fn element_before(tenant: &Tenant, map: MapKey, count: usize, part: &[u8]) -> Option<u32>
     requires whole { length part.now ≡ PART }
     ensures { rest_after result (numbered_entries part.now tenant.now.live map)
@@ -85,7 +87,7 @@ fn element_before(tenant: &Tenant, map: MapKey, count: usize, part: &[u8]) -> Op
 }
 
 impl FrameWriter {
-    /// A writer of frames to tenant `number`, without a frame.
+    /// A writer of frames to the tenant with this number. It has no frame yet (`frames`).
     pub(crate) fn new(alloc: Global, number: u16) -> FrameWriter
         ensures frames { result.frames.items ≡ [] }
         ensures number { result.number ≡ number }
@@ -97,7 +99,9 @@ impl FrameWriter {
         }
     }
 
-    /// Appends the frame that closes a descriptor. `AllocError`: out of memory.
+    /// Appends the frame, after its length, by which the tenant closes descriptor `fd` (`written`). `number`, the tenant's number, is
+    /// unchanged. In a save this frame closes the descriptor that the object of the next frame then gets, or a descriptor that is not open
+    /// in the saved tenant. `AllocError`: out of memory.
     fn append_close(&mut self, fd: u32) -> Result<(), AllocError>
         ensures written { OnOk result (self.new.frames.items
             ≡ self.old.frames.items ++ framed (frame_of self.old.number (close fd))) }
@@ -107,7 +111,9 @@ impl FrameWriter {
         append_framed(&mut self.frames, &self.frame)
     }
 
-    /// Appends the frame that creates a map of this shape. `AllocError`: out of memory.
+    /// Appends to `frames` a frame that creates a map of this shape, with the frame's length before it: MAP_CREATE with flags 0, to the
+    /// tenant `number` (`written`). That number is unchanged (`number`). A save has such a frame for each live map. `AllocError`: out of
+    /// memory; then the frame may be incomplete.
     fn append_create(&mut self, shape: MapShape) -> Result<(), AllocError>
         ensures written { OnOk result (self.new.frames.items
             ≡ self.old.frames.items ++ framed (frame_of self.old.number (create_of shape))) }
@@ -124,8 +130,9 @@ impl FrameWriter {
         append_framed(&mut self.frames, &self.frame)
     }
 
-    /// Appends the frame that puts a key and its value into the map at a descriptor. The flags are 0 (BPF_ANY), so the key may be present,
-    /// as each key of a new array is, or absent, as each key of a new hash map is. `AllocError`: out of memory.
+    /// Appends the frame that puts a key and its value into the map at descriptor `fd`, with the frame's length before it (`written`). The
+    /// flags are 0 (BPF_ANY), so the key may be present, as each key of a new array is, or absent, as each key of a new hash map is. The
+    /// tenant to which the frames go is not changed (`number`). `AllocError`: out of memory.
     fn append_update(&mut self, fd: u32, key: &[u8], value: &[u8]) -> Result<(), AllocError>
         ensures written { OnOk result (self.new.frames.items
             ≡ self.old.frames.items
@@ -143,7 +150,9 @@ impl FrameWriter {
         append_framed(&mut self.frames, &self.frame)
     }
 
-    /// Appends the frame that loads the program that these slots spell. `AllocError`: out of memory.
+    /// Appends the frame that loads the program that `slots` spell, eight bytes a slot, with the type `SOCKET_FILTER`, the 1 in `written`.
+    /// Before the frame is its length (`framed`). The frame is to the tenant `self.number`, and this number is unchanged (`number`). The
+    /// slots are not verified here, but by the tenant that gets the frame. `AllocError`: out of memory.
     fn append_load(&mut self, slots: &[u8]) -> Result<(), AllocError>
         ensures written { OnOk result (self.new.frames.items
             ≡ self.old.frames.items ++ framed (frame_of self.old.number (prog_load 1 slots.now))) }
@@ -157,8 +166,9 @@ impl FrameWriter {
         append_framed(&mut self.frames, &self.frame)
     }
 
-    /// Appends the frames that open a program at each descriptor of a new tenant: `MOST` loads of `FILLER`. Then no descriptor is free. So
-    /// the frames that restore an object first close its descriptor, and the object gets this one. `AllocError`: out of memory.
+    /// Appends the frames that open a program at each descriptor of a new tenant: `MOST` loads of `FILLER`, a program that returns 0
+    /// (`filled` in the contract). Then no descriptor is free. So the frames that restore an object first close the descriptor that the
+    /// object had, and the object gets this one, the only free one. `AllocError`: out of memory.
     fn append_filling(&mut self) -> Result<(), AllocError>
         ensures written { OnOk result (self.new.frames.items
             ≡ self.old.frames.items ++ frames_of self.old.number (filled most)) }
@@ -171,8 +181,9 @@ impl FrameWriter {
         Ok(())
     }
 
-    /// Appends the frame that closes a descriptor, if it is not open in the saved tenant; none if it is. The frames before the closes open
-    /// all descriptors of the tenant that is restored. `AllocError`: out of memory.
+    /// Appends the frame that closes descriptor `fd`, if it is not open in `tenant`, the saved tenant; appends nothing if it is. The frames
+    /// before have opened all descriptors of the tenant that is restored; after the closes only those of the saved tenant are open.
+    /// `number`: frames still go to the tenant with this number. `AllocError`: out of memory.
     fn append_close_unless_open(&mut self, tenant: &Tenant, fd: u32) -> Result<(), AllocError>
         ensures written { OnOk result (self.new.frames.items
             ≡ self.old.frames.items ++ frames_of self.old.number
@@ -185,8 +196,10 @@ impl FrameWriter {
         }
     }
 
-    /// Appends the frames that close the descriptors that are not open in the saved tenant. The tenant that is restored has all descriptors
-    /// open until then. `AllocError`: out of memory.
+    /// Appends the frames of the last part of a save: for each descriptor that is not open in the saved tenant, a frame that closes it. In
+    /// the contract `closings` has the commands of these frames, for all descriptors, `most` from `first_descriptor` on. The tenant that is
+    /// restored has all descriptors open until then, so that each new object gets the descriptor that was closed for it. `AllocError`: out
+    /// of memory.
     fn append_closing(&mut self, tenant: &Tenant) -> Result<(), AllocError>
         ensures written { OnOk result (self.new.frames.items
             ≡ self.old.frames.items ++ frames_of self.old.number
@@ -200,9 +213,10 @@ impl FrameWriter {
         Ok(())
     }
 
-    /// Appends the frames that put keys of `map`, with their values, into the map at descriptor `fd`: at most `KEYS_PER_SAVE_PART` keys, in
-    /// the order of `map`, from the one after the key of element `before` on, or from the first one on if `before` is `None`. `part` has
-    /// the tenant's `PART` bytes of the arena. `AllocError`: out of memory.
+    /// Appends the frames that put keys of `map`, with their values, into the map at descriptor `fd` of the restored tenant: one update for
+    /// each key (`puts`), at most `KEYS_PER_SAVE_PART`, in the order of `map`. The first is the key after that of element `before`,
+    /// or the first key of the map if `before` is `None` (`rest_after`). If no key has this element, or none follows, no frame is appended.
+    /// `part` has the tenant's `PART` bytes of the arena (`whole`), among them the values. `AllocError`: out of memory.
     fn append_updates_after(
         &mut self,
         tenant: &Tenant,
@@ -228,10 +242,10 @@ impl FrameWriter {
         Ok(())
     }
 
-    /// Appends the update frames of one part of a save: for the keys of `map` from index `first` on, in the order of `map`, and their
-    /// values, at most `KEYS_PER_SAVE_PART` frames. In these frames `fd` is the descriptor that the restored map has. Appends no frame if
-    /// `map` is not live, which does not happen for the map of a birth. `part` is no part of a save: it has the tenant's `PART` bytes of
-    /// the arena. `AllocError`: out of memory.
+    /// Appends the frames of one part of a save that put keys of `map` and their values into the restored map: one update for each key from
+    /// index `first` on, in the order of `map`, at most `KEYS_PER_SAVE_PART`, 1,024. In these frames `fd` is the descriptor of the restored
+    /// map. The commands of all keys are `puts_of` in the contract. Appends no frame if `map` is not live, which does not happen for the
+    /// map of a birth. `part` is no part of a save: it has the tenant's `PART` bytes of the arena. `AllocError`: out of memory.
     fn append_keys(
         &mut self,
         tenant: &Tenant,
@@ -257,8 +271,10 @@ impl FrameWriter {
         self.append_updates_after(tenant, map, fd, before, part)
     }
 
-    /// Appends the frame that creates a map of the shape of `map`; none if `map` is not live, which does not happen for the map of a birth.
-    /// `AllocError`: out of memory.
+    /// Appends the frame that creates a map of the shape of `map`, without keys; none if `map` is not live. The map of a birth is always
+    /// live: after each close the births of maps that are no longer live are removed. `written`: the frame is that of the command in
+    /// `made_empty`, a list of one or none. `part` may be any bytes, since the shape of a map does not depend on them. `AllocError`: out of
+    /// memory.
     fn append_map(&mut self, tenant: &Tenant, map: MapKey) -> Result<(), AllocError>
         ensures written { (part : List ℕ) → OnOk result (self.new.frames.items
             ≡ self.old.frames.items ++ frames_of self.old.number
@@ -270,8 +286,9 @@ impl FrameWriter {
         }
     }
 
-    /// Appends the frame that loads the program that a descriptor names; none if it names no program, which does not happen for the birth
-    /// of a program. `AllocError`: out of memory.
+    /// Appends the frame that loads the program that descriptor `fd` names, with the program's slots. `append_creation` calls this for the
+    /// birth of a program, which is open at `fd`. If `fd` names no program, which does not happen for such a birth, no frame is appended
+    /// (`made_program`). `AllocError`: out of memory; then nothing is promised of the frames.
     fn append_program(&mut self, tenant: &Tenant, alloc: Global, fd: u32) -> Result<(), AllocError>
         ensures written { OnOk result (self.new.frames.items
             ≡ self.old.frames.items ++ frames_of self.old.number
@@ -284,8 +301,10 @@ impl FrameWriter {
         self.append_load(&slots)
     }
 
-    /// Appends the frames that close the descriptor of a birth and create its object, a map without keys or a program. The object gets
-    /// this descriptor, since all others are open. `AllocError`: out of memory.
+    /// Appends the frames that close the descriptor of a birth and then create its object, a map without keys or a program. The object gets
+    /// this descriptor, since all others are open in the tenant that is restored. `tenant` is the saved one. By `written` the frames are
+    /// those of the commands `creation`, whatever bytes the saved tenant has in its part of the arena (`part`): no map's shape and no
+    /// program depends on them. `AllocError`: out of memory.
     fn append_creation(
         &mut self,
         tenant: &Tenant,
@@ -308,8 +327,10 @@ impl FrameWriter {
         }
     }
 
-    /// Appends the frames of `wanted`, one part of a save. The argument `part` is no part of a save: it has the tenant's `PART` bytes of
-    /// the arena, among them the values of maps. `AllocError`: out of memory.
+    /// Appends the frames of `wanted`, one part of a save of `tenant`. They have the commands that `part_commands` defines from the
+    /// tenant's state: they open a program at each descriptor, create the object of a birth, put keys into a map, or close descriptors.
+    /// Each frame is for the tenant with the writer's `number`, and has its length before it (`frames_of`). The argument `part` is no part
+    /// of a save: it has the tenant's `PART` bytes of the arena, among them the values of maps. `AllocError`: out of memory.
     pub(crate) fn write(
         &mut self,
         tenant: &Tenant,

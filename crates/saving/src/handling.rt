@@ -20,7 +20,9 @@ use arena::{Arena, laws};
 use command_frames::{BadFrame, Command, Head, ReplyBuf, parse};
 use tenant::{Errno, Tenant, WorkingMemory, write_command_reply};
 
-/// The error for a frame that carries no command, by the frame's fault. It is never EFAULT (`BadAddress`), the error of a run that faults.
+/// The error in the reply to a frame that carries no command: E2BIG (`TooBig`) if the frame is longer than `LONGEST_FRAME`, EINVAL
+/// (`Invalid`) if no command has its number, or if its body is shorter or longer than its command allows. By `no_fault` it is never EFAULT
+/// (`BadAddress`), the error of a run that faults; so `SavableTenant::handle` can promise that of all replies.
 fn frame_error(fault: BadFrame) -> Errno
     ensures errno { result ≡ frame_errno fault }
     ensures no_fault { result ≢ BadAddress }
@@ -38,11 +40,13 @@ struct HeadedCommand<'a> {
     command: Command<'a>,
 }
 
-/// Executes the command of a frame on the tenant, and writes the reply to `reply`. `number` is the number of the tenant's part in the
-/// arena. `births` is the record for saves: at which descriptor each live map was created, and each open program loaded. MAP_CREATE and
-/// PROG_LOAD add the object that they open, CLOSE removes the objects that are no longer live, and other commands do not change the record.
-/// `working` is memory for the verification of a load; its contents mean nothing. The key, the value, the slots or the packet in the
-/// command have at most `LONGEST_FRAME` bytes (`short`), since the command is that of a parsed frame.
+/// Executes the command of a frame on the tenant, and writes the reply to `reply`. By `replied` the reply and the next state are those of
+/// the tenant's machine, and the reply is never the error of a run that faults; by `changes` only the tenant's part of the arena changes,
+/// that of the number `number`, which exists (`part`). `births` is the record for saves: at which descriptor each live map was created, and
+/// each open program loaded. By `recorded` it is right before the call, and exactly the maps that open objects name are live. MAP_CREATE
+/// and PROG_LOAD add the object that they open, CLOSE removes the objects that are no longer live, and other commands do not change the
+/// record (`replied`). `working` is memory for the verification of a load; its contents mean nothing. The key, the value, the slots or the
+/// packet in the command have at most `LONGEST_FRAME` bytes (`short`), since the command is that of a parsed frame.
 fn reply_to_command(
     tenant: &mut Tenant,
     births: &mut Births,
@@ -118,10 +122,12 @@ fn reply_to_command(
 }
 
 impl SavableTenant {
-    /// Executes the command of a frame of this tenant, and writes the reply to `reply`; a frame without a command gets an error and changes
-    /// nothing. `frame` is what follows the length field, and `head` its head, which the host has read. `tenant` is the number of the
-    /// tenant's part in the arena. A load is verified in `working`, the memory for the loads of all tenants, whose contents mean nothing.
-    /// The births change as the command says (`recorded`), and no reply is the error of a run that faults, EFAULT (`no_fault`).
+    /// Executes the command of a frame of this tenant, and writes the reply to `reply`, which is that of the tenant's machine, with or
+    /// without memory refused to the command (`replied`). A frame without a command gets an error and changes nothing. `frame` is what
+    /// follows the length field, and `head` its tenant and command number, which the host has read. `tenant` is the number of the tenant's
+    /// part in the arena. A load is verified in `working`, the memory for the loads of all tenants, whose contents mean nothing. The births
+    /// change as the command says (`recorded`), and no reply is the error of a run that faults, EFAULT (`no_fault`). The number and the
+    /// size of the arena's parts (`parts`, `part`) and the bytes of all other parts (`others`) are unchanged.
     pub fn handle(
         &mut self,
         head: Head,

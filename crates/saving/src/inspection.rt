@@ -22,24 +22,28 @@ impl SavableTenant {
         self.tenant.counts()
     }
 
-    /// What a descriptor names at this moment: nothing, a map with its shape and its number of keys, or a program with its number of slots.
-    /// It does not depend on the bytes of the tenant's part.
+    /// What the descriptor `fd` names at this moment: nothing, a map with its shape and its number of keys, or a program with its number of
+    /// slots. The result's `kind` says which of the three. The result does not depend on the bytes of the tenant's part: by the contract it
+    /// is the description (`described`) of the tenant's state with any bytes `part`. The library for C inspects a tenant with it.
     pub fn describe(&self, fd: u32) -> Described
         ensures { (part : List ℕ) → result ≡ described (tenant_state part self.now) fd }
     {
         self.tenant.describe(fd)
     }
 
-    /// The cost of the program that a descriptor names: the most instructions, and the most calls, on a path through it. `None` if the
-    /// descriptor names no program.
+    /// The cost of the program that the descriptor `fd` names, which `bpfhost_c_program_cost` writes (`Host::program_cost`): the most
+    /// instructions, and the most calls of helpers, on a path from slot 0 to an exit; the two may be of different paths. `None` if `fd`
+    /// names a map or is not open. In the contract, `self.now.kept` is the tenant without its births, and `named` gives the object that is
+    /// open at `fd`.
     pub fn program_cost(&self, fd: u32) -> Option<Cost>
         ensures { HasCost (named self.now.kept.objects fd) result }
     {
         self.tenant.program_cost(fd)
     }
 
-    /// The open descriptors and their objects, as the verifier sees them: a map by its shape, or a program. They do not depend on the bytes
-    /// of the tenant's part. `AllocError`: out of memory.
+    /// The open descriptors, from the lowest on, each with its object as the verifier sees it: a map by its shape, or only that it is a
+    /// program. `bpfhost_c_verify` gets them by `Host::targets`, and so verifies slots as a load of the tenant does. `part` is any list of
+    /// bytes, since the result does not depend on the bytes of the tenant's part. `AllocError`: out of memory.
     pub fn targets(&self, alloc: Global) -> Result<Vec<Named>, AllocError>
         ensures { IfOk result (λ found. (part : List ℕ) →
             found.items ≡ targets (tenant_state part self.now)) }

@@ -17,8 +17,9 @@ use crate::savable::SavableTenant;
 use std::alloc::Global;
 use tenant::{Errno, Reply, Verified};
 
-/// The status of the reply to a command: a new descriptor, the negated number of an error, else 0. A descriptor is at most 66, by the
-/// precondition, so the cast keeps it. The status does not depend on the state `s` of the contract.
+/// The status of the reply to a command: the new descriptor, if one was opened; the negated number of an error, also of the one for which a
+/// load is rejected (`Refused`); else 0. The command promises `IsWritable` of its result, by which a descriptor is at most 66, so the cast
+/// keeps it. The contract holds for any state `s` after the command: no status depends on it.
 fn status_of(reply: &Result<Reply<'_>, Errno>) -> i32
     requires { IsWritable reply.now }
     ensures { (s : TenantState) → result ≡ (shown_reply reply.now s).status }
@@ -34,12 +35,14 @@ fn status_of(reply: &Result<Reply<'_>, Errno>) -> i32
 impl SavableTenant {
     /// Opens a program that was verified elsewhere, and records its birth, as for a frame that loads the program. Returns the status of the
     /// reply to that frame, which has no payload: the new descriptor, or a negative number if no descriptor is free or memory is refused.
-    /// The contract holds for any tenant's `number` in the frame. `no_fault`: the status is never that of `BadAddress`, the error of a run
-    /// that faults.
+    /// `load_frame` is this frame, of a tenant with any `number`, and `load_reply` this reply; `part` is any bytes. `replied`: the tenant's
+    /// machine may reply so, between the states before and after. `recorded`: the births change as by the frame. `no_fault`: the status is
+    /// never that of `BadAddress`, the error of a run that faults. `fits`: after `Ok` each descriptor of the program's maps names a map of
+    /// the shape with which it was accepted.
     ///
     /// # Errors
     ///
-    /// The program itself, if a descriptor of its maps names no map of the shape with which it was accepted. Then nothing has changed.
+    /// The program itself, if a descriptor of its maps names no such map (`stale`). Then nothing has changed.
     pub fn install(&mut self, alloc: Global, program: Box<Verified>) -> Result<i32, Box<Verified>>
         ensures replied { IfOk result (λ status. (number : ℕ) (part : List ℕ) → MayReply
             (load_frame number program.value.code) (load_reply number program.value.code status)

@@ -5,20 +5,25 @@ ghost use Rattle.saving.specs.SaveParts.{PartsAreWhole};
 ghost use Rattle.saving.specs.Laws.{MapsAreHeld, AlikeIsBisimulation, AlikeStatesReplyAlike, BirthsAreKept, RestorableIsKept};
 ghost use Rattle.saving.specs.Laws.{RestoredIsAlike, TestRunsHaveFrames, RestoredByFrames, HistoriesAreRestored};
 
-/// A law, one half of the invariant of `SavableTenant`: in a new tenant and after each command, exactly those maps are live that are open
-/// or belong to an open program.
+/// A law, the half of the invariant of `SavableTenant` about maps; `births_are_kept` is the other. In the state of a tenant a handle has a
+/// live map exactly if a descriptor names this map, or a program that has a reference to it (`HoldsItsMaps`). This holds for a new tenant
+/// (`new`), and each command preserves it, whether memory is refused to the command or not (`kept`).
 pub fn maps_are_held()
     ensures { MapsAreHeld }
 {}
 
-/// A law: states that are alike give each command replies with equal status and payload, and are alike after it. So no command
-/// distinguishes them.
+/// A law: being alike is a bisimulation. States are alike if they differ only in the handles of their maps and in the flag of refused
+/// memory. Each result that a state gives a command, with or without a refusal of memory, each state alike to it can give with equal status
+/// and payload, and the states after the command are alike. So no command distinguishes them. It holds for states in which exactly the maps
+/// of open objects are live (`HoldsItsMaps`), as in all that a tenant reaches (`maps_are_held`).
 pub fn alike_is_bisimulation()
     ensures { AlikeIsBisimulation }
 {}
 
-/// A law: states that are alike give each list of frames the same replies. So a tenant whose state is alike to a saved one replies as the
-/// saved one would.
+/// A law: if two states are alike, a tenant in the second can give to a list of frames each list of replies that it can give in the first,
+/// both if no memory is refused and if it may be. If none is refused, it can give no other replies. In both states exactly the maps that an
+/// open object names are live, as in each state that a tenant reaches (`maps_are_held`). So a tenant whose state is alike to a saved one
+/// replies as the saved one would.
 pub fn alike_states_reply_alike()
     ensures { AlikeStatesReplyAlike }
 {
@@ -27,17 +32,18 @@ pub fn alike_states_reply_alike()
     alike_is_bisimulation();
 }
 
-/// A law, the half of the invariant of `SavableTenant` about births; `maps_are_held` is the other. A new tenant has no births, and after
-/// each command they are those of its live maps and open programs. They are at most `MOST_BIRTHS`, so the room that `Births::new` allocates
-/// is enough.
+/// A law, the half of the invariant of `SavableTenant` about births; `maps_are_held` is the other half. A birth has the descriptor at which
+/// a map was created, or a program loaded. A new tenant has no births (`new`). If a list has the births of the live maps and open programs
+/// before a command, the latest first (`AreBirths`), then `births_after` is the list of those after the command (`kept`). There are at most
+/// `MOST_BIRTHS` (`few`), so the room that `Births::new` allocates is enough.
 pub fn births_are_kept()
     ensures { BirthsAreKept }
 {
     maps_are_held();
 }
 
-/// A law: the precondition of restoring a state (`IsRestorable`) holds for a new tenant, and each command preserves it. So each state that
-/// a tenant reaches can be restored.
+/// A law: the precondition of restoring a state (`IsRestorable`) holds for a new tenant, and each command preserves it, whether memory is
+/// refused to the command or not. So each state that a tenant reaches can be restored. The body calls laws, for the proof.
 pub fn restorable_is_kept()
     ensures { RestorableIsKept }
 {
@@ -45,8 +51,10 @@ pub fn restorable_is_kept()
     verifier::laws::loaded_maps_have_shapes();
 }
 
-/// A law: if a state can be restored (`IsRestorable`), a new tenant to which no memory is refused succeeds at each of the commands that
-/// restore it, and the state after them is alike to it (`IsAlike`).
+/// A law about the commands that restore a state by the list of its births (`restored`). If the state can be restored (`IsRestorable`), a
+/// new tenant to which no memory is refused succeeds at each of these commands. The state after them is alike to the restored one
+/// (`IsAlike`): it differs at most in the handles of maps and in the flag of refused memory. Exactly the maps that its open objects name
+/// are live. The law about the frames of these commands, `restored_by_frames`, follows from this law.
 pub fn restored_is_alike()
     ensures { RestoredIsAlike }
 {
@@ -55,16 +63,19 @@ pub fn restored_is_alike()
     verifier::laws::maps_are_listed();
 }
 
-/// A law: each test run whose context words and packet fit into a frame (`FitsFrame`) has a frame, which is parsed as this test run. So
-/// each run of a batch has a frame, too, although the batch comes by a call and not as frames.
+/// A law: each test run has a frame, which is parsed as this test run, if its descriptor is below 2^32 and its input fits (`FitsFrame`):
+/// `GIVEN_WORDS` context words, each below 2^32, and a packet of at most `LONGEST_PACKET` bytes. So each run of a batch has a frame, too,
+/// although the batch comes by a call and not as frames.
 pub fn test_runs_have_frames()
     ensures { TestRunsHaveFrames }
 {
     command_frames::laws::encoding_inverts_parsing();
 }
 
-/// A law: if a state can be restored (`IsRestorable`), a new tenant to which no memory is refused succeeds at each of the frames that
-/// restore it, and the state after them is alike to it (`IsAlike`).
+/// A law, `restored_is_alike` for frames instead of commands. If a state can be restored (`IsRestorable`: exactly the maps of its open
+/// objects are live, their areas are not too large, and each map and program can be created again), a new tenant to which no memory is
+/// refused succeeds at each of the frames that restore it. The new tenant's state is then alike to it (`IsAlike`): equal but for the
+/// handles of maps and the flag of refused memory.
 pub fn restored_by_frames()
     ensures { RestoredByFrames }
 {
@@ -72,9 +83,10 @@ pub fn restored_by_frames()
     restored_is_alike();
 }
 
-/// A law, what a save is for: after any commands to a new tenant, even if memory was refused to some, another new tenant, to which no
-/// memory is refused, succeeds at each of the frames that restore the state of the first. From then on both reply alike to equal frames,
-/// while no memory is refused to either.
+/// A law, which is the purpose of a save: each state that a tenant reaches is restored. A new tenant executes any commands, to some of
+/// which memory may be refused. Then another new tenant, to which no memory is refused, succeeds at each of the frames that restore the
+/// state of the first. From then on both tenants give equal replies to equal frames, while no memory is refused to either. The law follows
+/// from the four in the body.
 pub fn histories_are_restored()
     ensures { HistoriesAreRestored }
 {
@@ -84,7 +96,8 @@ pub fn histories_are_restored()
     alike_states_reply_alike();
 }
 
-/// A law: all parts of a save, one after another, are the commands that restore the tenant. So a save may be made part by part.
+/// A law: for any state of a tenant and any births, all parts of a save (`parts`), one after another, are the commands that restore the
+/// state (`restored`). A part is a list of commands. So a save may be made part by part.
 pub fn parts_are_whole()
     ensures { PartsAreWhole }
 {}

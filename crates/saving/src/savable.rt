@@ -58,21 +58,23 @@ impl SavableTenant {
     }
 
     /// Whether this tenant was ever refused memory: for a load, for an installed program, or for a new map. Its replies may then differ
-    /// from those of its machine without refusals.
+    /// from those of its machine without refusals. The contract: the result is the flag `refused` of the tenant's state, whatever bytes its
+    /// part of the arena has (`part`).
     pub fn memory_was_refused(&self) -> bool
         ensures { (part : List ℕ) → result ≡ (tenant_state part self.now).refused }
     {
         self.tenant.memory_was_refused()
     }
 
-    /// The frames of part `index` of a save, from 0: frames of tenant `number`, each with its length before it. `None` after the last
-    /// part of the save. Also `None` if `part`, the bytes of the tenant's part of the arena, are not `PART` bytes.
+    /// The frames of one part of a save, for tenant `number`, each with its length before it. `index` is the number of this part, from 0;
+    /// `None` after the last one. Also `None` if `part`, the bytes of the tenant's part of the arena, are not `PART` bytes. If they are,
+    /// the contract gives the frames (`frames_of`) of the commands at `index` in the list of the save's parts (`parts`).
     ///
     /// A new tenant that is given the frames of all parts of the save in their order, and to which no memory is refused, then replies as
     /// this one does. Between two parts nothing may change in this tenant, but other tenants may be served. Part 0 opens a program at each
-    /// descriptor. For each birth, the oldest first, one part closes the descriptor of the birth, so that it is the only free one, and
-    /// creates the map or loads the program, which gets it. The parts after it put the keys of the map, at most `KEYS_PER_SAVE_PART` each.
-    /// The last part closes the descriptors that are not open in this tenant.
+    /// descriptor. Then each birth has its parts, the oldest birth first. The first of these closes the birth's descriptor, now the only
+    /// free one, and creates the map or loads the program, which gets this descriptor. For a map, the others put its keys, at most
+    /// `KEYS_PER_SAVE_PART` each. The last part of the save closes the descriptors that are not open in this tenant.
     ///
     /// # Errors
     ///
@@ -99,10 +101,11 @@ impl SavableTenant {
         Ok(Some(writer.frames))
     }
 
-    /// How many of the `packets` of a batch a bound allows. Each packet counts for the most instructions that a run of the program at the
-    /// descriptor executes, and `CALL_WEIGHT` of `tenant` for each of the most calls of helpers that it makes. As many packets are allowed
-    /// as count for at most `bound` together, but at least one, if there is one. All are allowed if `bound` is 0; also if the descriptor
-    /// names no program, since then the batch is rejected.
+    /// How many of the `packets` of a batch may run within `bound`, a number of instructions; the library shortens a batch to these. Each
+    /// run of the program at the descriptor `fd` counts for the most instructions that a run executes, plus `CALL_WEIGHT` of `tenant` times
+    /// the most calls of helpers that a run makes. The result is `bound` divided by this count and rounded down, but at least 1, and never
+    /// more than `packets` (`few`). It is `packets` if `bound` is 0, which means no bound; also if `fd` names no program, since then the
+    /// batch is rejected.
     pub fn allowed_packets(&self, fd: u32, bound: u64, packets: usize) -> usize
         ensures allowed { IsAllowed (named self.now.kept.objects fd) bound packets result }
         ensures few { result ≤ packets }
@@ -110,12 +113,14 @@ impl SavableTenant {
         self.tenant.allowed_packets(fd, bound, packets)
     }
 
-    /// Runs the program at a descriptor on the packets of a batch, one after another, and writes the results to the front of `results`,
-    /// whose rest is unchanged. `tenant` is the number of this tenant's part in `arena`, in which each part has `PART` bytes.
+    /// Runs the program at descriptor `fd` on the packets of a batch, as test runs in their order (`runs`), and writes the results to the
+    /// front of `results`, whose rest is unchanged. `tenant` is the number of this tenant's part of `arena`, a part of `PART` bytes.
     ///
     /// # Errors
     ///
-    /// Those of `Tenant::run_packets`. Then no packet was run, and nothing has changed.
+    /// `BadDescriptor` if `fd` is not open. `Invalid` if it names a map, if `results` has room for fewer results than packets, or if there
+    /// is neither one array of context words nor one for each packet. Else that of the first bad packet: `Invalid` if it ends before it
+    /// begins or after the last byte, `TooBig` if it is longer than `LONGEST_PACKET`. Then no packet was run; nothing has changed.
     pub fn run_packets(
         &mut self,
         fd: u32,
@@ -141,7 +146,7 @@ impl SavableTenant {
         ensures others { (other : ℕ) → other ≢ tenant
             → part_bytes arena.new other ≡ part_bytes arena.old other }
     {
-        // For the proof of the invariant: laws, which do nothing.
+        // For the proof of the invariant: laws, which do nothing. A run creates no map and loads no program, so it records no birth.
         maps_are_held();
         births_are_kept();
         self.tenant.run_packets(fd, batch, results, tenant, arena)

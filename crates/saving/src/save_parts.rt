@@ -27,8 +27,10 @@ pub(crate) enum SavePart {
     Closing,
 }
 
-/// The number of keys that the object of a birth has; 0 for a program. The map of a recorded birth is live; for a map that is not live the
-/// result is 0.
+/// The number of keys that the map of a birth has; 0 for the birth of a program. `count_of_parts` and `part_of_birth` divide these keys
+/// among parts of a save. The map of a recorded birth is live; for a map that is not live the result is 0. A save puts each key by one
+/// command (`key_commands`): `count` says that the result is the number of these commands, for any bytes in `part`, the tenant's part of
+/// the arena. `small`: the result fits in 32 bits.
 fn key_count(tenant: &Tenant, birth: Birth) -> usize
     ensures count { (part : List ℕ)
         → result ≡ length (key_commands (state_in part tenant.now) birth) }
@@ -43,15 +45,19 @@ fn key_count(tenant: &Tenant, birth: Birth) -> usize
     }
 }
 
-/// The number of parts of a save for one birth: one creates its object, each other one puts at most `KEYS_PER_SAVE_PART` of its keys.
+/// The number of parts of a save for one birth: one creates its object, each other one puts at most `KEYS_PER_SAVE_PART` of the object's
+/// keys. So it is 1 for a program, and for a map without keys. By it `part_at` passes over the parts of a birth. In the contract, `part` is
+/// no part of a save, but the tenant's part of the arena, with any bytes: the number does not depend on values.
 fn count_of_parts(tenant: &Tenant, birth: Birth) -> usize
     ensures { (part : List ℕ) → result ≡ length (birth_parts (state_in part tenant.now) birth) }
 {
     1 + key_count(tenant, birth).div_ceil(KEYS_PER_SAVE_PART)
 }
 
-/// The part of a save at an index among the parts for one birth: part 0 creates its object, the others put keys. `None` after the last; for
-/// a program there is only part 0.
+/// The part with this index, from 0, among the parts of a save for one birth, a map's creation or a program's load. Part 0 creates the
+/// object, and each later one puts the map's next keys, at most `KEYS_PER_SAVE_PART`. `None` after the last; for a program there is only
+/// part 0. The result has the commands that `birth_parts` has at this index. In the contract, `part` is the tenant's part of the arena,
+/// with any bytes.
 fn part_of_birth(tenant: &Tenant, birth: Birth, index: usize) -> Option<SavePart>
     ensures { (part : List ℕ) → option_map (part_commands (state_in part tenant.now)) result
         ≡ slice_get (birth_parts (state_in part tenant.now) birth) index }
@@ -71,9 +77,10 @@ fn part_of_birth(tenant: &Tenant, birth: Birth, index: usize) -> Option<SavePart
     }
 }
 
-/// The part at an index of a save of a tenant with these births, the oldest first. Part 0 opens a program at each descriptor, then each
-/// birth has its parts, and the last part closes the descriptors that are not open in the tenant. `None` after the last part. In the
-/// contract, `part` is the tenant's part of the arena, with any bytes.
+/// What part `index` of a save does, if the tenant has these births, the oldest first; `None` after the last part. Part 0 opens a program
+/// at each descriptor. Then come the parts of each birth: one creates its object and, if that is a map, each other one puts at most
+/// `KEYS_PER_SAVE_PART` of its keys. The last part closes the descriptors that are not open in the tenant. In the contract, `ordered_parts`
+/// lists the commands of all parts of the save; `part` is no part of a save but the tenant's bytes of the arena, which may be any.
 pub(crate) fn part_at(tenant: &Tenant, births: &[Birth], index: usize) -> Option<SavePart>
     ensures { (part : List ℕ) → option_map (part_commands (state_in part tenant.now)) result
         ≡ slice_get (ordered_parts (state_in part tenant.now) births.now) index }

@@ -51,13 +51,14 @@ pub struct HashSeed {
 }
 
 impl HashSeed {
-    /// The seed of these two words. For an attacker not to know it, both have to be random.
+    /// The seed of these two words, for a caller that has drawn them: a hasher begins with `state`, and `factor` is in each of its
+    /// products. For an attacker not to know the seed, both have to be random.
     pub fn new(state: u64, factor: u64) -> HashSeed {
         HashSeed { state, factor }
     }
 
-    /// The seed of sixteen bytes: its words are the first eight and the last eight of them, little-endian. For an attacker not to
-    /// know it, all of them have to be random.
+    /// The seed of sixteen bytes: its `state` is the number of the first eight of them, its `factor` that of the last eight, both
+    /// little-endian. For an attacker not to know the seed, all sixteen have to be random.
     pub fn from_bytes(bytes: [u8; 16]) -> HashSeed
         ensures { result ≡ hashing.seed_of bytes }
     {
@@ -85,7 +86,7 @@ impl BuildHasher for HashSeed {
 
     ghost build_hasher = { hashing.started };
 
-    // The hasher of this seed, before anything is written.
+    // Makes the hasher with which a hash by this seed begins (`started`): nothing is written to it, and it has the two words of the seed.
     #[inline(always)]
     fn build_hasher(&self) -> SeededHasher {
         SeededHasher {
@@ -110,14 +111,16 @@ impl Hasher for SeededHasher {
 
     ghost finish = { hashing.finished };
 
-    // The state is the hash: no bytes are left to mix.
+    // The hash of the bytes that were written is the state: `write` has mixed all of them into it, so no bytes are left to mix.
     #[inline(always)]
     fn finish(&self) -> u64 {
         self.state
     }
 
-    // Mixes the bytes into the state, after their number is added to it: the reads below overlap, so bytes of two lengths may be read as
-    // the same words.
+    // Mixes the bytes into the state (`written`). Their number is added to the state first, since the reads below overlap: bytes of two
+    // lengths may be read as the same words, and without their number they would have the same hash. Up to eight bytes take one product.
+    // More take a product for each block of sixteen that does not reach the last byte, one for the last sixteen bytes, and one more by
+    // `factor`.
     #[inline(always)]
     fn write(&mut self, bytes: &[u8]) {
         let len = bytes.len();
@@ -145,7 +148,8 @@ impl Hasher for SeededHasher {
     }
 }
 
-/// The two halves of the 128-bit product of `a` and `b`, joined by exclusive or.
+/// The two halves of the 128-bit product of `a` and `b`, joined by exclusive or. By this step the hasher mixes bytes, and its factor, into
+/// its state.
 #[inline(always)]
 fn folded_product(a: u64, b: u64) -> u64
     ensures { result ≡ hashing.folded_product a b }
@@ -172,8 +176,10 @@ fn word_at(bytes: &[u8], at: usize) -> u64
     half_word_at(bytes, at) | half_word_at(bytes, at + 4) << 32
 }
 
-/// At most eight bytes as one number, by reads that may overlap: the first four and the last four, or of one to three bytes the first, the
-/// middle and the last; 0 for no bytes.
+/// The word that a write of at most eight bytes mixes into the hash. From four bytes on, its halves are little-endian numbers: the low half
+/// has the first four bytes and the high half the last four, which may overlap. Of one to three bytes, the lowest bytes of the word are the
+/// first, the middle and the last one. The word of no bytes is 0. `write` never passes more than eight bytes; of more, only the first and
+/// the last four would be read.
 #[inline(always)]
 fn short_word(bytes: &[u8]) -> u64
     ensures { result ≡ hashing.short_word bytes.now }

@@ -15,12 +15,15 @@ pub data Cell : Type 0 where
   holds : Tagged → Cell
   bytes : (ℕ → Option ℕ) → Cell
 
--- what f gives for the value of the option, if it has one; else None
+-- the result of f on the option's value, if it has one; None if it has none, or if f gives None:
+-- `Option::and_then` of Rust
 abbrev pub and_then : {A B : Type 0} → Option A → (A → Option B) → Option B
 and_then None f = None
 and_then (Some x) f = f x
 
--- byte j of a cell, if it is present; a value kept whole has no bytes
+-- byte j, from 0 to 7, of a cell. It is None if the byte is absent: it was not written in this run,
+-- or was lost when part of a value kept whole was overwritten. It is also None in a value kept
+-- whole (`holds`, a pointer or a map), of which no single byte can be read
 abbrev pub byte_at : Cell → ℕ → Option ℕ
 byte_at (holds v) j = None
 byte_at (bytes b) j = b j
@@ -41,9 +44,10 @@ widened size false n = n
 abbrev pub number_from : AccessSize → Bool → Option (List ℕ) → Option Tagged
 number_from size signed o = option_map (λ bs. Scalar (widened size signed (number_of bs))) o
 
--- what a load of this size from byte j of a cell on gives: a number, sign-extended if `signed`, or,
--- if the cell keeps a value whole and the size is a double word, this value (j is then 0, since
--- loads are aligned). None for a smaller size from such a cell, or if a byte is absent
+-- the value that a load of this size gets from byte j of a cell on. A cell of bytes gives the
+-- little-endian number of the loaded bytes, sign-extended if `signed`; None, a fault, if one of
+-- them is absent. A cell that keeps a pointer or a map whole (`holds`) gives it to a load of a
+-- double word (j is then 0, since loads are aligned), and None to one of a smaller size
 abbrev pub read_cell : Cell → ℕ → AccessSize → Bool → Option Tagged
 read_cell (holds v) j Double signed = Some v
 read_cell (holds v) j _ signed = None

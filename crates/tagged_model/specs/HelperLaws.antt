@@ -62,8 +62,10 @@ pub data MapAfterCall (t : RunMap) : RunMap → Type 0 where
       → MapAfterCall t (updated t key value flags).map
   after_delete : (key : List ℕ) → MapAfterCall t (removed t key).map
 
--- the map of one descriptor before a call and after it: no map both times (None), or a map and one
--- that a call may leave of that map (`MapAfterCall`). A call neither adds nor removes a map
+-- what a descriptor names before a call of a helper, and what it names after the call: no map both
+-- times (None), or a map t and then u, which is t as a call may leave it (`MapAfterCall`:
+-- unchanged, with bytes written into one value, or after an update or a delete). False if only one
+-- of them is a map, since a call neither adds nor removes a map
 abbrev pub EntryAfterCall : Option RunMap → Option RunMap → Type 0
 EntryAfterCall None None = Unit {0}
 EntryAfterCall (Some t) (Some u) = MapAfterCall t u
@@ -84,18 +86,20 @@ PermitsAfterCall s (Some t) = IsAfterCall s t
 
 -- ---- a state and its maps
 
--- a call may leave o, the map of a descriptor or no map (None), unchanged (`EntryAfterCall`)
+-- o is the map of a descriptor before a call, or None if it has no map. A call may leave it
+-- unchanged: o may be what the descriptor has after the call too (`EntryAfterCall`: before, after)
 unchanged_entry : (o : Option RunMap) → EntryAfterCall o o
 unchanged_entry None = tt
 unchanged_entry (Some t) = unchanged
 
--- s itself can be the state after a call that begins in s: a call may change nothing
+-- s itself can be the state after a call that begins in s (`IsAfterCall`): it has the context words
+-- of s, and a call may leave each map unchanged, as a look-up does
 state_same : (s : RunState) → IsAfterCall s s
 state_same s = record { words = refl; maps = λ m. unchanged_entry (s.maps m) }
 
--- if s has the map t at descriptor m, and a call may change t to u (`MapAfterCall`), then u may
--- replace t in s: after this change, each descriptor k has a map that a call may leave of the map
--- at k in s, or has no map if s has none at k (`EntryAfterCall`)
+-- if state s has the map t at descriptor m, and a call may change t to u (`MapAfterCall`), a call
+-- may leave s with u at m: for each descriptor k, `EntryAfterCall` allows the map of s at k, or
+-- None, before the call, and after it u if k is m, else the same map or None. For `map_changed`
 entry_set : (s : RunState) (m : ℕ) (t u : RunMap)
     → s.maps m ≡ Some t
     → MapAfterCall t u
@@ -109,21 +113,24 @@ entry_set s m t u there change k =
     (λ _. unchanged_entry (s.maps k))
 
 -- if s has the map t at descriptor m, and a call may change t to u (`MapAfterCall`), then s with u
--- at m can be the state after a call that begins in s
+-- at m, in which no other map and no context word differs, can be the state after a call that
+-- begins in s (`IsAfterCall`). This is for a helper that writes into a value
 map_changed : (s : RunState) (m : ℕ) (t u : RunMap)
     → s.maps m ≡ Some t
     → MapAfterCall t u
     → IsAfterCall s (with_map s m u)
 map_changed s m t u there change = record { words = refl; maps = entry_set s m t u there change }
 
--- if t can be the state after a call that begins in s, so can t with v in register 0 and registers
--- 1 to 5 empty
+-- if t can be the state after a call that begins in s, so can `returns t v`: t with the call's
+-- result v in register 0, and registers 1 to 5 empty. For `IsAfterCall` requires something only of
+-- context words and maps, which the last step of a call, the return of a result, does not change
 returned : (s t : RunState) (v : Tagged) → IsAfterCall s t → IsAfterCall s (returns t v)
 returned s t v h = record { words = h.words; maps = h.maps }
 
--- if s has the map t at descriptor m, and a call may change t to the reply's map (`MapAfterCall`),
--- `replies s m reply` can be the state after a call that begins in s: s with the reply's map at m,
--- the reply's result in register 0, and registers 1 to 5 empty
+-- `replies s m reply` is the state to which an update or a delete leads from s: s with the reply's
+-- map at descriptor m, the reply's result in register 0, and registers 1 to 5 empty. This can be
+-- the state after a call that begins in s (`IsAfterCall`) if s has a map t at m, and the reply's
+-- map is one that a call may leave of t (`MapAfterCall`)
 replied : (s : RunState) (m : ℕ) (t : RunMap) (reply : MapReply)
     → s.maps m ≡ Some t
     → MapAfterCall t reply.map
@@ -133,18 +140,20 @@ replied s m t reply there change = record {
   maps = entry_set s m t reply.map there change;
 }
 
--- `PermitsAfterCall` permits a fault, and each state to which a call that begins in s may lead. If
--- it permits f x for the value x of the option o, it permits the result of the computation that
--- takes the value of o and continues with f. If o is None, this result is a fault
+-- a computation, in a call that begins in state s, takes the value x of the option o and continues
+-- with f. If f x is a result that `PermitsAfterCall` permits, which is a fault (None) or a state to
+-- which the call may lead, so is the result of the computation. If o is None, this result is a
+-- fault. For `call_leaves`
 then_leaves : {A : Type 0} (s : RunState) (o : Option A) (f : A → Option RunState)
     → ((x : A) → o ≡ Some x → PermitsAfterCall s (f x))
     → PermitsAfterCall s (and_then o f)
 then_leaves s None f h = tt
 then_leaves s (Some x) f h = h x refl
 
--- if `PermitsAfterCall` permits o, the result of a computation in a call that begins in state s, it
--- also permits o with v in register 0 and registers 1 to 5 empty. If o is None, a fault, the result
--- stays a fault
+-- the return of a call (`returns`) with result v writes v to register 0 and empties registers 1 to
+-- 5. If o, the result of a computation in a call that begins in state s, is a fault (None) or a
+-- state that can be the one after the call (`PermitsAfterCall`), so is o with this return: a fault
+-- is still a fault
 return_leaves : (s : RunState) (o : Option RunState) (v : Tagged)
     → PermitsAfterCall s o
     → PermitsAfterCall s (and_then o (λ t. Some (returns t v)))
@@ -153,10 +162,11 @@ return_leaves s (Some t) v h = returned s t v h
 
 -- ---- arguments
 
--- a computation reads the map in register r of s, and continues with f. If f gives, for each map of
--- s with its descriptor, a fault (None) or a state that can be the one after a call that begins in
--- s (`PermitsAfterCall`), then so does the computation. If register r has no map of the run, the
--- computation is a fault
+-- the first step of a look-up, an update or a delete reads the map in register r of s; f, which
+-- gets this map and its descriptor, is the rest of the call. If `PermitsAfterCall` permits what f
+-- returns for each map t of s and its descriptor m, it permits the result of the step and the rest:
+-- it permits a fault (None), and each state that can be the one after a call that begins in s. If
+-- register r has no map of the run, the result is a fault
 map_argument_permits : (s : RunState) (r : ℕ) (f : GivenMap → Option RunState)
     → ((m : ℕ) (t : RunMap)
     → s.maps m ≡ Some t
@@ -179,12 +189,15 @@ map_argument_permits s r f h = by (argument s r map_given)
     by None = tt
     by (Some m) = at m (s.maps m) refl
 
--- the result of a read is n bytes, or it is None, since the read is a fault
+-- a read of n bytes that is no fault gives n bytes: the list in `Some` has length n. Nothing is
+-- required of None, a fault. So the key and the value that an update reads have the map's sizes
 abbrev HasLength : ℕ → Option (List ℕ) → Type 0
 HasLength n None = Unit {0}
 HasLength n (Some bs) = length bs ≡ n
 
--- if `gathered` returns a list of the n bytes from index p on, the list has length n
+-- `gathered byte p n` reads n bytes, those that `byte` gives for the indices from p on. It is a
+-- list of n bytes, or None if `byte` gives None for one of them; `HasLength` requires nothing of
+-- None. `input_long` uses this law for a helper's read of the stack
 gathered_long : (byte : ℕ → Option ℕ) (p n : ℕ) → HasLength n (gathered byte p n)
 unfolding gathered
 gathered_long byte p zero = refl
@@ -197,7 +210,8 @@ gathered_long byte p (suc n) = by (byte p) (gathered byte (suc p) n) (gathered_l
     by (Some b) None h = tt
     by (Some b) (Some bs) h = ap suc h
 
--- a read of n bytes at offset y of a value gives n bytes, or faults
+-- a read of n bytes at offset y of a map's value, whose bytes are `value`, gives n bytes, or it is
+-- a fault (None): y is negative, or the n bytes do not all lie in the value
 value_bytes_length : (value : List ℕ) (y : ℤ) (n : ℕ) → HasLength n (value_bytes value y n)
 value_bytes_length value (pos y) n =
     cond_both (nat_le (y + n) (length value)) (Some (bytes_at value y n)) None (HasLength n)
@@ -211,7 +225,8 @@ object_read_has_length : (o : Option RunMap) (number : ℕ) (y : ℤ) (n : ℕ)
 object_read_has_length None number y n = tt
 object_read_has_length (Some t) number y n = value_bytes_length (t.values number) y n
 
--- a helper that reads n bytes at p gets n bytes, or faults
+-- what a helper reads in state s as n bytes at p (`input`) has n bytes, or the read is a fault
+-- (None), as it always is if p is no pointer into the stack or into a map's value
 input_long : (s : RunState) (p : Tagged) (n : ℕ) → HasLength n (input s p n)
 input_long s (Pointer object.Stack x) n =
     cond_both (is_in_stack x n) (gathered (stack_byte s) (byte_index x) n) None (HasLength n)
@@ -219,9 +234,11 @@ input_long s (Pointer object.Stack x) n =
 input_long s (Pointer (object.Value m number) x) n = object_read_has_length (s.maps m) number x n
 input_long s p n = tt
 
--- a computation reads n bytes at the pointer in register r of s, and continues with f. If f gives,
--- for any n bytes, a fault (None) or a state that can be the one after a call that begins in s
--- (`PermitsAfterCall`), then so does the computation
+-- a step of a look-up, an update or a delete reads n bytes, a key or a value, at the pointer in
+-- register r of s; f, which gets these bytes, is the rest of the call. If `PermitsAfterCall`
+-- permits what f returns for any n bytes, it permits the result of the step and the rest: it
+-- permits a fault (None), and each state that can be the one after a call that begins in s. If
+-- register r has no pointer to n bytes that can be read (`input`), the result is a fault
 bytes_leave : (s : RunState) (r n : ℕ) (f : List ℕ → Option RunState)
     → ((bs : List ℕ) → length bs ≡ n → PermitsAfterCall s (f bs))
     → PermitsAfterCall s (and_then (argument s r (λ p. input s p n)) f)
@@ -235,9 +252,11 @@ bytes_leave s r n f h = by (s.registers r)
     by None = tt
     by (Some p) = read (input s p n) (input_long s p n)
 
--- if a helper's write of the bytes bs at p in state s is no fault, the state after the write can be
--- the state after a call that begins in s (`IsAfterCall`). If p is no pointer into the stack or a
--- value, the write is a fault, which `PermitsAfterCall` permits
+-- what a helper's write of the bytes bs at p makes of state s is permitted as the result of a call
+-- that begins in s (`PermitsAfterCall`): the write keeps the context words, and changes no map, or
+-- one value of one map (`written` of `MapAfterCall`). A fault is permitted too: if p is no pointer
+-- into the stack or a value, or the bytes do not all lie in it. `call_leaves` uses this for the
+-- write of `LoadBytes`
 output_leaves : (s : RunState) (p : Tagged) (bs : List ℕ) → PermitsAfterCall s (output s p bs)
 output_leaves s (Pointer object.Stack x) bs =
     cond_both (is_in_stack x (length bs))

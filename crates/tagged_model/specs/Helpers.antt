@@ -128,24 +128,27 @@ packet_result packet offset n = if is_in_packet packet offset n then 0 else nega
 
 -- ---- arguments: what a register's value is, if it is what the helper requires
 
--- the number that a value is; None for a map or a pointer
+-- the number that the value of a helper's argument is, as an update's flags or the offset of a load
+-- of bytes; None, which makes the call a fault, if the value is a map or a pointer
 abbrev pub number_given : Tagged → Option ℕ
 number_given (Scalar n) = Some n
 number_given _ = None
 
--- the length that the value of a helper's argument is, a number other than 0; None if the value is
--- 0, a map or a pointer
+-- the length that a call of `LoadBytes` is given by the value of its last argument: the number of
+-- bytes to load, any but 0. None if the value is 0, a map or a pointer; the call is then a fault.
+-- Whether the object that is written to has room for so many bytes is tested by `output`, not here
 abbrev pub length_given : Tagged → Option ℕ
 length_given (Scalar n) = if n == 0 then None else Some n
 length_given _ = None
 
--- the descriptor of the map that a value is; None if it is no map
+-- the descriptor of the map that the value of a helper's first argument is (of a look-up, an update
+-- or a delete); None, which makes the call a fault, if the value is a number or a pointer
 abbrev pub map_given : Tagged → Option ℕ
 map_given (Map m) = Some m
 map_given _ = None
 
--- for an argument that must be the context: Some, without content, if the value is a pointer to the
--- first byte of the context; None for any other value
+-- for an argument that must be the context, as the first one of a load of bytes: Some, without
+-- content, if the value is a pointer to the first byte of the context; None for any other value
 abbrev pub context_given : Tagged → Option (Unit {0})
 context_given (Pointer object.Context x) = if int_eq x (pos 0) then Some tt else None
 context_given _ = None

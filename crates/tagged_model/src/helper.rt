@@ -19,7 +19,7 @@ pub enum Helper {
 impl Helper {
     ghost use Rattle.tagged_model.specs.Helpers.{id_of};
 
-    /// The helper's number in bpf_func_id.
+    /// The helper's number in bpf_func_id, by which a call names the helper. `pos` makes the natural number `id_of` an integer.
     pub fn id(self) -> i32
         ensures { result ≡ pos (id_of self) }
     {
@@ -32,7 +32,8 @@ impl Helper {
     }
 }
 
-/// The helper with this number in bpf_func_id; `None` if no `Helper` has this number.
+/// The helper with the number `id` in bpf_func_id; `None` for a number that no `Helper` has: the verifier rejects a program that calls such
+/// a number.
 #[tactic(auto, unfolding(crate::specs::Helpers::known_helpers))]
 #[inline(always)]
 pub fn known_helper(id: i32) -> Option<Helper>

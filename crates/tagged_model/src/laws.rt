@@ -3,17 +3,20 @@
 ghost use Rattle.std.specs.Prelude.{ℕ, List};
 ghost use Rattle.tagged_model.specs.MapLaws.{CallsRefineValues, MapVerdictsMatchLookUps};
 
-/// A law. Take a map from keys to numbers, and a function from numbers to numbers (`numbers`) or to bytes (`bytes`). A second map has, for
-/// each number of the first, the function's value. Each call gives the same result on both maps, with the function's value for a number,
-/// and changes both alike. So a map from keys to elements can be used instead of a map from keys to bytes.
+/// A law, the refinement of maps. Take a map from keys to numbers, and a function of these numbers. A second map has the same keys, each
+/// with the function's value for its number. Each call gives the same result on both maps, with the function's value for a number, and
+/// changes both alike. `numbers` is for functions to numbers, as from the number of an object of the tagged machine to its element; `bytes`
+/// is for functions to bytes, as from an element to its value. So a map from keys to elements can be used instead of a map from keys to
+/// bytes.
 pub fn calls_refine_values()
     ensures numbers { CallsRefineValues ℕ ℕ }
     ensures bytes { CallsRefineValues ℕ (List ℕ) }
 {}
 
 /// A law: the verdict on an update agrees with the look-up of its key. If the verdict is that the key is present with an object, the
-/// look-up finds this object; if the verdict is that the key is new, the look-up finds none. No verdict is out of memory. `numbers` is for
-/// maps whose objects are numbers (elements), `bytes` for those whose objects are bytes (values).
+/// look-up finds this object; if the verdict is that the key is new, the look-up finds no object. No verdict is a refusal with the error
+/// `Memory`. `numbers` is for maps whose objects are numbers (elements), `bytes` for those whose objects are bytes (values). The proof that
+/// an update changes a map of elements and its map of values alike needs this (`live_maps_refine_values` of `bpf_maps`).
 pub fn map_verdicts_match_look_ups()
     ensures numbers { MapVerdictsMatchLookUps ℕ }
     ensures bytes { MapVerdictsMatchLookUps (List ℕ) }

@@ -66,12 +66,14 @@ pub struct Named {
 impl MapShape {
     ghost use Rattle.tagged_model.specs.Table.{has_direct_value};
 
-    /// Makes the shape with these fields, as in bpf(2), BPF_MAP_CREATE. The sizes are in bytes; `flags` has to be 0.
+    /// Makes the shape with these fields (`made`), as in bpf(2), BPF_MAP_CREATE. The sizes are in bytes; `flags` has to be 0. A shape is
+    /// made only of fields for which `shape_fault` is `None` (`listed`); else the error is this fault (`fault`).
     ///
     /// # Errors
     ///
-    /// `Invalid` if a field is outside its limits or a flag is set, else `TooBig` if the values, each rounded up to a multiple of
-    /// eight bytes, take more than `LARGEST_AREA` bytes.
+    /// `Invalid` if a flag is set or a field is outside its limits: `key_size` is 4 for an array, 1 to `LONGEST_KEY` for a hash map,
+    /// `value_size` is 1 to `LONGEST_VALUE`, `max_entries` is 1 to `MOST_ENTRIES`. Else `TooBig` if the values, each rounded up to a
+    /// multiple of eight bytes, take more than `LARGEST_AREA` bytes.
     pub fn new(
         kind: MapKind,
         key_size: u32,
@@ -108,8 +110,9 @@ impl MapShape {
         })
     }
 
-    /// Whether a program may load the address of a value without a call, at an offset in bytes: true if the map is an array of one
-    /// element, and the offset lies in its value (linux/bpf.h, BPF_PSEUDO_MAP_VALUE).
+    /// Whether a program may load the address of a value without a call, at an offset in bytes: true if the map is an array of one element,
+    /// and the offset lies in its value (linux/bpf.h, BPF_PSEUDO_MAP_VALUE). Such an offset is below `LONGEST_VALUE` (`bound`), so it fits
+    /// an `i32`.
     pub fn has_direct_value(&self, offset: u32) -> bool
         ensures value { result ≡ has_direct_value self.now offset }
         ensures bound { result ≡ true → offset < longest_value }
@@ -117,7 +120,8 @@ impl MapShape {
         self.kind == MapKind::Array && self.max_entries == 1 && offset < self.value_size
     }
 
-    /// The number of bytes that the values take, each rounded up to a multiple of eight: at most `LARGEST_AREA`.
+    /// The number of bytes that the values of a map of this shape take, each rounded up to a multiple of eight: at most `LARGEST_AREA`
+    /// (`bound`). This follows from `listed`, by which a shape is within its limits; so the product does not overflow.
     pub fn area(&self) -> u32
         ensures value { result ≡ area self.now.value_size self.now.max_entries }
         ensures bound { result ≤ largest_area }

@@ -56,7 +56,8 @@ object_refusal (Some (object.Program l)) = None
 abbrev pub length_refusal : ℕ → Option Errno
 length_refusal size = if nat_lt longest_packet size then Some TooBig else None
 
--- the first of two refusals, or the second one if the first is none
+-- the refusal by two tests, one after the other: the first test's, or the second test's if the
+-- first refuses nothing (None); None if neither refuses
 abbrev pub else_refusal : Option Errno → Option Errno → Option Errno
 else_refusal None later = later
 else_refusal (Some errno) later = Some errno
@@ -102,9 +103,11 @@ run_weight cost = cost.instructions + CALL_WEIGHT * cost.calls
 abbrev pub allowed : ℕ → ℕ → ℕ → ℕ
 allowed bound cost packets = min packets (max 1 (bound / cost))
 
--- a bound other than 0 on the work of a batch allows n of its `packets`. If the descriptor of the
--- batch names a program, each run counts for the program's cost (`run_weight`); if it names no
--- program, all are allowed, since such a batch is rejected as a whole
+-- n is the number of packets that a batch of `packets` packets may run under `bound`, a number of
+-- instructions other than 0 (`IsAllowed` has the case 0). The first argument is what the batch's
+-- descriptor names. If that is a program, n is `bound` divided by the weight of a run
+-- (`run_weight`, from the program's cost), rounded down, but at least 1, and at most `packets`. If
+-- it is a map or nothing (None), n is `packets`, since such a batch is rejected as a whole
 abbrev pub IsAllowedBy : Option OpenObject → ℕ → ℕ → ℕ → Type 0
 IsAllowedBy None bound packets n = n ≡ packets
 IsAllowedBy (Some (object.Map handle)) bound packets n = n ≡ packets
@@ -128,8 +131,9 @@ AreTestRuns fd (frame ∷ frames) (input ∷ inputs) =
 AreTestRuns fd [] (input ∷ inputs) = ⊥
 AreTestRuns fd (frame ∷ frames) [] = ⊥
 
--- the replies to test-run frames with these results, one each: status 0, and the result in four
--- bytes; if one list is longer, its rest is left out
+-- the replies to frames of test runs that succeed, each with the result at the frame's index:
+-- status 0, and the result in four bytes, little-endian. If one list is longer, its rest is left
+-- out; frames (`AreTestRuns`) and results (`RunsInOrder`) of the same inputs are equally many
 abbrev pub result_replies : List (List ℕ) → List ℕ → List (List ℕ)
 result_replies [] results = []
 result_replies (frame ∷ frames) [] = []

@@ -7,16 +7,19 @@ use Rattle.tenant.specs.declared.object.OpenObject.{OpenObject}
 use Rattle.tenant.specs.declared.object.OpenObject.TheVariants as object
 use Rattle.tenant.specs.State.{TenantState}
 
--- the cost is that of the object that a descriptor names (None if nothing is open): for a program
--- the cost of its instructions (`IsCostOf`), None for a map, and None if nothing is open
+-- `cost` is what `program_cost` returns for a descriptor, by what this names (the first argument,
+-- None if the descriptor is free). For a program it is the cost of the program's instructions, and
+-- not None: the most instructions, and the most calls of helpers, on a path from slot 0 to an exit
+-- (`IsCostOf`). For a map, and for a free descriptor, it is None
 abbrev pub HasCost : Option OpenObject → Option Cost → Type 0
 HasCost None cost = cost ≡ None
 HasCost (Some (object.Map handle)) cost = cost ≡ None
 HasCost (Some (object.Program l)) None = ⊥
 HasCost (Some (object.Program l)) (Some cost) = IsCostOf cost l.insns
 
--- `cost` is that of the program which descriptor `fd` of a tenant names, and None if `fd` names no
--- program; a tenant that is not served has nothing open
+-- `cost` is that of the program which descriptor `fd` of a tenant names: the most instructions, and
+-- the most calls of helpers, on a path from slot 0 to an exit (`IsCostOf`). It is None if `fd`
+-- names a map or nothing. A tenant that is not served (None) has nothing open
 abbrev pub HasCostAt : Option TenantState → ℕ → Option Cost → Type 0
 HasCostAt None fd cost = cost ≡ None
 HasCostAt (Some s) fd cost = HasCost (named s.objects fd) cost

@@ -6,7 +6,8 @@ use Rattle.tenant.specs.declared.object.OpenObject.{OpenObject}
 use Rattle.tenant.specs.declared.object.OpenObject.TheVariants as object
 use Rattle.tenant.specs.State.{TenantState, maps_area}
 
--- 1 for a program, 0 for a map
+-- 1 for an open object that is a program, 0 for a map; its sum over a tenant's descriptors is the
+-- number of those that name a program (`counts_of`)
 abbrev pub one_program : OpenObject → ℕ
 one_program (object.Map handle) = 0
 one_program (object.Program l) = 1
@@ -23,7 +24,7 @@ counts_of s = record {
   memory_refused = s.refused;
 }
 
--- the counts of a tenant; if it is not served, all are 0, and `memory_refused` is false
+-- the counts of a tenant; of one that is not served (None) all are 0, and `memory_refused` is false
 abbrev pub counts_if_served : Option TenantState → Counts
 counts_if_served (Some s) = counts_of s
 counts_if_served None = record {

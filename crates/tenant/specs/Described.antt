@@ -65,8 +65,8 @@ described_object s (Some (object.Program l)) = described_program l.insns
 abbrev pub described : TenantState → ℕ → Described
 described s fd = described_object s (named s.objects fd)
 
--- the description of what a descriptor of a tenant names; a tenant that is not served has nothing
--- open
+-- the description of what descriptor fd of a tenant in this state names, which `Host::describe`
+-- returns; that of nothing for a tenant that is not served (None), which has nothing open
 abbrev pub described_if_served : Option TenantState → ℕ → Described
 described_if_served (Some s) fd = described s fd
 described_if_served None fd = nothing_there

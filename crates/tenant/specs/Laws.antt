@@ -46,8 +46,8 @@ ClearFlagMeansAlone =
 
 -- ---- the status of refused memory
 
--- whether memory may be refused to a command: to the creation of a map, of either kind, and to the
--- load of a program
+-- whether memory may be refused to a command: to the creation of a map, hash or array, and to the
+-- load of a program; to no other command
 abbrev pub takes_memory : Command → Bool
 takes_memory (map_create kind key value max flags) = true
 takes_memory (prog_load kind slots) = true

@@ -82,9 +82,11 @@ abbrev pub shape_where : (fits : Bool) → (fits ≡ true → MapShape) → Resu
 shape_where true shape = Ok (shape refl)
 shape_where false shape = Err TooBig
 
--- the shape with these fields of MAP_CREATE. The error is Invalid if there is no such kind of maps,
--- a field is outside its limits or a flag is set, else TooBig if the values take too many bytes.
--- `listed` is the proof that a map may have the shape
+-- the shape with these fields of MAP_CREATE, with sizes in bytes. Invalid if no kind of maps has
+-- the type (None), the key size is not 4 in an array or from 1 to `longest_key` in a hash map, the
+-- value size not from 1 to `longest_value`, `max` not from 1 to `most_entries`, or a flag is set.
+-- Else TooBig if the values, each rounded up to a multiple of eight bytes, take more than
+-- `largest_area`. `listed` is the proof, which a `MapShape` contains, that a map may have the shape
 abbrev pub asked_shape : Option MapKind → ℕ → ℕ → ℕ → ℕ → Result MapShape Errno
 asked_shape None key value max flags = Err Invalid
 asked_shape (Some kind) key value max flags =
@@ -262,8 +264,10 @@ verdict_errno reason.LengthUnbounded = AccessDenied
 verdict_errno reason.UnalignedAtomic = AccessDenied
 verdict_errno reason.Memory = NoMemory
 
--- the error of a load that is rejected for this cause: the slots are no program, or the program is
--- not accepted
+-- the error of a load that is rejected for this cause. Slots that are no program (`codec_errno`):
+-- TooBig if there are none or too many, else Invalid. A program that is not accepted
+-- (`verdict_errno`): BadDescriptor if a descriptor is not open, AccessDenied if it is unsafe or
+-- writes the frame pointer, else Invalid. NoMemory for `Memory`, a refusal of memory
 abbrev pub cause_errno : Cause → Errno
 cause_errno (cause.Slots kind) = codec_errno kind
 cause_errno (cause.Verdict why) = verdict_errno why
@@ -365,8 +369,9 @@ unfoldable pub maps_left : MapsByDescriptor → List (ℕ × ℕ) → List (Opti
 maps_left left [] maps = maps
 maps_left left (m ∷ ms) maps = maps_left left ms (slice_set maps m.1 (left m.0))
 
--- the result of a test run with this outcome, and with the state s after it: a number in four
--- bytes, or the error of a fault, which no run of an accepted program has
+-- the result of a test run with this outcome; s is the state after it. A run that ends with n, the
+-- low 32 bits of register 0 at the exit, gives status 0 and, as the payload, n in four bytes,
+-- little-endian. A run that faults gives the error BadAddress; no run of an accepted program does
 abbrev pub outcome_result : Outcome → TenantState → Answer
 outcome_result (Value n) s = gives (little_bytes 4 n) s
 outcome_result Fault s = refuses BadAddress s

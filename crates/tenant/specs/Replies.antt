@@ -12,8 +12,10 @@ use Rattle.tenant.specs.declared.reply.Reply.TheVariants as reply
 use Rattle.tenant.specs.State.{TenantState}
 use Rattle.tenant.specs.Machine.{Answer, gives, opens, refuses, refuses_load}
 
--- the machine's result that a reply or an error of the code represents: the status, the payload,
--- and s, the state after the command
+-- the machine's result for a reply or an error of the code; s is the state after the command.
+-- Value, Key and Number have status 0 and these bytes as payload (a number has four). Done has
+-- status 0, Opened the new descriptor, Err the negated error number, all without payload. Refused,
+-- a rejected load, has a negated error number, and as payload the slot and the cause's number
 abbrev pub shown_reply : Result Reply Errno → TenantState → Answer
 shown_reply (Ok reply.Done) s = gives [] s
 shown_reply (Ok (reply.Opened fd)) s = opens fd s
@@ -23,9 +25,11 @@ shown_reply (Ok (reply.Number number)) s = gives (little_bytes 4 number) s
 shown_reply (Ok (reply.Refused refusal)) s = refuses_load refusal s
 shown_reply (Err errno) s = refuses errno s
 
--- what a command may return, so that its reply can be written: a descriptor is below the end of the
--- table, a payload is no longer than the longest, and a slot fits in four bytes. Its error is not
--- BadAddress, which only a run that faults would have: so no reply reports a fault
+-- what a command may return, so that its reply can be written: a new descriptor (Opened) is below
+-- the end of the table, a value or a key has at most `longest_payload` bytes, and the slot for
+-- which a load is refused (Refused) fits in four bytes. Nothing is required of Done, which has no
+-- payload, and of a Number, which has 32 bits. An error is not BadAddress, which only a run that
+-- faults would have: so no reply reports a fault
 abbrev pub IsWritable : Result Reply Errno → Type 0
 IsWritable (Ok reply.Done) = Unit {0}
 IsWritable (Ok (reply.Opened fd)) = fd < first_descriptor + most

@@ -31,17 +31,19 @@ pub struct Batch<'a> {
 /// bytes or add a key of 512, and take as long as some 128 instructions.
 pub const CALL_WEIGHT: u32 = 128;
 
-/// The weight of one run in the bound of a batch, in instructions, for a program of this cost: the most instructions that a run executes,
-/// plus `CALL_WEIGHT` times the most calls of helpers that a run makes.
+/// The weight of one run in a batch, in instructions, for a program of this cost: the most instructions that a run executes, plus
+/// `CALL_WEIGHT` times the most calls of helpers that a run makes. If a batch has a bound, that divided by this weight is how many packets
+/// may be run, but at least one (`allowed`).
 fn run_weight(cost: Cost) -> u64
     ensures { result ≡ run_weight cost }
 {
     u64::from(cost.instructions) + u64::from(CALL_WEIGHT) * u64::from(cost.calls)
 }
 
-/// The number of packets that `bound` instructions allow a batch of `packets` packets, if a run counts for `cost` instructions: as many
-/// runs as fit, at least one, but at most `packets`. The caller has tested that `bound` is not 0, which would bound nothing. `cost` is not
-/// 0, since each run executes its exit.
+/// The number of packets that a bound of `bound` instructions allows, of the `packets` packets of a batch, if a run counts for `cost`
+/// instructions (`run_weight`): as many runs as fit into the bound, but at least one, and at most `packets` (`few`). `allowed_packets` has
+/// handled a `bound` of 0 before, which means no bound; this is not required, and with 0 the result would be at most 1. `cost` is not 0, as
+/// the division requires, since each run executes its exit.
 fn allowed(bound: u64, cost: u64, packets: usize) -> usize
     requires { 1 ≤ cost }
     ensures allowed { result ≡ allowed bound cost packets }
@@ -52,10 +54,11 @@ fn allowed(bound: u64, cost: u64, packets: usize) -> usize
 }
 
 impl Tenant {
-    /// How many of the `packets` of a batch a bound allows. A run of the program at the descriptor has a weight: the most instructions that
-    /// it executes, plus `CALL_WEIGHT` times the most calls of helpers that it makes. The result is `bound` divided by the weight, but at
-    /// least 1, and at most `packets`. It is `packets` if `bound` is 0; also if the descriptor names no program, since such a batch is
-    /// rejected.
+    /// How many of the `packets` of a batch may run within `bound`, a number of instructions; hosts ask this before a batch with a bound. A
+    /// run of the program at the descriptor `fd` has a weight: the most instructions that it executes, plus `CALL_WEIGHT` times the most
+    /// calls of helpers that it makes. The result (`allowed`) is `bound` divided by the weight and rounded down, but at least 1, and at
+    /// most `packets` (`few`). It is `packets` if `bound` is 0, which is no bound; also if the descriptor names no program, since such a
+    /// batch is rejected as a whole.
     #[tactic(auto, using(crate::proofs::Bounds::weights_are_positive, crate::proofs::Bounds::all_allowed, crate::proofs::Bounds::allowed_of_program, crate::proofs::Bounds::allowed_otherwise))]
     pub fn allowed_packets(&self, fd: u32, bound: u64, packets: usize) -> usize
         ensures allowed { IsAllowed (named self.now.objects fd) bound packets result }
@@ -71,10 +74,11 @@ impl Tenant {
     }
 
     /// Runs the program at a descriptor on the packets of a batch, one after another, in this tenant's part of the arena; `tenant` is the
-    /// number of this tenant. The results are written to the front of `results`, in the order of the packets; the rest of `results` is
-    /// unchanged.
+    /// number of this tenant and of its part, which has `PART` bytes. The results are written to the front of `results`, in the order of
+    /// the packets; the rest of `results` is unchanged.
     ///
-    /// Results, maps and state afterwards are those of the test runs of these packets in this order.
+    /// Results, maps and state afterwards are those of the test runs of these packets in this order (`runs`). The other parts of the arena
+    /// are unchanged (`others`), and so are the number (`parts`) and the size (`part`) of its parts.
     ///
     /// # Errors
     ///

@@ -29,7 +29,8 @@ pub struct Counts {
 }
 
 impl Counts {
-    /// The counts of a tenant that is not served.
+    /// The counts that `counts` of `Host` returns for a number of which no tenant is served, so that there is no state (`None`): all are 0,
+    /// and `memory_refused` is false.
     pub fn none() -> Counts
         ensures { result ≡ counts_if_served None }
     {
@@ -45,7 +46,7 @@ impl Counts {
 }
 
 impl Tenant {
-    /// How many descriptors are open.
+    /// How many descriptors are open: 0 to 64 (`few`). `count`: each descriptor that names an object counts as 1, a free one as 0.
     fn open_count(&self) -> u32
         ensures count { result ≡ total (λ o. 1) self.now.objects }
         ensures few { result ≤ most }
@@ -61,7 +62,8 @@ impl Tenant {
         count
     }
 
-    /// How many descriptors name a program.
+    /// How many descriptors name a program. `count`: the sum over the open descriptors of 1 for a program and 0 for a map. `few`: at most
+    /// `most`, 64, since no more descriptors can be open.
     fn program_count(&self) -> u32
         ensures count { result ≡ total one_program self.now.objects }
         ensures few { result ≤ most }
@@ -77,8 +79,10 @@ impl Tenant {
         count
     }
 
-    /// The tenant's counts at this moment: of its live maps, their keys and the bytes of their values, of its open programs and of all
-    /// open descriptors; and whether memory was ever refused to it. They do not depend on the bytes of its part.
+    /// How much the tenant has at this moment, for the owner of the host: how many live maps, how many keys these have, and how many bytes
+    /// their areas take (`value_bytes`); how many open descriptors name a program, and how many descriptors are open in all; and whether
+    /// memory was ever refused to it, for a load, an installed program or a new map. The contract holds for any bytes `part` of the
+    /// tenant's part: the counts do not depend on them.
     pub fn counts(&self) -> Counts
         ensures { (part : List ℕ) → result ≡ counts_of (state_in part self.now) }
     {

@@ -41,7 +41,8 @@ pub struct Described {
 }
 
 impl Described {
-    /// The description of a descriptor at which nothing is open.
+    /// The description of a descriptor that is not open: `kind` is `NOTHING_THERE`, and the other fields, which only a map or a program
+    /// has, are 0. It is also that of any descriptor of a tenant that is not served.
     pub fn nothing() -> Described
         ensures { result ≡ nothing_there }
     {
@@ -56,7 +57,9 @@ impl Described {
         }
     }
 
-    /// The description of a loaded program: that it is a program, and how many slots its instructions take.
+    /// Describes a loaded program, for a descriptor that names it: `kind` is `PROGRAM_THERE`, and `slots` the number of slots of its
+    /// instructions, two for a wide one. The other fields, which only a map has, are 0. A program has at most `MAX_SLOTS` slots, so the
+    /// cast keeps their number.
     fn of_program(program: &LoadedProgram) -> Described
         ensures { result ≡ described_program program.now.insns }
     {
@@ -68,7 +71,8 @@ impl Described {
     }
 }
 
-/// The number that bpf(2) has for a kind of maps, the type of a map: 1 for hash maps, 2 for arrays.
+/// The number that bpf(2) has for a kind of maps, there called the type of a map: 1 for hash maps (BPF_MAP_TYPE_HASH), 2 for arrays
+/// (BPF_MAP_TYPE_ARRAY). `Described` has it as `map_type`, and the frame of a save that creates a map has it as its kind.
 pub fn type_number(kind: MapKind) -> u32
     ensures { result ≡ type_number kind }
 {
@@ -79,7 +83,9 @@ pub fn type_number(kind: MapKind) -> u32
 }
 
 impl Tenant {
-    /// The description of a live map: that it is a map, its shape, and how many keys it has.
+    /// The description of a live map, for `describe`: that it is a map (`MAP_THERE`), its shape, and how many keys it has. `slots`, which
+    /// only a program has, is 0. The contract holds for any bytes of the tenant's part (`part`), which has the map's values: the
+    /// description does not depend on them.
     fn described_map(&self, map: MapKey) -> Described
         requires { IsSome (live_at self.now.live map) }
         ensures { (part : List ℕ) → result ≡ described_map (map_in part self.now.live map) }
@@ -96,7 +102,9 @@ impl Tenant {
         }
     }
 
-    /// What a descriptor names at this moment; its `kind` is `NOTHING_THERE` if the descriptor is not open.
+    /// What a descriptor names at this moment: a map with its shape and its number of keys, or a program with its number of slots. If the
+    /// descriptor is not open, `kind` is `NOTHING_THERE`, and all other fields are 0. The contract holds for any bytes `part` of the
+    /// tenant's part: what is returned does not depend on them.
     pub fn describe(&self, fd: u32) -> Described
         ensures { (part : List ℕ) → result ≡ described (state_in part self.now) fd }
     {

@@ -52,9 +52,10 @@ fn errno_of_codec(kind: FaultKind) -> Errno
     }
 }
 
-/// The error of a load whose program is rejected for this reason. `BadDescriptor`: a descriptor is not open. `AccessDenied`: the program is
-/// unsafe or writes the frame pointer. `Invalid`: any other fault of its shape. `NoMemory` for `Memory`, which is the reason of no rule:
-/// `verify` gives it if out of memory.
+/// The error of a load whose program is rejected for this reason. `BadDescriptor`: a descriptor is not open. `AccessDenied`: the program
+/// writes the frame pointer or is unsafe, since an instruction may not be run with the facts before it. `Invalid`: any other fault of its
+/// shape. `NoMemory`: for `Memory`, the reason of no rule, by which `verify` reports that it was out of memory. No load is rejected for it,
+/// since `verify_slots` returns `AllocError` then.
 fn errno_of_verdict(reason: Reason) -> Errno
     ensures { result ≡ verdict_errno reason }
 {
@@ -92,7 +93,8 @@ impl Errno {
     ghost use Rattle.tenant.specs.Batch.{packet_errno};
     ghost use Rattle.tenant.specs.declared.errno.Errno.TheVariants.{BadAddress};
 
-    /// The error of a command whose call of a map fails for this fault; `no_fault`: never the error of a run that faults.
+    /// The error of a command whose call of a map fails for this fault: the one of the same name, and `NoMemory` for `Memory`. It is never
+    /// `BadAddress`, the error of a run that faults (`no_fault`), as the contracts of the commands on maps promise (`writable`).
     pub(crate) fn of_map(fault: MapFault) -> Errno
         ensures errno { result ≡ map_errno fault }
         ensures no_fault { result ≢ BadAddress }
@@ -107,7 +109,9 @@ impl Errno {
         }
     }
 
-    /// The error of a batch whose packets are refused for this fault.
+    /// The error of a batch whose packets are refused for this fault. `TooBig`: a packet is longer than `LONGEST_PACKET` (`TooLong`).
+    /// `Invalid`: there is neither one array of context words for all packets nor one for each (`Contexts`), or a packet ends before it
+    /// begins, or after the last byte (`Outside`).
     pub(crate) fn of_packet(fault: PacketFault) -> Errno
         ensures { result ≡ packet_errno fault }
     {
@@ -118,7 +122,9 @@ impl Errno {
         }
     }
 
-    /// The error of a load that is refused for this cause.
+    /// The error number with which a load is refused for `cause`. If its slots are no program: `TooBig` for no slots or too many, else
+    /// `Invalid`. If its program breaks a rule: `BadDescriptor` if a descriptor is not open, `AccessDenied` if the program is unsafe or
+    /// writes the frame pointer, else `Invalid`. `NoMemory` if the codec's fault or the reason is `Memory`.
     pub fn of_cause(cause: Cause) -> Errno
         ensures { result ≡ cause_errno cause }
     {
@@ -128,7 +134,7 @@ impl Errno {
         }
     }
 
-    /// The status of a reply: the negated error number.
+    /// The status of a reply with this error: the error's number in Linux, negated. Without an error the status is not negative.
     pub fn status(self) -> i32
         ensures { result ≡ status_of self }
     {

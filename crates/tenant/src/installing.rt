@@ -21,7 +21,9 @@ use tagged_model::{MapShape, Target};
 use verifier::{ReplaceFault, Verified};
 
 impl Tenant {
-    /// The shape of the map that a descriptor names; `None` if the descriptor is not open or names a program.
+    /// The shape of the map that the descriptor `fd` names; `None` if it is not open or names a program. `fits` compares this shape with
+    /// that with which a program was accepted. The contract says it by the list of open descriptors (`targets`), as `Fits` needs it; `part`
+    /// may be any bytes, since shapes do not depend on them.
     fn shape_at(&self, fd: u32) -> Option<MapShape>
         ensures { (part : List ℕ) →
             result ≡ shapes_named (targets (state_in part self.now)) fd }
@@ -33,8 +35,10 @@ impl Tenant {
         }
     }
 
-    /// Whether each descriptor of the program's maps names a map of the shape with which the program was accepted. The test
-    /// ends at the first descriptor that does not.
+    /// Whether `program`, which was verified without a host, fits this tenant: each descriptor of its maps names here a map of the shape
+    /// with which the program was accepted. If so, `install` opens it without verifying it again. The test ends at the first descriptor
+    /// that names no such map. In the clause, `targets` are the open descriptors with their objects, which `Fits` compares; `part`, the
+    /// bytes of the tenant's part, may be any, since the shape of a map does not depend on its values.
     fn fits(&self, program: &Verified) -> bool
         ensures { (part : List ℕ) →
             IsTrue result ↔ Fits program.now (targets (state_in part self.now)) }
@@ -47,11 +51,12 @@ impl Tenant {
         true
     }
 
-    /// The loaded program that `program` becomes: the objects with which it was accepted are replaced by those that are open here, and it
-    /// gets the handles of its maps. The caller has seen that it fits, so `OtherShapes` can't occur. The result is accepted with the open
-    /// descriptors (`judges`), and its maps are live (`there`), with the shapes with which it was accepted (`bound`). `part` may be any
-    /// bytes. It allocates three lists: the open descriptors with their objects, those of the program's maps with their objects, and the
-    /// handles of these maps. `AllocError`: out of memory for one of them.
+    /// The loaded program that `program`, which was verified without this tenant, becomes in it: the objects with which it was accepted are
+    /// replaced by those that its descriptors name here, and it gets the handles of its maps. These have the shapes with which it was
+    /// accepted (`fits`), as `install` has tested, so `OtherShapes` can't occur. The result is accepted with the open descriptors
+    /// (`judges`), and is what a load of its slots would open (`found`). Its maps are live (`there`), with the shapes with which it was
+    /// accepted (`bound`). `part` may be any bytes. It allocates three lists: the open descriptors with their objects, those of the
+    /// program's maps with their objects, and the handles of these maps. `AllocError`: out of memory for one of them.
     fn program_here(
         &self,
         alloc: Global,
@@ -78,8 +83,10 @@ impl Tenant {
     /// program is neither copied nor verified again. Memory is allocated only for three lists (`program_here`): the open descriptors with
     /// their objects, those of the program's maps, and the handles of these maps.
     ///
-    /// `Err` gives back a program that does not fit; then nothing has changed. `Ok` has what `load` returns for the slots: the descriptor,
-    /// or an error. After an error the program is dropped.
+    /// `Err` gives back a program that does not fit; then nothing has changed (`stale`). `Ok` means that the program fits (`fits`), and has
+    /// what `load` returns for the slots: the descriptor, or an error, after which the program is dropped. By `loaded` the tenant changes
+    /// as by this load, on any bytes of its part; `refused` is whether memory is refused to the load. The load's reply can be written
+    /// (`writable`) and has no payload (`no_payload`): only that of a rejected load would have one.
     ///
     /// # Errors
     ///

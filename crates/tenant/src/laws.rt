@@ -4,44 +4,49 @@ ghost use Rattle.tenant.specs.Batch.{BatchIsItsFrames, RefusedAsItsFrame, OneRes
 ghost use Rattle.tenant.specs.Laws.{OneCommandResult, OneReply, OneAlone, ClearFlagMeansNoRefusal, ClearFlagMeansAlone};
 ghost use Rattle.tenant.specs.Laws.{RefusalsAreReported, OnlyCreationsAndLoadsAreRefused, UnrefusedRepliesMeanAlone, FaultsHaveNoPayload};
 
-/// A law: in a state, a command has at most one result (status, payload and next state) if memory is refused to it, and at most one if it
-/// is not.
+/// A law, from which the determinism of a tenant's machine follows (`one_reply`, `one_alone`): in a state, a command has at most one result
+/// (status, payload and next state) if memory is refused to it, and at most one if it is not. For a load it needs that slots have at most
+/// one judgement.
 pub fn one_command_result()
     ensures { OneCommandResult }
 {
     verifier::laws::one_judgement();
 }
 
-/// A law: a tenant's state, a frame, and whether memory is refused to the frame's command determine the reply and the next state. For a
-/// tenant that is not served, the frame alone determines the reply.
+/// A law: the machine is deterministic, refusals of memory excepted. A tenant's state, a frame, and whether memory is refused to its
+/// command determine the reply and the next state (`OneReply`). A tenant that is not served has no state: the frame determines the reply.
 pub fn one_reply()
     ensures { OneReply }
 {
     one_command_result();
 }
 
-/// A law: if no memory is refused, a tenant's state and its frames determine its replies and the state after them.
+/// A law: if no memory is refused (`IsServedAlone`), a tenant's state and its frames determine its replies and the state after them.
 pub fn one_alone()
     ensures { OneAlone }
 {
     one_reply();
 }
 
-/// A law: if a tenant's flag of refused memory is clear after a command, the command has a result that the machine gives if no memory is
-/// refused to it.
+/// A law about a result that the machine gives for a command (`Answers`), whether memory is refused to the command or not. If the tenant's
+/// flag of refused memory (`refused`) is clear in the state after it, the machine also gives this result if no memory is refused to the
+/// command: a result that is due to a refusal would have set the flag. `clear_flag_means_alone` is the law for all frames of a tenant.
 pub fn clear_flag_means_no_refusal()
     ensures { ClearFlagMeansNoRefusal }
 {}
 
-/// A law: if a tenant's flag of refused memory is clear after its last frame, its replies are those of its machine without refusals.
+/// A law about a tenant's frames and replies, from any state on, if memory may be refused to any command (`AloneWithRefusals`). If the flag
+/// of refused memory (`refused`) is clear after the last frame, the replies and the last state are those of its machine without refusals
+/// (`IsServedAlone`): a refusal that changes a result sets the flag, and no command clears it. `host_core` needs this for `serve`.
 pub fn clear_flag_means_alone()
     ensures { ClearFlagMeansAlone }
 {}
 
-/// A law: if memory is refused to a command, its result is one that it may have without the refusal; or the command creates a map or loads
-/// a program, its status is `NoMemory`, and it only sets the tenant's flag of refused memory (`refused`). No other command, and none to
-/// which memory is not refused, has the status `NoMemory` or changes the flag. So a load that rejects its program does not have this
-/// status.
+/// A law about commands to which memory is refused. The creation of a map or the load of a program may then have the status `NoMemory`: a
+/// result without payload, which only sets the tenant's flag of refused memory (`refused`). Any other result (status, payload and next
+/// state) of such a command is one that the machine gives it without the refusal. No other command, and none to which memory is not
+/// refused, has the status `NoMemory` or changes the flag. So a load that rejects its program does not have this status. The body calls
+/// laws, for the proof.
 pub fn refusals_are_reported()
     ensures { RefusalsAreReported }
 {
@@ -54,30 +59,37 @@ pub fn only_creations_and_loads_are_refused()
     ensures { OnlyCreationsAndLoadsAreRefused }
 {}
 
-/// A law: if none of a tenant's replies has the status `NoMemory`, they are those of its machine without refusals, even if its flag of
-/// refused memory (`refused`) was set before them.
+/// A law about consecutive replies to a tenant, from any of its states on: if none of them has the status `NoMemory`, they are those of its
+/// machine without refusals (`IsServedAlone`), even if its flag of refused memory (`refused`) was set before them. The flag is never
+/// cleared, so after a refusal `clear_flag_means_alone` does not apply to later replies, and this law still does.
 pub fn unrefused_replies_mean_alone()
     ensures { UnrefusedRepliesMeanAlone }
 {}
 
-/// A law: a reply with the status of a run that faults, -14, has no payload.
+/// A law: a reply of the machine with the status -14 (`BadAddress`), that of a test run that faults, has no payload. So a frame has only
+/// one possible reply with this status. `SavableTenant::handle` and `SavableTenant::install` promise that the reply is not this one; from
+/// that and the law, `Host::handle` and `Host::install` conclude that no reply has the status (`no_fault`).
 pub fn faults_have_no_payload()
     ensures { FaultsHaveNoPayload }
 {}
 
-/// A law: the runs of a batch are the test-run frames of its packets, one after another: the machine replies to these frames with the
-/// batch's results, and reaches the same state.
+/// A law: a batch has the effect of the PROG_TEST_RUN frames of its packets, one after another. If the runs of the batch have certain
+/// results and lead from one state to a second one, the machine replies to these frames with the results, each with status 0, and reaches
+/// the second state. So a batch does nothing that frames do not do.
 pub fn batch_is_its_frames()
     ensures { BatchIsItsFrames }
 {}
 
-/// A law: if a run on a packet has an error (`run_refusal`), since the descriptor names no program or the packet is too long, then the
-/// test-run command of the packet has the same error, and changes nothing.
+/// A law: if a run of a batch on a packet has an error (`run_refusal`), the test-run command of the packet has the same error, and changes
+/// nothing. The error is `BadDescriptor` if the descriptor is not open, `Invalid` if it names a map, and else `TooBig` if the packet has
+/// more than `LONGEST_PACKET` bytes. So a run in a batch is rejected with the status that the reply to its frame would have.
 pub fn refused_as_its_frame()
     ensures { RefusedAsItsFrame }
 {}
 
-/// A law: a batch has as many results as packets.
+/// A law: a batch has as many results as packets. If test runs of a program on a list of packets succeed one after another with a list of
+/// results (`RunsInOrder`), both lists have equal lengths. The contract of `Tenant::run_packets` has only that such a list is written, not
+/// its length.
 pub fn one_result_each()
     ensures { OneResultEach }
 {}

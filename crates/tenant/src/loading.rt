@@ -24,8 +24,10 @@ use verifier::{Refusal, Verified, WorkingMemory, laws, verify_slots};
 /// The type of socket filters, the only one that can be loaded (BPF_PROG_TYPE_SOCKET_FILTER).
 const SOCKET_FILTER: u32 = 1;
 
-/// Adds one reference to the map of each handle in `held`, the live maps of a program that is opened. References are counted in 32 bits
-/// (`few`); a map has few, since at most 64 objects are open and each names it at most once.
+/// Adds one reference to the map of each handle in `held`, the handles of a program that is opened. Their maps are live (`there`). Before
+/// and after, each live map has a reference, and no element is kept apart (`AreHeld`); shapes, keys and values are unchanged
+/// (`IsHeldMore`). `holds_at` is the number of a map's references, `times_listed` how often `held` has a handle; their sum fits in 32 bits
+/// (`few`): a map has few references, since at most `MOST` objects (`fd_table`) are open, and each names a map at most once.
 fn hold_all(maps: &mut Maps, held: &[MapKey])
     requires live { AreHeld maps.old }
     requires there { AreLive maps.old held.now }
@@ -39,7 +41,8 @@ fn hold_all(maps: &mut Maps, held: &[MapKey])
     }
 }
 
-/// The handle of the map that a descriptor names; `None` if the descriptor is not open or names a program.
+/// The handle of the map that a descriptor names; `None` if the descriptor is not open or names a program. `maps_named` leaves such a
+/// descriptor out. The method `map_named` of `Tenant`, for commands on a map, returns an error number for it.
 fn map_named(objects: &FdTable<OpenObject>, fd: u32) -> Option<MapKey>
     ensures { result ≡ named_handle (named objects.now fd) }
 {
@@ -49,8 +52,9 @@ fn map_named(objects: &FdTable<OpenObject>, fd: u32) -> Option<MapKey>
     }
 }
 
-/// The handles of the maps that descriptors name, in the order of `fds`. Descriptors that name no map are left out. `AllocError`: out of
-/// memory.
+/// The handles of the maps that the descriptors `fds` name, in the order of `fds`. A descriptor that names no map is left out; `loaded`,
+/// the only caller, gives none, since each descriptor of an accepted program's maps names a live map. In the contract, `handles_from` has
+/// pairs of a descriptor and a handle, of which `m.1` is the handle. `AllocError`: out of memory.
 fn maps_named(
     alloc: Global,
     objects: &FdTable<OpenObject>,
@@ -69,8 +73,10 @@ fn maps_named(
 }
 
 impl Tenant {
-    /// Makes a loaded program of `program` and the handles of its maps. `program` was accepted with the objects that are open now
-    /// (`accepted`, `objects`), so each descriptor of its maps names a live map. `AllocError`: out of memory.
+    /// Makes a loaded program of `program` and the handles of its maps, for a load or an install. `program` was accepted with the objects
+    /// that are open now (`accepted`), and has a list of those that its maps' descriptors name (`objects`). So these maps are live
+    /// (`there`) and have the shapes with which `program` was accepted (`bound`). The result has its instructions (`insns`), and is that of
+    /// the tenant's machine (`found`). `part` may be any bytes: only values depend on it. `AllocError`: out of memory.
     pub(crate) fn loaded(
         &self,
         alloc: Global,
@@ -92,9 +98,11 @@ impl Tenant {
         Ok(LoadedProgram::new(program, maps))
     }
 
-    /// Verifies the program that the slots spell, with the tenant's open descriptors, in the memory `working`. Returns it with the handles
-    /// of its maps if it is accepted, else why the slots are rejected. `AllocError`: out of memory. By the clause `slot` the slot of a
-    /// refusal is at most the number of slots. `load` needs this for its clause `writable`, since a reply has four bytes for the slot.
+    /// Verifies the program that the slots spell, with the tenant's open descriptors, in the memory `working`. Returns it (`judges`) with
+    /// the handles of its maps (`found`) if it is accepted, else why the slots are rejected (`refused`). `AllocError`: out of memory. The
+    /// maps of an accepted program are live (`there`), and have the shapes with which it was verified (`bound`). The clauses hold for any
+    /// bytes of the tenant's part of the arena (`part`). By the clause `slot` the slot of a refusal is at most the number of slots. `load`
+    /// needs this for its clause `writable`, since a reply has four bytes for the slot.
     fn program_of(
         &self,
         slots: &[u8],
@@ -120,8 +128,10 @@ impl Tenant {
         }
     }
 
-    /// Opens a program at the lowest free descriptor, and returns this descriptor; the caller has seen that one is free. The program gets a
-    /// reference to each of its maps, which are live (`there`) and have the shapes with which it was accepted (`bound`).
+    /// Opens a program at the lowest free descriptor, and returns this descriptor (`lowest`), which is below `first_descriptor` + `most`
+    /// (`within`). `load` and `install` call it, after they have seen that a descriptor is free (`free`). The program gets a reference to
+    /// each of its maps, which are live (`there`) and have the shapes with which it was accepted (`bound`). By `opened` the tenant's state
+    /// is changed only at this descriptor, which then names the program; this holds for any bytes of the tenant's part (`part`).
     pub(crate) fn open_program(&mut self, program: LoadedProgram) -> u32
         requires free { is_none (lowest self.old.objects) ≡ false }
         requires bound { IsBound self.old.live program }
@@ -135,16 +145,18 @@ impl Tenant {
         open(&mut self.objects, OpenObject::Program(program))
     }
 
-    /// PROG_LOAD: opens the program that the slots spell, if it is accepted with the open descriptors. It keeps its maps when their
-    /// descriptors are closed.
+    /// PROG_LOAD: verifies the program that the bytes `slots` spell, eight for each slot, with the open descriptors, and if it is accepted,
+    /// opens it at the lowest free descriptor (`Reply::Opened`). The program keeps its maps when their descriptors are closed.
     ///
     /// Slots that are no program, or whose program is not accepted, are no error here: the result is `Reply::Refused`, which has the slot
-    /// and the cause. `working` is memory to work in, which the next load of any tenant can use again; its contents mean nothing.
+    /// and the cause. `working` is memory to work in, which the next load of any tenant can use again; its contents mean nothing. By
+    /// `answer` the result and the new state are those of the machine, with memory refused or not (`refused`), whatever bytes the tenant's
+    /// part has (`part`). By `writable` a reply can have the result if `slots` has fewer than 2^32 bytes: a refusal's slot fits in four.
     ///
     /// # Errors
     ///
-    /// The first that applies: `Invalid` if `kind` is not the type of socket filters; `TooManyOpen` if no descriptor is free; `NoMemory` if
-    /// out of memory, which sets the tenant's flag of refused memory.
+    /// The first that applies: `Invalid` if `kind` is not the type of socket filters (`SOCKET_FILTER`); `TooManyOpen` if no descriptor is
+    /// free; `NoMemory` if out of memory, which sets the tenant's flag of refused memory.
     pub fn load(
         &mut self,
         kind: u32,

@@ -42,9 +42,10 @@ impl Model for LoadedProgram {
 }
 
 impl LoadedProgram {
-    /// An accepted program with the handles of its maps: one for each descriptor of a map that its instructions name, in the order in which
-    /// they first name these descriptors. `named`: the descriptors with the objects with which the
-    /// program was accepted.
+    /// Combines an accepted program with the handles of its maps: `maps` has one for each descriptor of a map that its instructions name,
+    /// in the order in which they first name these descriptors (`maps_of`). Only the number of handles is required; `loaded`, the caller,
+    /// finds them in this order. The contract says what is stored: the instructions (`insns`), the descriptors with the objects with which
+    /// the program was accepted (`named`), and each descriptor of a map with its handle (`maps`).
     pub(crate) fn new(program: Verified, maps: Vec<MapKey>) -> LoadedProgram
         requires { length maps.items ≡ length (maps_of program.code) }
         ensures insns { result.insns ≡ program.code }
@@ -54,15 +55,19 @@ impl LoadedProgram {
         LoadedProgram { program, maps }
     }
 
-    /// The handles of the program's maps, in the order in which its instructions first name their descriptors.
+    /// The handles of the program's maps: one for each descriptor of a map that its instructions name, in the order in which they first
+    /// name these descriptors. Contracts see each handle with its descriptor; `map_handles` is only the handles. A run finds its maps by
+    /// these handles, and the open program has a reference to the map of each.
     pub(crate) fn maps(&self) -> &[MapKey]
         ensures { result.now ≡ map_handles self.now }
     {
         &self.maps
     }
 
-    /// The accepted program, without the handles of its maps. In the contract, `objects` and `named` are the descriptors in the program
-    /// that were open at the load, with the objects that they named.
+    /// The accepted program, which runs execute, and of which the cost and the slots are read; the handles of its maps are not in it. By
+    /// `code` its instructions are those of the loaded program (`insns`). By `objects` the list `objects` of the accepted program is the
+    /// list `named` of the loaded one: the descriptors of maps in its instructions that were open when it was loaded or installed, each
+    /// with the object that it named then.
     pub fn program(&self) -> &Verified
         ensures code { result.now.code ≡ self.now.insns }
         ensures objects { result.now.objects ≡ self.now.named }
@@ -78,8 +83,9 @@ pub enum OpenObject {
     Program(LoadedProgram),
 }
 
-/// The program that a descriptor names. `BadDescriptor` if the descriptor is not open, `Invalid` if it names a map. `no_fault`: never
-/// the error of a run that faults.
+/// The program that a descriptor names (`found`). Otherwise the error is `BadDescriptor` for a descriptor that is not open, and `Invalid`
+/// for one that names a map (`refusal`; for a program `object_refusal` is `None`). So the error is never `BadAddress`, that of a run that
+/// faults (`no_fault`), which no command may return (`IsWritable`).
 pub(crate) fn program_at(objects: &FdTable<OpenObject>, fd: u32) -> Result<&LoadedProgram, Errno>
     ensures found { IfOk result (λ program.
         named objects.now fd ≡ Some (object.Program program.now)) }

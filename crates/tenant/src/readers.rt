@@ -28,14 +28,17 @@ pub struct MapEntry<'a> {
 }
 
 impl Tenant {
-    /// The object that a descriptor names; `None` if it is not open.
+    /// The object that the descriptor `fd` names, a map by its handle or a loaded program; `None` if `fd` is not open. The crate `saving`
+    /// gets objects by this function. The result is a reference, and `option_copied` is the object to which it refers.
     pub fn object(&self, fd: u32) -> Option<&OpenObject>
         ensures { option_copied result ≡ named self.now.objects fd }
     {
         self.objects.get(fd)
     }
 
-    /// The cost of the program that a descriptor names; `None` if it names a map or is not open.
+    /// The cost of the program that the descriptor `fd` names: the most instructions, and the most calls of helpers, on a path from slot 0
+    /// to an exit, so no run executes more. `None` exactly if `fd` names a map or is not open. `HasCost` is this relation between what `fd`
+    /// names (`named`) and the result. No command asks for the cost, only callers of the library do (`Host::program_cost`).
     #[tactic(auto, using(crate::proofs::Bounds::cost_of_program, crate::proofs::Bounds::cost_otherwise))]
     pub fn program_cost(&self, fd: u32) -> Option<Cost>
         ensures { HasCost (named self.now.objects fd) result }
@@ -46,7 +49,9 @@ impl Tenant {
         }
     }
 
-    /// Whether a map is live.
+    /// Whether the map of this handle is live. If it is, and only then, the state that the tenant and its part represent (`state_in`) has a
+    /// map of this handle. The part may have any bytes (`part`), since the state has from them only the values of maps. `lives` of `saving`
+    /// asks this of a map that was created earlier.
     pub fn is_live(&self, map: MapKey) -> bool
         ensures { (part : List ℕ) → result ≡ is_some (live (state_in part self.now) map) }
     {
@@ -55,8 +60,10 @@ impl Tenant {
         self.maps.is_live(map)
     }
 
-    /// The shape of a map; `None` if the map is not live. By `state`, the state that the tenant and its part represent has a map of this
-    /// handle if and only if the result is a shape. That map has the keys of the live map, each with its value in the part.
+    /// The shape of the map of handle `map`; `None` if no live map has this handle. A save needs the shape for the frame that creates the
+    /// map. A shape that is returned is that of the live map (`shape`). By `state`, the state that the tenant and any bytes of its part
+    /// represent has a map of this handle exactly if the result is a shape. This map has the keys of the live map, each with the bytes of
+    /// its value in the part.
     pub fn map_shape(&self, map: MapKey) -> Option<MapShape>
         ensures shape { IfSome result (λ shape. IsSome (live_at self.now.live map)
             × (shape ≡ shape_at self.now.live map)) }
@@ -72,7 +79,7 @@ impl Tenant {
         }
     }
 
-    /// How many keys a map has; 0 if it is not live.
+    /// How many keys the map of handle `map` has; 0 if the map is not live. A save divides the keys into parts by this number.
     pub fn key_count(&self, map: MapKey) -> u32
         ensures { result ≡ length (keys_at self.now.live map).entries }
     {

@@ -26,9 +26,11 @@ pub enum Reply<'a> {
     Refused(Refusal),
 }
 
-/// Writes to `reply` what a command returned, a `Reply` or an error, with the tenant and the command number of `head`, the head of the
-/// command's frame. Each command promises that its result can be written (`IsWritable`), so no cast loses anything. The contract holds
-/// for any state `s`: an `Answer` also has the state after the command, and no byte of a reply depends on it.
+/// Writes the reply to a command to `reply`. The reply has the tenant and the command number of `head`, the head of the command's frame.
+/// `answer` is what the command returned: a `Reply`, which gives the status and the payload, or an error, which is the status of a reply
+/// without payload. Each command promises that its result can be written (`IsWritable`), so no cast loses anything. In the contract
+/// `shown_reply` makes an `Answer` of the machine from this result and a state `s`, the tenant's state after the command. No byte of a
+/// reply depends on that state, so `s` may be any state.
 #[inline(always)]
 pub fn write_command_reply(head: Head, answer: Result<Reply<'_>, Errno>, reply: &mut ReplyBuf)
     requires { IsWritable answer }

@@ -7,7 +7,8 @@ ghost use Rattle.tenant.specs.declared.errno.Errno.TheVariants.{BadAddress};
 use crate::errno::Errno;
 use tagged_model::{MapKind, MapShape, ShapeFault};
 
-/// The kind of maps, hash or array, that has this number in bpf(2); `None` for any other number.
+/// The kind of maps that has this number in bpf(2): a hash map for 1 (BPF_MAP_TYPE_HASH), an array for 2 (BPF_MAP_TYPE_ARRAY); `None` for
+/// any other number, which `asked_shape` rejects.
 fn map_kind(number: u32) -> Option<MapKind>
     ensures { result ≡ kind_of number }
 {

@@ -49,7 +49,8 @@ impl Model for Tenant {
         (record { objects = t.objects; live = t.maps; refused = t.refused }) };
 }
 
-/// Writes bytes at offset `start` of a part.
+/// Writes `bytes` into a tenant's part, from offset `start` on, as `update` does with a value. By the precondition they end within the
+/// part, so the slice is in bounds. All other bytes of the part are unchanged (`written_at`).
 fn write_at(part: &mut [u8], start: usize, bytes: &[u8])
     requires { start + length bytes.now ≤ length part.old }
     ensures { part.new ≡ written_at part.old start bytes.now }
@@ -57,8 +58,8 @@ fn write_at(part: &mut [u8], start: usize, bytes: &[u8])
     part[start..start + bytes.len()].copy_from_slice(bytes);
 }
 
-/// Opens an object at the lowest free descriptor, 3 to 66, and returns this descriptor. The caller has seen that one is free, so the table
-/// does not give the object back.
+/// Opens an object at the lowest free descriptor, 3 to 66, and returns this descriptor. Callers have seen that one is free, as is required,
+/// so the table never returns the object as an error.
 pub(crate) fn open(objects: &mut FdTable<OpenObject>, object: OpenObject) -> u32
     requires { is_none (lowest objects.old) ≡ false }
     ensures lowest { lowest objects.old ≡ Some result }
@@ -71,10 +72,11 @@ pub(crate) fn open(objects: &mut FdTable<OpenObject>, object: OpenObject) -> u32
     }
 }
 
-/// Drops one reference to the map of each handle in `held`, the maps of a program that was closed. The clause `held` requires that the maps
-/// still count these references, so no count falls below 0. `live` requires that each live map has a reference, and that no element is kept
-/// apart. A map without references left is freed, and the areas after its own move down in `part`, the tenant's part. The maps that stay
-/// keep their keys and values (`left`).
+/// Drops one reference to the map of each handle in `held`, the handles of the maps of a program that was closed. `holds_at` is how many
+/// references a map has, and `times_listed` how often its handle is in `held`. The clause `held` requires that the maps still count these
+/// references, so no count falls below 0. `live` requires that each live map has a reference, and that no element is kept apart. A map
+/// without references left is freed, and the areas after its own move down in `part`, the tenant's part of `PART` bytes (`whole`). The
+/// other maps keep their shapes, keys and values (`left`). Each map loses as many references as its handle is listed (`holds`).
 fn release_all(maps: &mut Maps, held: &[MapKey], part: &mut [u8])
     requires live { AreHeld maps.old }
     requires held { (handle : ℕ) → times_listed handle held.now ≤ holds_at maps.old handle }
@@ -90,8 +92,9 @@ fn release_all(maps: &mut Maps, held: &[MapKey], part: &mut [u8])
 }
 
 impl Tenant {
-    /// A tenant without open objects or maps; the keys of its maps will be hashed with this seed. Allocates the tables of its
-    /// descriptors and maps. `AllocError`: out of memory.
+    /// A tenant without open objects or maps, to which no memory was refused: with any bytes in its part (`part`) it has the state
+    /// `new_tenant`. The keys of its hash maps will be hashed with `seed`. Allocates the tables of its descriptors and maps. `AllocError`:
+    /// out of memory.
     pub fn new(alloc: Global, seed: HashSeed) -> Result<Tenant, AllocError>
         ensures { IfOk result (λ tenant. (part : List ℕ) → state_in part tenant ≡ new_tenant) }
     {
@@ -103,8 +106,9 @@ impl Tenant {
         })
     }
 
-    /// The handle of the map that a descriptor names. `BadDescriptor` if the descriptor is not open, `Invalid` if it names a program.
-    /// `no_fault`: never `BadAddress`, the error of a run that faults.
+    /// The handle of the map that a descriptor names (`found`), for a command on a map. The map is live (`live`), as the functions of
+    /// `Maps` require. The error (`fault`) is `BadDescriptor` if the descriptor is not open, `Invalid` if it names a program. `no_fault`:
+    /// never `BadAddress`, the error of a run that faults.
     fn map_named(&self, fd: u32) -> Result<MapKey, Errno>
         ensures found { IfOk result (IsMapOf self.now fd) }
         ensures live { IfOk result (λ map. IsSome (live_at self.now.live map)) }
@@ -119,8 +123,10 @@ impl Tenant {
         }
     }
 
-    /// The object that a descriptor names, as the verifier sees it: the shape of a map, or only that it is a program. `None` if the
-    /// descriptor is not open.
+    /// What the verifier is given of the object that descriptor `fd` names: the shape of a map, or only that it is a program. `None` if the
+    /// descriptor is not open. The contract holds for any bytes `part` of the tenant's part, since a state takes only the values of maps
+    /// from them, which do not matter here. A load needs this of all descriptors (`targets`), the install of a prepared program of those of
+    /// its maps (`shape_at`).
     pub(crate) fn target(&self, fd: u32) -> Option<Target>
         ensures { (part : List ℕ) →
             result ≡ and_then (named self.now.objects fd) (object_target (state_in part self.now)) }
@@ -131,8 +137,9 @@ impl Tenant {
         }
     }
 
-    /// The open descriptors, from the lowest on, each with what the verifier is given of its object: the shape of a map, or only that it is
-    /// a program. `AllocError`: out of memory.
+    /// The open descriptors in ascending order, each with what the verifier needs to know of its object: the shape of a map, or only that
+    /// it is a program. A load and an install pass this list to the verifier. `part` may be any bytes, since the list does not depend on
+    /// the values of maps. `AllocError`: out of memory.
     pub fn targets(&self, alloc: Global) -> Result<Vec<Named>, AllocError>
         ensures { IfOk result (λ found. (part : List ℕ) →
             found.items ≡ targets (state_in part self.now)) }
@@ -148,13 +155,14 @@ impl Tenant {
         Ok(found)
     }
 
-    /// MAP_LOOKUP_ELEM: the reply with the bytes of a key's value, borrowed from the tenant's part, which has `PART` bytes. `writable`: the
-    /// value fits in the payload of a reply, and no error is `BadAddress`, the error of a run that faults.
+    /// MAP_LOOKUP_ELEM: the reply with the bytes of the value that `key` has in the map of descriptor `fd`, borrowed from the tenant's
+    /// part, which has `PART` bytes. `answer`: the reply or the error is that of the tenant's machine, whose state is unchanged.
+    /// `writable`: the value fits in the payload of a reply, and no error is `BadAddress`, which only a run that faults would have.
     ///
     /// # Errors
     ///
-    /// `BadDescriptor` if the descriptor is not open, `Invalid` if it names no map or the key has the wrong size,
-    /// `NoEntry` if the key is absent.
+    /// `BadDescriptor` if the descriptor is not open, `Invalid` if it names no map or the key has the wrong size, `NoEntry` if the key is
+    /// absent.
     pub fn look_up<'a>(&self, fd: u32, key: &[u8], part: &'a [u8]) -> Result<Reply<'a>, Errno>
         requires { length part.now ≡ PART }
         ensures answer { shown_reply result (state_in part.now self.now)
@@ -174,15 +182,18 @@ impl Tenant {
         Ok(Reply::Value(&part[start..start + shape.value_size as usize]))
     }
 
-    /// MAP_CREATE: creates a map of the shape with these fields, with its values in the tenant's part, `PART` bytes, and opens it. `kind`
-    /// is the type in bpf(2), 1 for a hash map and 2 for an array; the sizes are in bytes. In the contract, `refused`: memory is refused.
+    /// MAP_CREATE: creates a map of the shape with these fields, opens it, and returns its descriptor. Its values lie in `part`, the `PART`
+    /// bytes of the tenant (`length`). `kind` is the type in bpf(2), 1 for a hash map and 2 for an array; the sizes are in bytes. `answer`:
+    /// reply and state are those of the tenant's machine, by whether memory is refused (`refused`). `writable`: the reply can be written;
+    /// no error is `BadAddress`, that of a run that faults.
     ///
     /// # Errors
     ///
-    /// The first that applies: `Invalid` if a field is outside its limits or a flag is set; `TooBig` if the values of this map take too
-    /// many bytes; `TooManyOpen` if no descriptor is free; `NoSpace` if no handle is free, or if the values of all maps would take too many
-    /// bytes; `NoMemory` if out of memory for a hash map. After any error no map and no descriptor has changed; `NoMemory` only sets the
-    /// tenant's flag of refused memory.
+    /// The first that applies: `Invalid` if `kind` is not 1 or 2, `key_size` not 1 to `LONGEST_KEY`, in an array 4, `value_size` not 1 to
+    /// `LONGEST_VALUE`, `max_entries` not 1 to `MOST_ENTRIES`, or a flag is set; `TooBig` if this map's area would have over `LARGEST_AREA`
+    /// bytes; `TooManyOpen` if no descriptor is free; `NoSpace` if no handle is free, or all areas would have over `LARGEST_SUM` bytes;
+    /// `NoMemory` if out of memory for a hash map. After any error no map and no descriptor has changed; `NoMemory` only sets the tenant's
+    /// flag of refused memory.
     pub fn create(
         &mut self,
         kind: u32,
@@ -212,8 +223,10 @@ impl Tenant {
         }
     }
 
-    /// MAP_UPDATE_ELEM: writes the value of a key to the tenant's part, `PART` bytes. `key_and_value` has the bytes of the key, and then
-    /// those of the value. The value of a present key is overwritten; a new key comes last in the order of keys. Takes no memory.
+    /// MAP_UPDATE_ELEM: writes the value of a key to `part`, the tenant's part, which has `PART` bytes before and after (`length`).
+    /// `key_and_value` has the bytes of the key, and then those of the value. The value of a present key is overwritten; a new key comes
+    /// last in the order of keys. Takes no memory. The reply, and the state that `self` and `part` then represent, are those of the
+    /// tenant's machine (`answer`). An error is never `BadAddress`, which only a run that faults would have (`writable`).
     ///
     /// # Errors
     ///
@@ -257,8 +270,9 @@ impl Tenant {
         Ok(Reply::Done)
     }
 
-    /// MAP_DELETE_ELEM: deletes a key and its value. No run is in progress, so the element is free at once (`end_run`). `writable`: no
-    /// error is `BadAddress`, the error of a run that faults.
+    /// MAP_DELETE_ELEM: deletes a key and its value. No run is in progress, so the key's element is free at once (`end_run`). `answer`: the
+    /// reply and the state after it are the machine's, whatever bytes the tenant's part has (`part`): a deletion reads and writes none of
+    /// them. `writable`: no error is `BadAddress`, the error of a run that faults.
     ///
     /// # Errors
     ///
@@ -282,12 +296,14 @@ impl Tenant {
         Ok(Reply::Done)
     }
 
-    /// MAP_GET_NEXT_KEY: the reply with the key after `key` in the order of the map. After an empty or absent key it is the first.
+    /// MAP_GET_NEXT_KEY: the reply with the key after `key` in the order of the map, or with the map's first key if `key` is empty or
+    /// absent. `answer`: the reply is the machine's, whatever bytes the tenant's part has (`part`), since no value is read. `writable`: the
+    /// key fits in the payload of a reply, and no error is `BadAddress`, the error of a run that faults.
     ///
     /// # Errors
     ///
-    /// `BadDescriptor` if the descriptor is not open, `Invalid` if it names no map or the key is not empty and has the wrong size,
-    /// `NoEntry` if there is no next key.
+    /// `BadDescriptor` if the descriptor is not open; `Invalid` if it names no map, or if `key` is not empty and has not the size of the
+    /// map's keys; `NoEntry` if `key` is the last key, or the map has no keys.
     pub fn next_key(&self, fd: u32, key: &[u8]) -> Result<Reply<'_>, Errno>
         ensures answer { (part : List ℕ) → shown_reply result (state_in part self.now)
             ≡ given_next (state_in part self.now) fd key.now }
@@ -307,7 +323,9 @@ impl Tenant {
 
     /// CLOSE: closes a descriptor. If the descriptor names a map, this drops the descriptor's reference to the map; if it names a program,
     /// this drops all references of the program to maps. A map without references is freed, and the areas after its own move down in
-    /// `part`, the tenant's part of `PART` bytes.
+    /// `part`, the tenant's part of `PART` bytes, which keeps its length (`length`). By `answer` the reply and the state after it are those
+    /// of the machine (`closed`), for the object that the descriptor names, or for none if it is not open (`named`). The reply can be
+    /// written (`writable`).
     ///
     /// # Errors
     ///
@@ -334,8 +352,9 @@ impl Tenant {
         }
     }
 
-    /// Whether this tenant was ever refused memory: for a load, for an installed program, or for a new map. Its replies may then differ
-    /// from those of its machine without refusals.
+    /// Whether this tenant was ever refused memory: for a load or an installed program (the field `refused`), or for a new map (`refused`
+    /// of `maps`). Its replies may then differ from those of its machine without refusals. By the contract, the result is the flag
+    /// `refused` of the tenant's state; the bytes of the tenant's part (`part`), which the state also has, may be any.
     pub fn memory_was_refused(&self) -> bool
         ensures { (part : List ℕ) → result ≡ (state_in part self.now).refused }
     {

@@ -18,15 +18,17 @@ use tagged_model::Outcome;
 use verifier::laws;
 
 impl Tenant {
-    /// PROG_TEST_RUN: runs the program at a descriptor on a packet, with the maps with which it was loaded, and returns its result. The
-    /// context is the packet's length and then the ten `words`. The run uses only the part of `tenant`, the number of this tenant, in
-    /// `arena`, and every other part is unchanged. It takes no memory, and never faults. `writable`: so no error is `BadAddress`, the error
-    /// of a run that faults. `parts`, `part`: the number and the size of the parts are unchanged.
+    /// PROG_TEST_RUN: runs the program at descriptor `fd` on `packet`, with the maps with which it was loaded, and returns the low 32 bits
+    /// of register 0 at its exit. The context is the packet's length and then the ten `words`. `answer`: the reply and the tenant's new
+    /// state are those of the definition `run_of`. The run uses only the part of `tenant`, the number of this tenant, in `arena`, and every
+    /// other part is unchanged (`others`). It takes no memory, and never faults: so no error is `BadAddress`, that of a run that faults
+    /// (`writable`). `parts`, and `part` after the run: the number and the size of the parts are unchanged. Required (`part`): the arena
+    /// has a part of this tenant, of `PART` bytes.
     ///
     /// # Errors
     ///
-    /// `BadDescriptor` if the descriptor is not open, `Invalid` if it names a map, `TooBig` if the packet has more than
-    /// `LONGEST_PACKET` bytes. Then nothing has changed.
+    /// `BadDescriptor` if the descriptor is not open, `Invalid` if it names a map, `TooBig` if the packet has more than `LONGEST_PACKET`
+    /// bytes. Then nothing has changed.
     pub fn test_run(
         &mut self,
         fd: u32,

@@ -5,7 +5,8 @@ use Rattle.std.specs.Prelude.{ℕ, Bool, ◌||◌, ◌==◌, List, [], ◌∷◌
 abbrev pub is_blank : ℕ → Bool
 is_blank b = b == 32 || b == 9 || b == 13
 
--- the bytes without the blanks at their front
+-- the bytes without the blanks at their front: spaces, tabs and carriage returns (`is_blank`); none
+-- if all are blanks
 abbrev pub skip_blanks : List ℕ → List ℕ
 skip_blanks [] = []
 skip_blanks (b ∷ bs) = if is_blank b then skip_blanks bs else b ∷ bs

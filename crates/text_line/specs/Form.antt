@@ -63,7 +63,8 @@ abbrev pub operand_layout : Bool → SourceOperand → TokenLayout → TokenLayo
 operand_layout wide (source.Number n) rest = constant n rest
 operand_layout wide (source.Reg r) rest = reg wide r ∷ rest
 
--- the target of a jump, which ends a line: a number with its sign, + or -, or the name `label`
+-- the target of a jump, which ends a line: a number of slots, always after its sign, + or -, or the
+-- name `label`. A target that is a number does not use `label`
 abbrev pub destination : JumpTarget → List ℕ → TokenLayout
 destination (target.Number n) label = sign (sign_name n.negative) ∷ Some (number n.magnitude) ∷ []
 destination target.Label label = word label ∷ []
@@ -89,7 +90,9 @@ operation_layout wide dst (operation.End how bits) =
     sign (codes "=") ∷ space ∷ word (order_name how bits) ∷ space ∷ reg wide dst ∷ []
 
 -- the tokens and spaces of the value of a wide load, and after them those of `rest`, which has the
--- space and the `ll` after the value
+-- space and the `ll` after the value: a number n as its token; a map as `map_fd` and its
+-- descriptor; a byte of a map's value as `map_value`, the descriptor, `+` and the byte's offset.
+-- The token of n or `off` has no value (None) from 2 ^ 64 on
 abbrev pub value_layout : WideValue → TokenLayout → TokenLayout
 value_layout (value.Number n) rest = Some (number n) ∷ rest
 value_layout (value.MapFd fd) rest = word (codes "map_fd") ∷ space ∷ constant fd rest
@@ -97,9 +100,11 @@ value_layout (value.MapValue fd off) rest =
     word (codes "map_value") ∷ space
     ∷ constant fd (space ∷ sign (codes "+") ∷ space ∷ Some (number off) ∷ rest)
 
--- the tokens and spaces of the line of each form, as it is printed: the table of the grammar.
--- `label` is the name of the label to which the form jumps; a form that names no label does not use
--- it
+-- the tokens and spaces of the line of a form, in the order in which they are printed: the table of
+-- the grammar. On reading, spaces are ignored (`tokens_of`). `label` is the name of the label to
+-- which the form jumps; a form without a jump, or with a jump by a number of slots, does not use
+-- it. `wide`: registers are r0 to r10 (64 bits), else w0 to w10 (low 32 bits). `long`: the jump is
+-- `gotol`, else `goto`. `signed`: the size of a load is written with s, as s32, else with u
 abbrev pub layout : Form → List ℕ → TokenLayout
 layout (form.Operation wide dst o) label = reg wide dst ∷ space ∷ operation_layout wide dst o
 layout (form.Jump long to) label = word (jump_name long) ∷ space ∷ destination to label
@@ -121,13 +126,15 @@ layout (form.WideLoad dst v) label =
 layout (form.Call id) label = word (codes "call") ∷ space ∷ constant id []
 layout form.Exit label = word (codes "exit") ∷ []
 
--- the tokens of a layout, without its spaces
+-- the tokens of a layout, in order, without its spaces (None): by these a line is read, since any
+-- blanks may be between tokens
 abbrev pub tokens_of : TokenLayout → List Token
 tokens_of [] = []
 tokens_of (None ∷ rest) = tokens_of rest
 tokens_of (Some t ∷ rest) = t ∷ tokens_of rest
 
--- the operand, if it is a register, is 0 to 10; the range of a constant is required by `form_fits`
+-- the source operand of a form is one that a line can have: a register is 0 to 10. Nothing is
+-- required of a constant here: that it fits a signed field of 32 bits is required by `form_fits`
 abbrev pub IsSource : SourceOperand → Type 0
 IsSource (source.Number n) = Unit {0}
 IsSource (source.Reg r) = r ≤ 10
@@ -141,17 +148,20 @@ IsOperation wide (operation.SignExtend from src) = (src ≤ 10) × IsTrue (wide 
 IsOperation wide operation.Neg = Unit {0}
 IsOperation wide (operation.End how bits) = IsTrue wide
 
--- the register that is loaded, stored, or the operand of an atomic operation is 0 to 10; a stored
--- constant has no requirement here. No double word is loaded with sign extension. That the base of
--- the address is 0 to 10 is required by `IsForm`
+-- the register is 0 to 10 that a load writes, that a store stores, or that is the operand of an
+-- atomic operation; nothing is required here of a stored constant. No double word is loaded with
+-- sign extension (RFC 9669, section 5.2). That the base of the address is 0 to 10 is required by
+-- `IsForm`
 abbrev pub IsAccess : Access → Type 0
 IsAccess (access.Load size signed dst) = (dst ≤ 10) × IsTrue (not (signed && is_double size))
 IsAccess (access.Store size src) = IsSource src
 IsAccess (access.Atomic size op src) = src ≤ 10
 
--- the registers of the form are 0 to 10, and its operation or access is one that an instruction can
--- have. Nothing is required of an unconditional jump, a call and an exit, which have no register;
--- the ranges of numbers are required by `form_fits`.
+-- a line can have this form, except for the ranges of its numbers, which `form_fits` requires. Each
+-- register is 0 to 10: the destination or first operand `dst`, a source, and the base of an
+-- address. A sign extension is from fewer bits than the register has (64 if `wide`), a byte-order
+-- conversion is of 64 bits, and no double word is loaded with sign extension. Nothing is required
+-- of an unconditional jump, a call and an exit (`_`), which have no register.
 abbrev pub IsForm : Form → Type 0
 IsForm (form.Operation wide dst o) = (dst ≤ 10) × IsOperation wide o
 IsForm (form.Branch wide cond dst src to) = (dst ≤ 10) × IsSource src
@@ -159,19 +169,21 @@ IsForm (form.Access a at) = (at.base ≤ 10) × IsAccess a
 IsForm (form.WideLoad dst v) = dst ≤ 10
 IsForm _ = Unit {0}
 
--- whether the target of a jump is a label
+-- whether the target of a jump is a label; else it is a number, of slots from the next slot on
 abbrev pub to_label : JumpTarget → Bool
 to_label (target.Number n) = false
 to_label target.Label = true
 
--- whether the form is a jump or a conditional jump to a label; other forms name none
+-- whether the form is a jump or a conditional jump whose target is a label, not a number; false for
+-- every other form. If true, the line has the name of the label next to its form, and some line of
+-- the text must define this label; if false, the name is empty
 abbrev pub names_label : Form → Bool
 names_label (form.Jump long to) = to_label to
 names_label (form.Branch wide cond dst src to) = to_label to
 names_label _ = false
 
 -- the number of slots of the instruction of a line of this form: two for a wide load, one for any
--- other instruction
+-- other instruction (RFC 9669, section 3.2)
 abbrev pub form_slots : Form → ℕ
 form_slots (form.WideLoad dst v) = 2
 form_slots _ = 1

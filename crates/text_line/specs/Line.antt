@@ -12,7 +12,8 @@ pub data Line : Type 0 where
   code : Form → List ℕ → Line
 
 -- the tokens of a line: none of a blank line; of a label, its name and `:`; of an instruction,
--- those of the layout of its form, with the name n of the label to which it jumps
+-- those of the layout of its form, with n for the name of the label to which it jumps, if the form
+-- names one
 abbrev pub line_tokens : Line → List Token
 line_tokens blank = []
 line_tokens (label n) = name n ∷ symbol (codes ":") ∷ []
@@ -24,8 +25,10 @@ abbrev pub NoLabel : Bool → List ℕ → Type 0
 NoLabel true n = Unit {0}
 NoLabel false n = n ≡ []
 
--- the form of an instruction is one that a line can have, and the label's name n is empty unless
--- the form names a label. A blank line and the definition of a label are always well formed
+-- the line is one that a text can have. Of an instruction, `IsForm` requires registers 0 to 10 and
+-- an operation or access that an instruction can have. `NoLabel` requires that n, the label's name,
+-- is empty if the form names no label, since no token has it then. A blank line and the definition
+-- of a label are always well formed
 abbrev pub IsWellFormed : Line → Type 0
 IsWellFormed (code form n) = IsForm form × NoLabel (names_label form) n
 IsWellFormed _ = Unit {0}

@@ -34,8 +34,8 @@ offset_fits n = is_at_most (if n.negative then 32768 else 32767) n.magnitude
 abbrev pub next_imm_fits : Option ℕ → Bool
 next_imm_fits n = is_at_most 4294967295 n
 
--- the constant of an operand fits a signed field of 32 bits; a register has no number that could be
--- out of range
+-- an operand, as it is written, fits its field: a constant is -2 ^ 31 to 2 ^ 31 - 1, the range of a
+-- signed field of 32 bits; for a register the result is true, since it has no constant
 abbrev pub source_fits : SourceOperand → Bool
 source_fits (source.Number n) = imm_fits n
 source_fits (source.Reg r) = true
@@ -46,8 +46,11 @@ abbrev pub target_fits : Bool → JumpTarget → Bool
 target_fits long (target.Number n) = if long then imm_fits n else offset_fits n
 target_fits long target.Label = true
 
--- each number of a form is in the range of its field. A 64-bit constant is in range if it has a
--- value: a number of 2 ^ 64 or more has none. The other forms have no number.
+-- each number of a form is in the range of its field: 32 bits, signed, for a constant operand, a
+-- descriptor, a helper's number, and the distance of a long jump; 16 bits, signed, for any other
+-- distance and for the offset of an access; 32 bits, unsigned, for the offset in a map's value. A
+-- 64-bit constant is in range if it has a value: a number of 2 ^ 64 or more has none (None). A
+-- negation, a sign extension, a byte-order conversion and an exit have no number.
 abbrev pub form_fits : Form → Bool
 form_fits (form.Operation wide dst (operation.Binary op src)) = source_fits src
 form_fits (form.Jump long to) = target_fits long to
@@ -62,7 +65,8 @@ form_fits _ = true
 
 -- ---- labels, as numbers
 
--- whether a magnitude is 0; one without a value is 2 ^ 64 or more
+-- whether a magnitude, the value of a number's digits without its sign, is 0: `normal` drops the
+-- minus of such a number. None is 2 ^ 64 or more, so it is not 0
 abbrev pub is_zero : Option ℕ → Bool
 is_zero None = false
 is_zero (Some n) = n == 0
@@ -71,7 +75,8 @@ is_zero (Some n) = n == 0
 abbrev pub normal : Number → Number
 normal n = record { negative = n.negative && not (is_zero n.magnitude); magnitude = n.magnitude }
 
--- the operand, with 0 for the constant -0
+-- the second operand without the minus of a constant -0; any other constant, and a register, is
+-- unchanged. An instruction has no -0, so its operand is written without this minus
 abbrev pub normal_source : SourceOperand → SourceOperand
 normal_source (source.Number n) = source.Number (normal n)
 normal_source (source.Reg r) = source.Reg r
@@ -80,9 +85,10 @@ normal_source (source.Reg r) = source.Reg r
 abbrev pub normal_address : Address → Address
 normal_address at = record { base = at.base; offset = normal at.offset }
 
--- the form with 0 for each number -0. A jump and a conditional jump are unchanged: `resolved`
--- changes them by equations of its own. Any other form without an equation here has no number with
--- a sign
+-- the form with 0 for each number -0, which a text may have and a printed instruction has not. A
+-- jump and a conditional jump are unchanged here: `resolved` changes them by equations of its own,
+-- since it replaces their labels too. No other form without an equation here has a number with a
+-- sign, and the offset `off` in a map's value has no sign
 abbrev pub normal_form : Form → Form
 normal_form (form.Operation wide dst (operation.Binary op src)) =
     form.Operation wide dst (operation.Binary op (normal_source src))

@@ -4,9 +4,9 @@ use Rattle.text_line.specs.declared.form.Line.{Line as CodeLine}
 use Rattle.text_line.specs.declared.form.Line.TheVariants as written
 use Rattle.text_line.specs.Line.{Line, blank, label, code as instruction}
 
--- the line of the definitions (`Line`) that a parsed line of the code (`CodeLine`) represents. n is
--- the name of the label that the line defines, or of the label to which the form f jumps, empty if
--- f names no label
+-- the line of the definitions (`Line`) that a parsed line of the code (`CodeLine`) represents: a
+-- blank line, the definition of the label n, or an instruction of form f, with the label n to which
+-- it jumps (n is empty if f names none). `n.now` are the bytes of the name, which the code borrows
 abbrev pub seen_line : CodeLine → Line
 seen_line written.Blank = blank
 seen_line (written.Label n) = label n.now

@@ -19,12 +19,15 @@ use Rattle.text_line.specs.declared.form.Form.TheVariants as form
 use Rattle.text_line.specs.Token.{Token, name, number, symbol}
 use Rattle.text_line.specs.Form.{TokenLayout, layout}
 
--- a number as it is written, with a minus only if it is negative; `negsuc n` is -(n + 1)
+-- a number as it is written, with a minus only if it is negative; `negsuc n` is -(n + 1). Here the
+-- magnitude is always `Some`; it is None only in a line that is read, for 2 ^ 64 or more
 abbrev pub number_of : ℤ → Number
 number_of (pos n) = record { negative = false; magnitude = Some n }
 number_of (negsuc n) = record { negative = true; magnitude = Some (suc n) }
 
--- an operand, a constant or a register, as it is written
+-- the second operand of an operation or a comparison, or what a store writes, as it is written: a
+-- constant z as its number, with a minus if it is negative, or a register r. Whether r is written
+-- as 64 bits (`r1`) or their low half (`w1`) is not in it, but in the form of the instruction
 abbrev pub source_of : Operand → SourceOperand
 source_of (Imm z) = source.Number (number_of z)
 source_of (Reg r) = source.Reg r
@@ -33,10 +36,12 @@ source_of (Reg r) = source.Reg r
 abbrev pub address_of : ℕ → ℤ → Address
 address_of base off = record { base = base; offset = number_of off }
 
--- the written form of an instruction: the target of a jump is a number, never a label. The Boolean
--- of an operation and of a branch is true if registers have their names of 64 bits, as `r1`, and
--- false if they have those of 32, as `w1`; a byte-order conversion has only `r1`. The Boolean of
--- `form.Jump` is true for `gotol`, false for `goto`
+-- the form of the line that is printed for an instruction. The target of a jump is its distance in
+-- slots, a number, never a label. The Boolean of an operation and of a branch is true if registers
+-- have their names of 64 bits, as `r1`, and false if they have those of 32, as `w1`; a byte-order
+-- conversion has only `r1`. The Boolean of `form.Jump` is true for `gotol`, false for `goto`. A
+-- 64-bit constant, and an offset in a map's value, are `Some`: `None` is only a number of 2 ^ 64 or
+-- more in a text
 abbrev pub written : Insn → Form
 written (Alu wide op dst src) = form.Operation wide dst (operation.Binary op (source_of src))
 written (Movsx m) = form.Operation m.wide m.dst (operation.SignExtend m.bits m.src)
@@ -56,15 +61,16 @@ written (Const dst n) = form.WideLoad dst (value.Number (Some n))
 written (MapFd dst fd) = form.WideLoad dst (value.MapFd (number_of fd))
 written (MapValue dst fd off) = form.WideLoad dst (value.MapValue (number_of fd) (Some off))
 
--- the bytes of a token; those of a number are its decimal digits. A number without a value (2 ^ 64
--- or more) has none here: no printed line has such a number.
+-- the bytes of a token in a printed line: those of a name or symbol are its own, those of a number
+-- its decimal digits. A number of 2 ^ 64 or more, which has no value (None), gets no bytes; no
+-- printed line has such a number
 abbrev pub lexeme : Token → List ℕ
 lexeme (name n) = n
 lexeme (number (Some n)) = decimal n
 lexeme (number None) = []
 lexeme (symbol s) = s
 
--- the bytes of one item of a layout: those of its token, or a space
+-- the bytes of one item of a layout: those of its token, or for None one space
 abbrev pub piece : Option Token → List ℕ
 piece (Some t) = lexeme t
 piece None = 32 ∷ []

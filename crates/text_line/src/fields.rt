@@ -13,8 +13,9 @@ use crate::form::{Access, Address, Form, JumpTarget, Number, Operation, SourceOp
 use insn_set::{Insn, Load, Movsx, Operand, Reg};
 
 impl Number {
-    /// The number as a signed 32-bit field, in which -0 is 0 (`normal`). `None` if it is out of range, also if its digits are 2 ^ 64 or
-    /// more, so that it has no `magnitude`. It is negated as an `i64`, since 2 ^ 31 is no `i32`.
+    /// The number as an immediate, a signed 32-bit field; -0 is read as 0 (`normal`). `None` if the number is below -2^31 or above 2^31 - 1
+    /// (`imm_fits` is false). A number without a `magnitude` is out of this range too: its digits are 2^64 or more. The magnitude is
+    /// negated as an `i64`, since 2^31 is no `i32`.
     fn imm(self) -> Option<i32>
         ensures found { IfSome result (λ n. number_of n ≡ normal self) }
         ensures fits { IfSome result (λ _. imm_fits self ≡ true) }
@@ -34,8 +35,9 @@ impl Number {
         }
     }
 
-    /// The number as a signed 16-bit field, in which -0 is 0 (`normal`). `None` if it is out of range, also if its digits are 2 ^ 64 or
-    /// more, so that it has no `magnitude`. It is negated as an `i64`, since 2 ^ 15 is no `i16`.
+    /// The number as a signed field of 16 bits, the offset of a jump or of an address; -0 becomes 0 (`normal`). `None` if the number is not
+    /// from -2 ^ 15 to 2 ^ 15 - 1 (`offset_fits` is false), also if its digits are 2 ^ 64 or more, so that it has no `magnitude`. The
+    /// magnitude of a negative number is negated as an `i64`, since 2 ^ 15 is no `i16`.
     fn offset(self) -> Option<i16>
         ensures found { IfSome result (λ n. number_of n ≡ normal self) }
         ensures fits { IfSome result (λ _. offset_fits self ≡ true) }
@@ -56,8 +58,9 @@ impl Number {
     }
 }
 
-/// A number without a sign as the `next_imm` of a wide instruction, an unsigned 32-bit field (RFC 9669, section 3.2). `None` if it is
-/// out of range, also if it is 2 ^ 64 or more (`magnitude` is `None`).
+/// Returns the offset in a map's value that a wide load has in its field `next_imm` (RFC 9669, section 3.2), here an unsigned number of 32
+/// bits. `magnitude` is the written number, which has no sign; it is `None` if the number is 2 ^ 64 or more. The result is this number
+/// (`found`), or `None` if it is 2 ^ 32 or more: a number is returned if and only if `next_imm_fits` is true (`fits`, `none`).
 fn next_imm(magnitude: Option<u64>) -> Option<u32>
     ensures found { IfSome result (λ n. Some n ≡ magnitude) }
     ensures fits { IfSome result (λ _. next_imm_fits magnitude ≡ true) }
@@ -67,8 +70,9 @@ fn next_imm(magnitude: Option<u64>) -> Option<u32>
 }
 
 impl SourceOperand {
-    /// A law: if the operand is a register, its number is 0 to 10. The proof has this from the contract of `number`; the function does
-    /// nothing when it runs.
+    /// A law: if the operand is a register, its number is 0 to 10 (`IsSource`, which requires nothing of a constant). `Form::is_possible`
+    /// calls it, since registers of a form that a line can have are 0 to 10. The proof has the bound from the contract of `number`, whose
+    /// result is not used, so the function does nothing when it runs.
     fn register_is_in_range(self)
         ensures { IsSource self }
     {
@@ -77,7 +81,8 @@ impl SourceOperand {
         }
     }
 
-    /// The second operand of an instruction, with -0 as 0 (`normal_source`). `None` if it is a constant that is no signed 32-bit number.
+    /// The second operand of an instruction: the register, or the constant as a signed 32-bit number, with -0 as 0 (`normal_source`).
+    /// `None` if it is a constant that is no such number (`source_fits`).
     fn operand(self) -> Option<Operand>
         ensures found { IfSome result (λ src. source_of src ≡ normal_source self) }
         ensures fits { IfSome result (λ _. source_fits self ≡ true) }
@@ -94,8 +99,10 @@ impl SourceOperand {
 }
 
 impl JumpTarget {
-    /// The offset in slots of a jump to this target that is not long (`false` in the contract): the target's number, or, if the target is a
-    /// label, `distance`, the number of slots from the next slot to the label. `None` if the target's number doesn't fit 16 bits.
+    /// The offset in slots of a jump to this target, in a field of 16 bits; a long jump, with a field of 32 bits, has `long_offset`. It is
+    /// the target's number, with -0 as 0, or, if the target is a label, `distance`: the number of slots from the slot after the jump to the
+    /// label (`placed`). `None` if the target's number doesn't fit 16 bits (`target_fits`, in which `false` means that the jump is not
+    /// long).
     fn offset(self, distance: i16) -> Option<i16>
         ensures found { IfSome result (λ n. target.Number (number_of n) ≡ placed distance self) }
         ensures fits { IfSome result (λ _. target_fits false self ≡ true) }
@@ -107,9 +114,10 @@ impl JumpTarget {
         }
     }
 
-    /// The offset in slots of a long jump to this target: the target's number, or `distance` if the target is a label. `distance` is the
-    /// number of slots from the next slot to the label. It has 16 bits also for a long jump: a program has at most `MAX_SLOTS` slots.
-    /// `None` if the number of the target doesn't fit 32 bits. The `true` in the contract means a long jump.
+    /// The offset in slots, from the next slot, of a long jump to this target: the target's number, with -0 as 0, or `distance` if the
+    /// target is a label (`placed`). `distance` is the number of slots from the next slot to the label. It has 16 bits also for a long
+    /// jump, since a program has at most `MAX_SLOTS` slots. `None` exactly if the target has a number and this is out of the range of a
+    /// signed field of 32 bits (`target_fits true`, in which `true` means a long jump).
     fn long_offset(self, distance: i16) -> Option<i32>
         ensures found { IfSome result (λ n. target.Number (number_of n) ≡ placed distance self) }
         ensures fits { IfSome result (λ _. target_fits true self ≡ true) }
@@ -123,8 +131,10 @@ impl JumpTarget {
 }
 
 impl Operation {
-    /// The instruction of this operation on `dst`, of 64 bits if `wide`, else of the low 32; `None` if its number is out of range.
-    /// `Form::insn` has checked that a line can have this form: so a byte-order conversion is of an `r` register, not of a `w` register.
+    /// The instruction of this operation on all 64 bits of `dst` (`wide`) or on the low 32. Its written form is that of the operation, with
+    /// -0 as 0 (`found`). `None` if the second operand is a constant that is no signed 32-bit number (`form_fits` is false); nothing else
+    /// can be out of range. `Form::insn` has checked that a line can have the form (`IsForm`): so a sign extension is from fewer bits than
+    /// the register has, and a byte-order conversion is of an `r` register, so that its instruction needs no `wide`.
     fn insn(self, wide: bool, dst: Reg) -> Option<Insn>
         requires { IsForm (form.Operation wide dst self) }
         ensures found { IfSome result (λ insn. written insn
@@ -152,8 +162,9 @@ impl Operation {
 }
 
 impl Access {
-    /// The instruction of this access at an address; `None` if the address's offset or the constant of a store is out of range.
-    /// `Form::insn` has checked that a line can have the form: else a load could sign-extend a double word.
+    /// The instruction of this access at `address`: it is written as the access is, with -0 as 0 (`found`). `None` exactly if the address's
+    /// offset does not fit 16 bits, or the constant of a store 32 bits, both signed (`fits`, `none`). It is required that a line can have
+    /// the form (`IsForm`), as `Form::insn` has checked: else a load could sign-extend a double word.
     fn insn(self, address: Address) -> Option<Insn>
         requires { IsForm (form.Access self address) }
         ensures found { IfSome result (λ insn. written insn
@@ -196,8 +207,10 @@ impl Access {
 }
 
 impl WideValue {
-    /// The instruction that loads this value into `dst`; `None` if a number is out of range. A 64-bit constant is below 2^64, the
-    /// descriptor of a map is a signed number of 32 bits, and an offset in a map's value is an unsigned number of 32 bits.
+    /// The instruction of a line that loads this value into `dst`; in contracts `form.WideLoad dst self` is the form of this line. `None`
+    /// if a number is out of range (`none`), else each number is in range (`fits`): a 64-bit constant is below 2^64, the descriptor of a
+    /// map is a signed number of 32 bits, and an offset in a map's value is an unsigned number of 32 bits. The instruction is written as
+    /// this form, with 0 for a descriptor -0 (`found`, `normal_form`).
     fn insn(self, dst: Reg) -> Option<Insn>
         ensures found { IfSome result (λ insn. written insn
             ≡ normal_form (form.WideLoad dst self)) }
@@ -223,9 +236,10 @@ impl WideValue {
 }
 
 impl Form {
-    /// Whether a line can have this form (`IsForm`): a sign extension is from fewer bits than the register has, a byte-order conversion is
-    /// of an `r` register, and no double word is loaded with sign extension. The calls of `number` and `register_is_in_range` only give the
-    /// proof that registers are 0 to 10.
+    /// Whether a line can have this form: true exactly if `IsForm` holds for it (`yes`, `no`). It is false for a sign extension that is not
+    /// from fewer bits than the register has, for a byte-order conversion of a `w` register, of 32 bits, and for a load of a double word
+    /// with sign extension: `insn` then makes no instruction. The calls of `number` and `register_is_in_range` do not change the result:
+    /// they only give the proof that registers are 0 to 10.
     fn is_possible(&self) -> bool
         ensures yes { result ≡ true → IsForm self.now }
         ensures no { result ≡ false → IsForm self.now → ⊥ }
@@ -276,10 +290,12 @@ impl Form {
         }
     }
 
-    /// The instruction of this form. A label that its jump names is taken to be `distance` slots from the next slot.
+    /// The instruction of this form. A label that its jump names is taken to be `distance` slots from the next slot. `found`: written as a
+    /// form, the instruction is `self`, but it has that distance for the label, and 0 for each -0 (`resolved`).
     ///
-    /// `None` if a number is out of its field's range, or if no line can have this form (`is_possible`), as a byte-order conversion of a
-    /// `w` register.
+    /// `None` if a number is out of its field's range (`form_fits` is false), or if no line can have this form (`IsForm`, which
+    /// `is_possible` tests), as a byte-order conversion of a `w` register. `fits`, `none`: of a form that a line can have, the result is
+    /// `Some` exactly if all its numbers are in range.
     pub fn insn(self, distance: i16) -> Option<Insn>
         ensures found { IfSome result (λ insn. written insn ≡ resolved distance self) }
         ensures fits { IfSome result (λ _. form_fits self ≡ true) }
@@ -292,8 +308,10 @@ impl Form {
         }
     }
 
-    /// The instruction of a form that a line can have, as `insn` has checked; `None` if a number is out of range. A label that a jump names
-    /// is `distance` slots from the next slot.
+    /// The instruction of this form, which is one that a line can have: `insn`, the only caller, has tested the precondition (`IsForm`) by
+    /// `is_possible`. `found`: the instruction is written as this form with 0 for each number -0, and with `distance` for a label
+    /// (`resolved`). `distance` is the number of slots from the next slot to the label that a jump names. The result is `None` if a number
+    /// is out of the range of its field (`none`), and only then (`fits`).
     fn listed_insn(self, distance: i16) -> Option<Insn>
         requires { IsForm self }
         ensures found { IfSome result (λ insn. written insn ≡ resolved distance self) }

@@ -145,7 +145,8 @@ pub enum Line<'a> {
 impl Form {
     ghost use Rattle.text_line.specs.Form.{form_slots, names_label};
 
-    /// The number of slots of an instruction of this form: 2 for a wide load, else 1; also if a number of the form is out of range.
+    /// The number of slots of an instruction of this form: 2 for a wide load, else 1. Numbers of the form that are out of range make no
+    /// difference, since the assembler counts slots before it checks ranges.
     pub fn slots(self) -> usize
         ensures value { result ≡ form_slots self }
         ensures bound { result ≤ 2 }
@@ -157,7 +158,8 @@ impl Form {
         }
     }
 
-    /// Whether it is a jump or a conditional jump whose target is a label, not a number. No other form names a label.
+    /// Whether an instruction of this form names a label: it is a jump or a conditional jump whose target is a label, not a number. No
+    /// other form names a label. The assembler asks this, since a named label that no line defines is a fault.
     pub fn names_label(self) -> bool
         ensures { result ≡ names_label self }
     {

@@ -23,8 +23,9 @@ use insn_set::{
 
 // ---- operations
 
-/// The operation `op`, an operator of two operands or a move, with the source that is written in the tokens: a constant, or a register, `r`
-/// if `wide`, else `w`. `None` if the tokens are anything else.
+/// The operation `op`, an operator of two operands or a move, with the source in `tokens`, which are those after the operator's symbol: a
+/// number, after a minus or without a sign, or a register, `r` if `wide`, else `w`. `None` if they begin with neither, or if more tokens
+/// follow: then `operation`, the caller, tries the operations of one operand, if `op` is a move.
 #[tactic(auto, unfolding(crate::specs::inside::Reading::parsed_binary))]
 fn binary(wide: bool, op: AluOp, tokens: &[Token<'_>]) -> Option<Operation>
     ensures { result ≡ parsed_binary wide op (shown_tokens tokens.now) }
@@ -53,8 +54,9 @@ fn sign_extension(wide: bool, tokens: &[Token<'_>]) -> Option<Operation>
     at_end(Operation::SignExtend { from, src }, rest)
 }
 
-/// Reads the end of a line that names its destination `dst` again, as `r1 = -r1`. Returns `found`, the line's operation, if `tokens` are
-/// this register and nothing else, an `r` register if `wide`, else a `w` register. Returns `None` for any other tokens.
+/// Reads the end of a line that names its destination again, as the second `r1` of `r1 = -r1`. `dst` is the destination, an `r` register if
+/// `wide`, else a `w` register; `found` is the operation that the caller has read. Returns `found` if `tokens` are the destination and
+/// nothing else, and `None` for any other tokens.
 #[tactic(auto, unfolding(crate::specs::inside::Reading::parsed_in_place))]
 fn in_place(wide: bool, dst: Reg, found: Operation, tokens: &[Token<'_>]) -> Option<Operation>
     ensures { result ≡ parsed_in_place wide dst found (shown_tokens tokens.now) }
@@ -68,9 +70,9 @@ fn in_place(wide: bool, dst: Reg, found: Operation, tokens: &[Token<'_>]) -> Opt
     at_end(found, rest)
 }
 
-/// An operation of one operand with the destination `dst`, from the tokens after `=`: a move with sign extension, a negation, or a
-/// byte-order conversion, which only an `r` register (`wide`) has. A negation and a byte-order conversion have to name `dst` again, as in
-/// `r1 = -r1`. `None` if the tokens are none of these.
+/// An operation of one operand with the destination `dst`, from the tokens after `=`: a move with sign extension, a negation or, only for
+/// an `r` register (`wide`), a byte-order conversion. A negation and a byte-order conversion have to name `dst` again, as in `r1 = -r1`.
+/// `None` if the tokens are none of these.
 #[tactic(auto, unfolding(crate::specs::inside::Reading::parsed_unary))]
 fn unary(wide: bool, dst: Reg, tokens: &[Token<'_>]) -> Option<Operation>
     ensures { result ≡ parsed_unary wide dst (shown_tokens tokens.now) }
@@ -89,9 +91,10 @@ fn unary(wide: bool, dst: Reg, tokens: &[Token<'_>]) -> Option<Operation>
     in_place(true, dst, Operation::End { how, bits }, rest)
 }
 
-/// An operation on `dst`, an `r` register if `wide`, else `w`, from the tokens after the symbol of its operator `op`. `None` if they are
-/// anything else. An operation of one operand (`unary`) is written with `=`, the symbol of a move (`Mov`). Only `unary` needs `dst`: a
-/// negation and a byte-order conversion name the destination again, as `r1 = -r1`.
+/// An operation on `dst`, an `r` register if `wide`, else a `w` register, from the tokens after `op`, the operator that the symbol in the
+/// line names. The tokens are a constant or a register, the second operand of `op`, as in `r1 += 5` (`binary`). If `op` is a move (`Mov`,
+/// with the symbol `=`), they may also be an operation of one operand (`unary`): a move with sign extension, a negation or a byte-order
+/// conversion. Only the last two need `dst`, which they name again, as in `r1 = -r1`. `None` if the tokens are anything else.
 #[tactic(auto, unfolding(crate::specs::inside::Reading::parsed_operation))]
 fn operation(wide: bool, op: AluOp, dst: Reg, tokens: &[Token<'_>]) -> Option<Operation>
     ensures { result ≡ parsed_operation wide op dst (shown_tokens tokens.now) }
@@ -108,7 +111,8 @@ fn operation(wide: bool, op: AluOp, dst: Reg, tokens: &[Token<'_>]) -> Option<Op
 
 // ---- forms
 
-/// A load into `dst`, from the tokens after `=`: a memory operand, as `*(u32 *)(r6 + 0)`. `None` if they are anything else.
+/// A load into `dst`, from the tokens after `=`: a memory operand, as `*(u32 *)(r6 + 0)`; a size as `s32` is `signed`, which means that the
+/// load extends the sign. `None` if the tokens are anything else.
 #[tactic(auto, unfolding(crate::specs::inside::Reading::parsed_load))]
 fn load(dst: Reg, tokens: &[Token<'_>]) -> Option<Form>
     ensures { result ≡ parsed_load dst (shown_tokens tokens.now) }
@@ -120,7 +124,8 @@ fn load(dst: Reg, tokens: &[Token<'_>]) -> Option<Form>
     at_end(Form::Access { access, address }, rest)
 }
 
-/// A store: a memory operand whose size is not signed, `=`, and a constant or an `r` register. `None` if the tokens are anything else.
+/// The form of a store: a memory operand, as `*(u32 *)(r6 + 0)`, then `=`, and what is stored, a constant or an `r` register. `None` if the
+/// tokens are anything else, also if the size is written as signed, as `s32`: of the accesses to memory only a load extends a sign.
 #[tactic(auto, unfolding(crate::specs::inside::Reading::parsed_store))]
 fn store(tokens: &[Token<'_>]) -> Option<Form>
     ensures { result ≡ parsed_store (shown_tokens tokens.now) }
@@ -158,7 +163,8 @@ fn atomic(tokens: &[Token<'_>]) -> Option<Form>
     at_end(Form::Access { access, address }, rest)
 }
 
-/// A load of a 64-bit value into `dst`, from the tokens after `=`: the value, and `ll`. `None` if they are anything else.
+/// A load of a 64-bit value into `dst`, from the tokens after `=`: the value, and `ll`, as `5 ll`, `map_fd 3 ll` or `map_value 3 + 8 ll`.
+/// `None` if they are anything else.
 #[tactic(auto, unfolding(crate::specs::inside::Reading::parsed_wide_load))]
 fn wide_load(dst: Reg, tokens: &[Token<'_>]) -> Option<Form>
     ensures { result ≡ parsed_wide_load dst (shown_tokens tokens.now) }
@@ -168,8 +174,9 @@ fn wide_load(dst: Reg, tokens: &[Token<'_>]) -> Option<Form>
     at_end(Form::WideLoad { dst, value }, rest)
 }
 
-/// A line that begins with its destination register: an operation on it; or, with `=` (the symbol of `Mov`) and an `r` register, a wide
-/// load or a load into it. `None` if the tokens are none of these.
+/// A line that begins with its destination register. It may be an operation on this register, as `w1 += 2`. If `=`, the symbol of `Mov`,
+/// follows an `r` register, it may also be a wide load, as `r2 = 5 ll`, or a load, as `r1 = *(u32 *)(r6 + 0)`. `None` if the tokens are
+/// none of these.
 #[tactic(auto, unfolding(crate::specs::inside::Reading::parsed_assigned))]
 fn assigned(tokens: &[Token<'_>]) -> Option<Form>
     ensures { result ≡ parsed_assigned (shown_tokens tokens.now) }
@@ -190,8 +197,9 @@ fn assigned(tokens: &[Token<'_>]) -> Option<Form>
     }
 }
 
-/// A conditional jump, from the tokens after `if`, and the label that it names: the empty text if it names none. `None` if the tokens are
-/// anything else.
+/// Parses a conditional jump from the tokens after `if`, as `r1 == 0 goto +2` or `w1 < w2 goto out`. Returns its form, and the name of the
+/// label to which it jumps: the empty text if its target is a number of slots, which has a sign. Returns `None` if the tokens are anything
+/// else. In the contract, `seen_destination` and `shown_tokens` replace borrowed texts by their bytes.
 #[tactic(auto, unfolding(crate::specs::inside::Reading::parsed_branch))]
 fn branch<'a>(tokens: &[Token<'a>]) -> Option<(Form, &'a str)>
     ensures { seen_destination result ≡ parsed_branch (shown_tokens tokens.now) }
@@ -217,9 +225,10 @@ fn branch<'a>(tokens: &[Token<'a>]) -> Option<(Form, &'a str)>
     ))
 }
 
-/// The form of the instruction that the tokens are, and the label that its jump names: the empty text if it names none. If the first token
-/// is none of `if`, `goto`, `gotol`, `call`, `exit` and `lock`, it is the destination register (`assigned`), or the instruction is a store.
-/// `None` if the tokens are no instruction.
+/// The form of the instruction that the tokens are, and the name of the label to which it jumps: the empty text if it names none, as a jump
+/// by a number of slots. If the first token is none of `if`, `goto`, `gotol`, `call`, `exit` and `lock`, it is the destination register
+/// (`assigned`), or the instruction is a store. `None` if the tokens are no instruction, or more follow. The contract: the definition
+/// `parsed_form` reads the same form and the same name.
 #[tactic(auto, unfolding(crate::specs::inside::Reading::parsed_form))]
 fn form<'a>(tokens: &[Token<'a>]) -> Option<(Form, &'a str)>
     ensures { seen_destination result ≡ parsed_form (shown_tokens tokens.now) }
@@ -257,7 +266,7 @@ fn form<'a>(tokens: &[Token<'a>]) -> Option<(Form, &'a str)>
 
 // ---- lines
 
-/// The name of the label that the line defines, if it is a name and `:`, and nothing more; `None` of any other line.
+/// The name of the label that the line defines, if its tokens are a name and `:`, and nothing more; `None` of any other line.
 #[tactic(auto, unfolding(crate::specs::inside::Reading::parsed_label))]
 fn label<'a>(tokens: &[Token<'a>]) -> Option<&'a str>
     ensures { option_map (λ n. n.now) result ≡ parsed_label (shown_tokens tokens.now) }
@@ -267,8 +276,9 @@ fn label<'a>(tokens: &[Token<'a>]) -> Option<&'a str>
     at_end(name, rest)
 }
 
-/// The line of these tokens: blank if there are none, the definition of a label, or an instruction with the label that it names. `None` if
-/// they are none of these.
+/// The line of these tokens: blank if there are none; the definition of a label if they are a name and `:`; else an instruction, with the
+/// label that its jump names, the empty text if it names none. `None` if they are none of these. The contract: the result is the line that
+/// the definition `line_of` reads from the tokens.
 #[tactic(auto, unfolding(crate::specs::inside::Reading::line_of))]
 pub(crate) fn line_of<'a>(tokens: &[Token<'a>]) -> Option<Line<'a>>
     ensures { option_map seen_line result ≡ line_of (shown_tokens tokens.now) }

@@ -6,8 +6,8 @@ ghost use Rattle.text_line.specs.inside.Reading.{atomic_size_of, registers};
 
 use insn_set::{AccessSize, AtomicSize, Reg, named};
 
-/// The size of an atomic operation whose memory operand has this size; `None` if it is signed or below 4 bytes (RFC 9669,
-/// section 5.3).
+/// The size of an atomic operation whose memory operand has the size `size`; `signed` if this is written as signed, as in `*(s32 *)`. An
+/// atomic operation is on 4 or 8 bytes (RFC 9669, section 5.3), which are not signed: `None` for any other operand.
 pub(crate) fn atomic_size(signed: bool, size: AccessSize) -> Option<AtomicSize>
     ensures { result ≡ atomic_size_of signed size }
 {
@@ -18,7 +18,9 @@ pub(crate) fn atomic_size(signed: bool, size: AccessSize) -> Option<AtomicSize>
     }
 }
 
-/// Whether the name is that of all 64 bits of a register (`true`, `r1`) or of the low 32 (`w1`), and the register; `None` if it names none.
+/// The register that has this name, after a Boolean: `true` if the name is that of all 64 bits of the register (`r0` to `r10`), `false` if
+/// it is that of the low 32 (`w0` to `w10`). `None` if no register has the name. By the clause the table of these names in the definitions
+/// (`registers`) gives the same result.
 pub(crate) fn register_named(name: &str) -> Option<(bool, Reg)>
     ensures { result ≡ named registers name.now }
 {

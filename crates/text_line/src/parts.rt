@@ -15,7 +15,9 @@ use insn_set::{AccessSize, Reg, load_by_name};
 
 // ---- one token, and the tokens after it
 
-/// The first token, if it is a symbol, and the tokens after it; `None` if it is no symbol, or if there is no token.
+/// The text of the first token, if it is a symbol (one of `SYMBOLS`, as `+=` or `(`), and the tokens after it; `None` if it is a name or a
+/// number, or if there is no token. The contract compares with the definition `leading_symbol`: `shown_tokens` and `seen_token` convert the
+/// tokens and the result of the code to those of definitions.
 pub(crate) fn leading_symbol<'t, 'a>(tokens: &'t [Token<'a>]) -> Option<(&'a str, &'t [Token<'a>])>
     ensures { seen_token result ≡ leading_symbol (shown_tokens tokens.now) }
 {
@@ -35,8 +37,9 @@ pub(crate) fn name<'t, 'a>(tokens: &'t [Token<'a>]) -> Option<(&'a str, &'t [Tok
     }
 }
 
-/// The value of the first token, if it is a number, and the tokens after it; the value is `None` from 2 ^ 64 on. The result is `None` if
-/// the token is no number, or if there is no token.
+/// The value of the first token, if it is a number, and the tokens after it; `None` if it is a name or a symbol, or if there is no token.
+/// The value itself is `None` from 2 ^ 64 on. A sign is a token of its own, so no value is negative. In the contract, `shown_tokens` and
+/// `seen_pair` only turn tokens of the code into those of the definitions.
 pub(crate) fn number<'t, 'a>(tokens: &'t [Token<'a>]) -> Option<(Option<u64>, &'t [Token<'a>])>
     ensures { seen_pair result ≡ leading_number (shown_tokens tokens.now) }
 {
@@ -46,7 +49,8 @@ pub(crate) fn number<'t, 'a>(tokens: &'t [Token<'a>]) -> Option<(Option<u64>, &'
     }
 }
 
-/// The tokens after the symbol `expected`; `None` if the first token is another, or if there is none.
+/// The tokens after the first one, if this is the symbol `expected`; `None` if the first token is another symbol, a name or a number, or if
+/// there is none. The contract: the definition `after_symbol` returns the same for these tokens.
 #[tactic(auto, unfolding(crate::specs::inside::Reading::after_symbol))]
 pub(crate) fn after_symbol<'t, 'a>(
     tokens: &'t [Token<'a>],
@@ -58,7 +62,8 @@ pub(crate) fn after_symbol<'t, 'a>(
     if found == expected { Some(rest) } else { None }
 }
 
-/// The tokens after the name `expected`; `None` if the first token is another, or if there is none.
+/// The tokens after the first, if this is the name `expected`, for instance the keyword `goto`; `None` if the first token is another name
+/// or no name, or if there is no token. `seen`: the result, with its tokens as definitions have them.
 #[tactic(auto, unfolding(crate::specs::inside::Reading::after_word))]
 pub(crate) fn after_word<'t, 'a>(tokens: &'t [Token<'a>], expected: &str) -> Option<&'t [Token<'a>]>
     ensures { seen result ≡ after_word expected.now (shown_tokens tokens.now) }
@@ -69,8 +74,8 @@ pub(crate) fn after_word<'t, 'a>(tokens: &'t [Token<'a>], expected: &str) -> Opt
 
 // ---- parts of a line
 
-/// A register, `r` (64 bits) if `wide`, else `w` (the low 32), and the tokens after it; `None` if the tokens begin with another token, also
-/// with a register of the other width.
+/// Parses the register with which the tokens begin: `r0` to `r10` (all 64 bits) if `wide`, else `w0` to `w10` (the low 32). Returns the
+/// register and the tokens after it; `None` if there is no token, or the first is another, also a register of the other width.
 #[tactic(auto, unfolding(crate::specs::inside::Reading::leading_register))]
 pub(crate) fn register<'t, 'a>(
     wide: bool,
@@ -87,8 +92,8 @@ pub(crate) fn register<'t, 'a>(
     }
 }
 
-/// The number of the first token, and the tokens after it; `None` if this token is no number. `negative` is whether the caller has read a
-/// minus before it, which is a token of its own.
+/// The number of the first token, and the tokens after it; `None` if this token is no number, or if there is no token. `negative`, the sign
+/// of the number, is whether the caller has read a minus before it, which is a token of its own.
 fn number_from<'t, 'a>(negative: bool, tokens: &'t [Token<'a>]) -> Option<(Number, &'t [Token<'a>])>
     ensures { seen_pair result ≡ number_from negative (leading_number (shown_tokens tokens.now)) }
 {
@@ -102,7 +107,9 @@ fn number_from<'t, 'a>(negative: bool, tokens: &'t [Token<'a>]) -> Option<(Numbe
     ))
 }
 
-/// A number, after a minus or without a sign, and the tokens after it; `None` if the tokens begin with none.
+/// A constant: a number with a `-` before it, or without a sign. Returns the number and the tokens after it; `None` if the tokens begin
+/// with anything else, also with a `+`. The number may be too large for its field, which `Form::insn` checks. The contract has the result
+/// and the tokens as definitions have them (`seen_pair`, `shown_tokens`).
 #[tactic(auto, unfolding(crate::specs::inside::Reading::leading_constant))]
 pub(crate) fn constant<'t, 'a>(tokens: &'t [Token<'a>]) -> Option<(Number, &'t [Token<'a>])>
     ensures { seen_pair result ≡ leading_constant (shown_tokens tokens.now) }
@@ -113,7 +120,8 @@ pub(crate) fn constant<'t, 'a>(tokens: &'t [Token<'a>]) -> Option<(Number, &'t [
     }
 }
 
-/// A number with its sign, `+` or `-`, and the tokens after it; `None` if the tokens do not begin with a sign and then a number.
+/// A number after its sign, `+` or `-`, as the offset of an address and the target of a jump are written, and the tokens after the number.
+/// `None` if the tokens do not begin with a sign and then a number.
 #[tactic(auto, unfolding(crate::specs::inside::Reading::leading_signed_number))]
 pub(crate) fn signed<'t, 'a>(tokens: &'t [Token<'a>]) -> Option<(Number, &'t [Token<'a>])>
     ensures { seen_pair result ≡ leading_signed_number (shown_tokens tokens.now) }
@@ -124,7 +132,9 @@ pub(crate) fn signed<'t, 'a>(tokens: &'t [Token<'a>]) -> Option<(Number, &'t [To
     }
 }
 
-/// A register, `r` if `wide`, else `w`, or a constant, and the tokens after it; `None` if the tokens begin with neither.
+/// Parses a second operand, and returns it and the tokens after it. It is a register, an `r` register (64 bits) if `wide`, else a `w`
+/// register (the low 32), or a constant, which is a number after a minus or without a sign. `None` if the tokens begin with neither, also
+/// with a register of the other width.
 #[tactic(auto, unfolding(crate::specs::inside::Reading::leading_operand))]
 pub(crate) fn operand<'t, 'a>(
     wide: bool,
@@ -151,15 +161,17 @@ pub(crate) fn ended(tokens: &[Token<'_>]) -> bool
     }
 }
 
-/// `found`, which was read, if no token is left; else `None`.
+/// Ends the parsing of a line: returns `found`, which the caller has read, if no token is left in `tokens`, those after it. `None` if a
+/// token is left, so that nothing may follow a whole instruction or label in a line.
 pub(crate) fn at_end<T: Copy>(found: T, tokens: &[Token<'_>]) -> Option<T>
     ensures { result ≡ at_end found (shown_tokens tokens.now) }
 {
     if ended(tokens) { Some(found) } else { None }
 }
 
-/// The target of a jump, a number with its sign or a label, and the label's name, empty for a number. `None` if the tokens are anything
-/// else, or more tokens follow.
+/// Parses the target of a jump, with which a line ends: a number with its sign, as in `goto -1`, or a label, as in `goto done`. Returns the
+/// target, and the name of the label, which is empty for a number. `None` if the tokens begin with neither, or if more tokens follow. The
+/// contract says that the result is that of the definition, `parsed_destination`.
 #[tactic(auto, unfolding(crate::specs::inside::Reading::parsed_destination))]
 pub(crate) fn destination<'a>(tokens: &[Token<'a>]) -> Option<(JumpTarget, &'a str)>
     ensures { seen_destination result ≡ parsed_destination (shown_tokens tokens.now) }
@@ -173,8 +185,10 @@ pub(crate) fn destination<'a>(tokens: &[Token<'a>]) -> Option<(JumpTarget, &'a s
     }
 }
 
-/// A memory operand, as `*(u32 *)(r6 + 0)`: whether its size is written as signed (as `s32`), the size, and the address; and the tokens
-/// after it. `None` if the tokens begin with none.
+/// Reads a memory operand, as `*(u32 *)(r6 + 0)`, from the front of the tokens. Returns whether the name of its size is signed (`s8` to
+/// `s32`, not `u8` to `u64`), the size, the address (an `r` register and an offset with its sign, of any range), and the tokens after the
+/// operand; `None` if the tokens do not begin with a memory operand. The callers read loads, stores and atomic operations; those of stores
+/// and of atomic operations reject a signed size.
 #[tactic(auto, unfolding(crate::specs::inside::Reading::leading_address))]
 pub(crate) fn address<'t, 'a>(
     tokens: &'t [Token<'a>],
@@ -196,8 +210,9 @@ pub(crate) fn address<'t, 'a>(
     Some(((size, Address { base, offset }), rest))
 }
 
-/// The value of a wide load without its `ll`, and the tokens after it: `map_fd` and a descriptor; `map_value`, a descriptor, `+` and an
-/// offset; or a number. `None` if the tokens begin with none of these.
+/// The value of a wide load, and the tokens after it; the caller reads the `ll` that follows. The value is `map_fd` and a descriptor;
+/// `map_value`, a descriptor, `+` and an offset; or a number. Only a descriptor may have a minus. Numbers may be out of range here. `None`
+/// if the tokens begin with none of these. The contract: the definition `leading_wide_value` reads the same from these tokens.
 #[tactic(auto, unfolding(crate::specs::inside::Reading::leading_wide_value))]
 pub(crate) fn wide_value<'t, 'a>(tokens: &'t [Token<'a>]) -> Option<(WideValue, &'t [Token<'a>])>
     ensures { seen_pair result ≡ leading_wide_value (shown_tokens tokens.now) }

@@ -11,8 +11,9 @@ use std::alloc::{AllocError, Global};
 
 /// Parses one line of a text, given without its line feed.
 ///
-/// `None` if the line has none of the forms, if something before its comment is no token, or if a byte is not ASCII, even in
-/// its comment. A number out of its field's range is no reason for `None`: the form keeps it.
+/// `None` if the line is neither blank nor a label's definition nor an instruction; so also if something before its comment is no token, or
+/// if a byte is not ASCII, even in its comment. A number out of its field's range is no reason for `None`: the form keeps it, and the
+/// assembler rejects it. By the contract the definitions read the line so (`ReadAs`); `seen_line` is the result in their type.
 ///
 /// # Errors
 ///

@@ -33,8 +33,9 @@ const SYMBOLS: [&str; 31] = [
     "&=", "%=", "^=", "==", ">=", "!=", "<=", "=", ">", "<", "&", "+", "-", "*", "(", ")", ":",
 ];
 
-/// The length of the longest symbol with which the text begins; 0 if it begins with none (no symbol is empty). `SYMBOLS` has the longer
-/// symbols first, so the first one with which the text begins is the longest.
+/// The length, in bytes, of the longest symbol with which the text begins, as 3 for `<<=1`; 0 if it begins with none (no symbol is empty).
+/// `SYMBOLS` has the longer symbols first, so the first one with which the text begins is the longest. `value`: the definition `symbol_at`
+/// finds this symbol. At this length, at most the text's (`bound`), `symbol` splits the text.
 #[tactic(auto, unfolding(crate::specs::inside::Tokens::symbol_at))]
 fn symbol_len(text: &[u8]) -> usize
     ensures bound { result ≤ length text.now }
@@ -43,7 +44,8 @@ fn symbol_len(text: &[u8]) -> usize
     first_len(text, &SYMBOLS)
 }
 
-/// The length of the first of `symbols` with which `text` begins; 0 if it begins with none of them.
+/// The length in bytes of the first symbol of `symbols` with which `text` begins; 0 if it begins with none of them. The caller's list,
+/// `SYMBOLS`, has the longer ones first, so of its symbols this is the longest.
 fn first_len(text: &[u8], symbols: &[&str]) -> usize
     ensures bound { result ≤ length text.now }
     ensures value { result ≡ option_map_or length
@@ -69,8 +71,9 @@ enum ByteClass {
 impl ByteClass {
     ghost use Rattle.text_line.specs.inside.Class.{in_class};
 
-    /// Whether the byte is of this class. The class `Name` has the bytes that a name may have after its first byte: letters, `_` and
-    /// digits.
+    /// Whether the byte is of this class. `Blank`: a space, a tab or a carriage return. `Name`: a byte that a name may have after its first
+    /// one, which is a letter of ASCII, `_` or a decimal digit. `Digit`: a decimal digit. `HexDigit`: a hexadecimal digit, in upper or
+    /// lower case.
     fn contains(self, byte: u8) -> bool
         ensures { result ≡ in_class self byte }
     {
@@ -82,7 +85,7 @@ impl ByteClass {
         }
     }
 
-    /// The number of bytes at the front that are of this class.
+    /// How many bytes `text` has before its first byte that is not of this class; its length if all are of the class.
     fn run_len(self, text: &[u8]) -> usize
         ensures value { result ≡ prefix_len (in_class self) text.now }
         ensures bound { result ≤ length text.now }
@@ -95,7 +98,7 @@ impl ByteClass {
     }
 }
 
-/// Whether a name can begin with the byte: a letter or `_`.
+/// Whether a name can begin with the byte: an ASCII letter or `_`. After its first byte a name can have digits too.
 fn is_name_start(byte: u8) -> bool
     ensures { result ≡ is_name_start byte }
 {
@@ -116,7 +119,9 @@ fn byte_at(text: &[u8], index: usize) -> u8
     if index < text.len() { text[index] } else { 0 }
 }
 
-/// The text after the blanks at its front. The text is ASCII, as `tokens` has checked, so it can be split at any byte.
+/// The text without the blanks at its front: spaces, tabs and carriage returns. The text is ASCII, as `tokens` has checked, so it can be
+/// split at any byte; the result is ASCII too (`ascii`). By `bound` the result is not longer than the text: each token makes the text
+/// shorter, so `tokens` terminates.
 fn after_blanks(text: &str) -> &str
     requires { IsAscii text.now }
     ensures value { result.now ≡ skip_blanks text.now }
@@ -127,8 +132,9 @@ fn after_blanks(text: &str) -> &str
     rest
 }
 
-/// The symbol at the front, the longest, and the text after it; `None` if there is none. The text is ASCII, as `tokens` has checked, so it
-/// can be split at any byte.
+/// The longest of `SYMBOLS` (such as `+=`, `s>` or `(`) with which `text` begins, as a token, and the text after it; `None` if `text`
+/// begins with none. The text after a symbol is ASCII (`ascii`) and shorter than `text` (`shorter`), since no symbol is empty: so the loop
+/// of `tokens` ends. `text` is ASCII, as `tokens` has checked, so it can be split at any byte.
 fn symbol(text: &str) -> Option<(Token<'_>, &str)>
     requires { IsAscii text.now }
     ensures value { shown_front result ≡ option_map
@@ -144,8 +150,9 @@ fn symbol(text: &str) -> Option<(Token<'_>, &str)>
     Some((Token::Symbol(symbol), rest))
 }
 
-/// The name at the front, and the text after it; `None` if there is none. The text is ASCII, as `tokens` has checked, so it can be split at
-/// any byte.
+/// The name at the front, a letter or `_` and the letters, digits and `_` after it, as a token, and the text after it (`value`). `None` if
+/// the text does not begin with a letter or `_`. The text is ASCII, as `tokens` has checked, so it can be split at any byte. The text after
+/// the name is ASCII too (`ascii`), and shorter (`shorter`), so that the loop of `tokens` ends.
 #[tactic(auto, unfolding(crate::specs::inside::Tokens::name_at))]
 fn name(text: &str) -> Option<(Token<'_>, &str)>
     requires { IsAscii text.now }
@@ -161,9 +168,10 @@ fn name(text: &str) -> Option<(Token<'_>, &str)>
     Some((Token::Name(name), rest))
 }
 
-/// The number at the front, decimal, or hexadecimal after `0x`, and the text after it. The result is `None` if no digit is at the front;
-/// the value in the token is `None` from 2^64 on. If no hexadecimal digit follows `0x`, the number is 0, and the text after it begins with
-/// the `x`. The text is ASCII, as `tokens` has checked, so it can be split at any byte.
+/// The number at the front, decimal, or hexadecimal after `0x`, and the text after it (`value`; `number_at` is the definition). The result
+/// is `None` if no digit is at the front; the value in the token is `None` from 2^64 on. If no hexadecimal digit follows `0x`, the number
+/// is 0, and the text after it begins with the `x`. The text is ASCII, as `tokens` has checked, so it can be split at any byte. The text
+/// after the number is ASCII too (`ascii`), and shorter (`shorter`), so the loop of `tokens` ends.
 #[tactic(auto, unfolding(crate::specs::inside::Tokens::number_at))]
 fn number(text: &str) -> Option<(Token<'_>, &str)>
     requires { IsAscii text.now }
@@ -183,8 +191,10 @@ fn number(text: &str) -> Option<(Token<'_>, &str)>
     None
 }
 
-/// The number at the front, whose digits are of this class and radix, and the text after it. Its value is `None` from 2 ^ 64 on. The caller
-/// has seen its first digit. The text is ASCII, as `tokens` has checked, so it can be split at any byte.
+/// The number at the front, and the text after it (`rest`). Its digits are all bytes at the front that are of this class, which is `Digit`
+/// with radix 10 or `HexDigit` with radix 16 (`digits`). The caller has seen that the first byte is a digit (`first`), so the text after
+/// the number is shorter (`shorter`). The value in the token is that of the digits, or `None` from 2 ^ 64 on (`value`). The text is ASCII,
+/// as `tokens` has checked, so it can be split at any byte, and the text after the number is ASCII too (`ascii`).
 fn value(text: &str, class: ByteClass, radix: u32) -> (Token<'_>, &str)
     requires ascii { IsAscii text.now }
     requires digits { IsDigits class radix }
@@ -199,9 +209,10 @@ fn value(text: &str, class: ByteClass, radix: u32) -> (Token<'_>, &str)
     (Token::Number(u64::from_str_radix(digits, radix).ok()), rest)
 }
 
-/// The longest token at the front of the text, and the text after it; `None` if no token begins there. Blanks are not skipped.
-/// Symbols are tried first: a text that begins with `s>=` also begins with the name `s`, which is shorter. The text is ASCII, as `tokens`
-/// has checked.
+/// The longest token at the front of the text, and the text after it; `None` if no token begins there. `value`: `token_at` defines the
+/// result. Blanks are not skipped. Symbols are tried first: a text that begins with `s>=` also begins with the name `s`, which is shorter.
+/// The text is ASCII, as `tokens` has checked, and so is the text after the token (`ascii`), which `tokens` gives to the next call. That
+/// text is shorter (`shorter`), so the loop of `tokens` ends.
 #[tactic(auto, unfolding(crate::specs::inside::Tokens::token_at))]
 fn first_token(text: &str) -> Option<(Token<'_>, &str)>
     requires { IsAscii text.now }
@@ -218,15 +229,19 @@ fn first_token(text: &str) -> Option<(Token<'_>, &str)>
     number(text)
 }
 
-/// Whether the rest of a line, without blanks at its front, is empty or a comment.
+/// Whether a line has no more tokens: `text`, the rest of the line, is empty, or it is a comment, which begins with `//`. `tokens` asks
+/// this after it has removed the blanks at the front (`after_blanks`); the contract does not require that, and a blank at the front gives
+/// false.
 fn is_over(text: &[u8]) -> bool
     ensures { result ≡ is_over text.now }
 {
     text.is_empty() || text.starts_with(b"//")
 }
 
-/// The tokens of a line; `None` if something before its comment is no token, or a byte is not ASCII. `AllocError`: out of
-/// memory.
+/// The tokens of a line, in order, each the longest with which the rest of the line begins; blanks and the comment, from `//` on, are no
+/// tokens. `None` if something before the comment is no token, or a byte of the line is not ASCII, also in the comment. `found`: the tokens
+/// that are returned are those that the definition `IsTokens` gives the line. `none`: if `None` is returned, the line has no tokens by that
+/// definition, not even an empty list. `AllocError`: out of memory.
 pub(crate) fn tokens<'a>(alloc: Global, line: &'a str) -> Result<Option<Vec<Token<'a>>>, AllocError>
     ensures found { IfOk result (λ o. IfSome o (λ ts. IsTokens line.now (shown_tokens ts.items))) }
     ensures none { IfOk result (λ o. IfNone o ((ts : List AnyToken) → ¬ IsTokens line.now ts)) }

@@ -54,8 +54,9 @@ abbrev pub moved_offset : Direction → ℤ → ℤ → Option ℤ
 moved_offset Forwards x d = near_offset (x +ℤ d)
 moved_offset Backwards x d = near_offset (x -ℤ d)
 
--- a moved offset or pointer as a result; OffsetTooLarge for None: the new offset would be too far
--- from 0, or the range of the number by which the pointer moves has numbers of both signs
+-- x, a moved offset or pointer, as a result; OffsetTooLarge for None: the new offset would be more
+-- than `farthest_offset` bytes from 0, or the range of the number by which the pointer moves has
+-- numbers of both signs
 abbrev pub or_too_large : {A : Type 0} → Option A → Result A Reason
 or_too_large None = Err OffsetTooLarge
 or_too_large (Some x) = Ok x
@@ -97,7 +98,8 @@ pointer_moved way k r = Err PointerArithmetic
 
 -- ---- two operands
 
--- whether the kind is that of the result of a look-up before its null test
+-- whether the kind is that of the result of a look-up that may be null, since no null test has
+-- settled it; a sum or a difference may not move such a pointer (`unless_maybe`)
 abbrev pub is_maybe_value : Kind → Bool
 is_maybe_value (MaybeValue m site) = true
 is_maybe_value k = false
@@ -108,16 +110,20 @@ abbrev pub of_scalars : Bool → Operator → Kind → Kind → Result Kind Reas
 of_scalars wide op (Scalar a) (Scalar b) = Ok (Scalar (range_of (width wide) op a b))
 of_scalars wide op a b = Err PointerArithmetic
 
--- the kind of a 64-bit sum: of two numbers, or of a pointer and a number in either order. The error
--- is PointerArithmetic if neither operand is a number, else that of `pointer_moved`
+-- the kind of a 64-bit sum: of two numbers a number; of a pointer and a number, in either order,
+-- the pointer moved forwards. PointerArithmetic if neither operand is a number, the pointer is
+-- neither to the stack nor into a value, or a number that is no constant moves a stack pointer.
+-- OffsetTooLarge if the offset may then be too far from 0, or the number may have either sign
 abbrev pub sum_kind : Kind → Kind → Result Kind Reason
 sum_kind (Scalar a) (Scalar b) = of_scalars true (Binary alu.Add) (Scalar a) (Scalar b)
 sum_kind (Scalar a) b = pointer_moved Forwards b a
 sum_kind a (Scalar b) = pointer_moved Forwards a b
 sum_kind a b = Err PointerArithmetic
 
--- the kind of a 64-bit difference: of two numbers, or a pointer minus a number; PointerArithmetic
--- for other operands, or the reason of `pointer_moved`
+-- the kind of a - b in 64 bits, for operands of kinds a and b: of two numbers, or of a pointer that
+-- b, a number, moves backwards (`pointer_moved`). PointerArithmetic unless b is a number, and a is
+-- a number, a pointer into a value or, if b is a constant, into the stack. For a pointer,
+-- OffsetTooLarge if its new offset may be over `farthest_offset` from 0, or b may have either sign
 abbrev pub difference_kind : Kind → Kind → Result Kind Reason
 difference_kind (Scalar a) (Scalar b) = of_scalars true (Binary alu.Sub) (Scalar a) (Scalar b)
 difference_kind (Scalar a) b = Err PointerArithmetic

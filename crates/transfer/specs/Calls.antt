@@ -67,8 +67,9 @@ number_range k = Err HelperArgument
 abbrev pub lengths_end : ℕ
 lengths_end = 2 ^ 29
 
--- the range of an argument that has to be a length: HelperArgument if it is no number,
--- LengthUnbounded unless all of it is above 0 and below `lengths_end`
+-- the range of an argument that a helper requires to be a length, in bytes, from the argument's
+-- kind. The error is HelperArgument if the kind is not that of a number, and LengthUnbounded if a
+-- number of the range is 0 or not below `lengths_end`
 abbrev pub length_range : Kind → Result Range Reason
 length_range (kind.Scalar r) =
     if r.lo == 0 || nat_le lengths_end r.hi then Err LengthUnbounded else Ok r

@@ -60,8 +60,9 @@ assigns f dst r = and_then_ok r (λ k. falls (with_kind f dst k))
 
 -- ---- memory
 
--- whether the offset is that of a word of the context: words have four bytes, and each is loaded
--- whole
+-- whether a word of the context begins at this offset in bytes: the offset is a multiple of 4, not
+-- negative, and below the end of the `context_words` words, each of four bytes. A load from the
+-- context has to load one whole word
 abbrev pub is_word : ℤ → Bool
 is_word (pos y) = (y % 4 == 0) && nat_lt y (4 * context_words)
 is_word (negsuc y) = false
@@ -155,14 +156,17 @@ value_of m offset (Some shape) =
     then Ok (kind.Value (value_span m (pos offset) (pos offset)))
     else Err NoDirectValue
 
--- the helper; UnknownHelper if it is unknown (None)
+-- the helper that a call names, from what `helper_of` gives for its number; UnknownHelper for None,
+-- a number of no helper. The check of a program's shape rejects such a call before
 abbrev pub known : Option Helper → Result Helper Reason
 known None = Err UnknownHelper
 known (Some h) = Ok h
 
 -- ---- the end of a run
 
--- the end of a run with a result of this kind: there is no edge; ResultNotScalar if it is no number
+-- the edges out of an exit, by the kind of register 0, the run's result: none if it is a number,
+-- since the run ends (`ends`); ResultNotScalar for any other kind, a pointer or a map. `exit_edges`
+-- rejects an unreadable register before
 abbrev pub exits_with : Kind → Result Edges Reason
 exits_with (kind.Scalar r) = ends
 exits_with k = Err ResultNotScalar

@@ -10,16 +10,18 @@ use Rattle.reg_kinds.specs.declared.facts.Facts.{Facts}
 use Rattle.reg_kinds.specs.Kinds.{kind_at, slot_at}
 use Rattle.transfer.specs.Sound.{IsKindAt, IsSlotAt, AreWellFormedAt}
 
--- a kind that is well formed at a slot (`IsKindAt`: a look-up that it names was at a lower slot) is
--- well formed at each later slot
+-- a kind that is well formed at program slot `at` is well formed at each later slot n. `IsKindAt`
+-- requires of a look-up's result that the look-up was at a lower slot, which then is below n too,
+-- and of a number that its range ends below 2 ^ 64, for which the slot does not matter
 kind_at_later_slot : (at n : ℕ) (k : Kind) → at < n → IsKindAt at k → IsKindAt n k
 kind_at_later_slot at n (kind.Scalar r) lt h = h
 kind_at_later_slot at n (kind.MaybeValue m site) lt h = omega arith
 kind_at_later_slot at n k lt h = tt
 
--- a stack slot that is well formed at a slot of the program is well formed at each later one: of
--- what this requires (`IsSlotAt`), only one bound depends on the slot of the program, that on the
--- site of a look-up, and a higher slot makes the bound weaker
+-- if the stack slot s is well formed at slot `at` of the program (`IsSlotAt`), it is well formed at
+-- each later slot n of the program, to which it is raised. Of what is required, only the bound on
+-- the site of a look-up, in the kind k of a spill, depends on the slot of the program: a site below
+-- `at` is below n too. A mask of written bytes is below 256 at each slot
 slot_raised : (at n : ℕ) (s : Slot) → at < n → IsSlotAt at s → IsSlotAt n s
 slot_raised at n (Bytes mask) lt h = h
 slot_raised at n (Spill k) lt h = kind_at_later_slot at n k lt h

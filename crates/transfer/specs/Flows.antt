@@ -8,9 +8,11 @@ use Rattle.transfer.specs.declared.branches.Flow.TheVariants.{Ends, Falls, Write
 use Rattle.reg_kinds.specs.Stack.{ChangesAtMost}
 use Rattle.transfer.specs.Branches.{Edges, with_pair, settled_edges}
 
--- the edges that a flow means, with their facts: f are the facts as `apply` has changed them. A
--- comparison has the ranges of its operands on each edge, None for an edge that can't be taken. A
--- null test of the look-up at `site` jumps on null (`jumps_on_null` is true) or on not null (false)
+-- the edges that a flow means, each with its facts, or None if it can't be taken; f are the facts
+-- as `apply` has changed them. WritesSlot and Writes mean the edge of Falls; the stack slots that
+-- they name are for `KeepsStack`. Compares has for each edge the ranges of dst and src, or None.
+-- Settles is a null test, which settles the look-up at `site` on both edges: the jump is taken if
+-- the result is null (`jumps_on_null` is true), or if it is not null (false)
 abbrev pub edges_of : Flow → Facts → Edges
 edges_of Ends f = record { falling = None; jumping = None }
 edges_of Falls f = record { falling = Some f; jumping = None }
@@ -25,8 +27,9 @@ edges_of (Compares dst src falls jumps) f =
     }
 edges_of (Settles site jumps_on_null) f = settled_edges jumps_on_null site f
 
--- the stack of facts g, after an instruction, is that of facts f, before it, except in the stack
--- slot that the flow names; after a flow that names all (`Writes`), any slot may differ
+-- the stack of g, the facts after `apply` on an instruction with this flow, is that of f, the facts
+-- before it; but for `WritesSlot i` stack slot i, below `stack_slots`, may differ, and for `Writes`
+-- any slot may. A null test changes slots only on its edges (`edges_of`), not in g
 abbrev pub KeepsStack : Flow → Facts → Facts → Type 0
 KeepsStack (WritesSlot i) f g = ChangesAtMost (Some i) f g
 KeepsStack Writes f g = Unit {0}

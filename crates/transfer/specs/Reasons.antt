@@ -29,7 +29,9 @@ IsSafetyReason NoDirectValue = ⊥
 IsSafetyReason Memory = ⊥
 IsSafetyReason reason = Unit {0}
 
--- the instruction names a helper by a number that no helper has (`helper_of`)
+-- what an instruction names is a helper, by a number that no helper has. The helpers are those of
+-- `known_helpers`: map look-up, update and delete, and the load of packet bytes. False if it names
+-- a map, a value of a map or nothing. The reason UnknownHelper applies only to such instructions
 abbrev pub IsUnknownHelper : Reference → Type 0
 IsUnknownHelper names.Nothing = ⊥
 IsUnknownHelper (names.Helper id) = helper_of id ≡ None

@@ -48,8 +48,10 @@ pub record AreWellFormedAt (n : ℕ) (f : Facts) : Type 0 where
 
 -- ---- the edge that a step takes
 
--- whether an instruction, by its group (`View` of `insn_set`), jumps in this state: a conditional
--- jump does if its condition holds, and not if it can't be computed, since the step is a fault then
+-- whether an instruction, by its group (`View` of `insn_set`), jumps in this state: an
+-- unconditional jump does; a conditional jump does if its condition holds for register `dst` and
+-- the operand `src`; no other group does. A condition that can't be computed, on an empty register,
+-- or on a pointer or a map except in a null test, does not count as true: the step is a fault then
 abbrev pub jumps_in : View → RunState → Bool
 jumps_in (jump off) s = true
 jumps_in (branch wide cond dst src off) s =

@@ -19,7 +19,7 @@ pub(crate) enum Direction {
     Backwards,
 }
 
-/// Returns `kind`, or `UnreadableRegister` if a register of this kind may not be read.
+/// Checks that an instruction may read an operand of this kind: returns `kind`, or `UnreadableRegister` if it is `Unreadable`.
 #[inline(always)]
 pub(crate) fn check_readable(kind: Kind) -> Result<Kind, Reason>
     ensures { result ≡ check_readable kind }
@@ -30,8 +30,9 @@ pub(crate) fn check_readable(kind: Kind) -> Result<Kind, Reason>
     }
 }
 
-/// The least and the greatest distance, in bytes, by which a number of this range moves a pointer: the range's ends, read as signed.
-/// Numbers from 2^63 on are negative. `None` unless all numbers of the range have one sign.
+/// The least and the greatest distance, in bytes, by which a number of this range moves a pointer: the range's ends, read as signed, the
+/// least first (`ordered`). Numbers from 2^63 on are negative. `None` if the range has negative numbers and others: then its ends, read as
+/// signed, are not in order.
 fn distance(range: Range) -> Option<(i64, i64)>
     ensures value { result ≡ distance range }
     ensures ordered { IfSome result (λ d. d.0 ≤ℤ d.1) }
@@ -43,7 +44,8 @@ fn distance(range: Range) -> Option<(i64, i64)>
     }
 }
 
-/// The offset moved forwards by `by` bytes; `None` if it is then farther than `FARTHEST_OFFSET` from 0, in either direction.
+/// A pointer's offset after a sum has moved it by `by` bytes, backwards if `by` is negative; `None` if the offset is then farther than
+/// `FARTHEST_OFFSET` (2^29 bytes) from 0, in either direction. `moved`: an offset that is returned is the exact sum.
 fn moved_forwards(offset: i32, by: i64) -> Option<i32>
     ensures value { result ≡ moved_offset Forwards offset by }
     ensures moved { IfSome result (λ to. to ≡ offset +ℤ by) }
@@ -56,7 +58,9 @@ fn moved_forwards(offset: i32, by: i64) -> Option<i32>
     }
 }
 
-/// The offset moved backwards by `by` bytes; `None` if it is then farther than `FARTHEST_OFFSET` from 0, in either direction.
+/// The offset of a pointer that a difference moves backwards: `offset` minus `by`, in bytes. `None` if it is then farther than
+/// `FARTHEST_OFFSET` from 0, in either direction. `value`: the result is that of the definition (`moved_offset`). `moved`: a result is the
+/// exact difference, so two offsets that `value_by` moves keep their order.
 fn moved_backwards(offset: i32, by: i64) -> Option<i32>
     ensures value { result ≡ moved_offset Backwards offset by }
     ensures moved { IfSome result (λ to. to ≡ offset -ℤ by) }
@@ -70,8 +74,8 @@ fn moved_backwards(offset: i32, by: i64) -> Option<i32>
 }
 
 /// The kind of a stack pointer at `offset` after a move forwards or backwards (`way`) by the one number of `range`, read as signed.
-/// `OffsetTooLarge` if the new offset is farther than `FARTHEST_OFFSET` from 0. The caller has tested that `range` has only one number, so
-/// `distance` is never `None`, and its least and its greatest distance are equal.
+/// `OffsetTooLarge` if the new offset is more than `FARTHEST_OFFSET`, 2^29 bytes, from 0. The only caller, `pointer_moved`, has tested that
+/// `range` has only one number, which the contract does not require. So `distance` is never `None`, and its two distances are equal.
 fn stack_moved(way: Direction, offset: i32, range: Range) -> Result<Kind, Reason>
     ensures { result ≡ stack_moved way offset range }
 {
@@ -88,8 +92,9 @@ fn stack_moved(way: Direction, offset: i32, range: Range) -> Result<Kind, Reason
     }
 }
 
-/// `pointer`, moved by a number from `least` to `greatest`; `None` if its offset may then be farther than `FARTHEST_OFFSET` from 0.
-/// Backwards, the greatest number leads to the least offset.
+/// `pointer`, a pointer into a value, after it is moved in the direction `way` by a number of bytes from `least` to `greatest`, both
+/// included. `value_moved` calls it with the ends of a number's range, read as signed. Backwards, the greatest number leads to the least
+/// offset. `None` if the least or the greatest offset is then farther than `FARTHEST_OFFSET`, 2^29, from 0.
 fn value_by(
     way: Direction,
     pointer: ValuePointer,
@@ -113,8 +118,9 @@ fn value_by(
     }
 }
 
-/// The kind of `pointer` after it is moved by a number in `range`, forwards or backwards (`way`). `OffsetTooLarge` if its offset may then
-/// be more than `FARTHEST_OFFSET` from 0, or if the range has numbers of both signs.
+/// The kind of `pointer`, a pointer into a value of a map, after a number in `range` is added to it (`way` is `Forwards`) or subtracted
+/// from it (`Backwards`). The number is read as signed: from 2^63 on it is negative. `OffsetTooLarge` if the offset may then be more than
+/// `FARTHEST_OFFSET` bytes from 0, or if the range has numbers of both signs.
 fn value_moved(way: Direction, pointer: ValuePointer, range: Range) -> Result<Kind, Reason>
     ensures { result ≡ value_moved way pointer range }
 {
@@ -127,9 +133,10 @@ fn value_moved(way: Direction, pointer: ValuePointer, range: Range) -> Result<Ki
     }
 }
 
-/// The kind of `pointer` after it is moved by a number in `range`, forwards or backwards (`way`). Only a pointer into a value may be moved,
-/// and, if `range` has only one number, a stack pointer: any other kind is `PointerArithmetic`. `OffsetTooLarge` if the moved offset may be
-/// more than `FARTHEST_OFFSET` from 0, or if `range` has numbers of both signs.
+/// The kind of `pointer` after it is moved by a number in `range`, read as signed: forwards in a sum, backwards in a difference (`way`).
+/// Only a pointer into a value may be moved, and, if `range` has only one number, a stack pointer; in all other cases the error is
+/// `PointerArithmetic`. It is `OffsetTooLarge` if the moved offset may be more than `FARTHEST_OFFSET` bytes from 0, or if `range` has
+/// numbers of both signs.
 fn pointer_moved(way: Direction, pointer: Kind, range: Range) -> Result<Kind, Reason>
     ensures { result ≡ pointer_moved way pointer range }
 {
@@ -140,7 +147,8 @@ fn pointer_moved(way: Direction, pointer: Kind, range: Range) -> Result<Kind, Re
     }
 }
 
-/// The range of an operator's results on numbers in the ranges `a` and `b`, of 64 bits (`wide`) or 32.
+/// The range of the results of `op` for a first operand in the range `a` and a second one in `b`, by the table of ranges (`range_of`). The
+/// operator is that of 64 bits if `wide`, else that of 32.
 #[inline(always)]
 pub(crate) fn result_range(wide: bool, op: Operator, a: Range, b: Range) -> Range
     ensures { result ≡ range_of (width wide) op a b }
@@ -152,7 +160,9 @@ pub(crate) fn result_range(wide: bool, op: Operator, a: Range, b: Range) -> Rang
     }
 }
 
-/// The kind of an operator's result on two numbers, of 64 bits (`wide`) or 32. `PointerArithmetic` if one of them is no number.
+/// The kind of the result of `op` on a first operand of kind `a` and a second of kind `b`, on 64 bits if `wide`, else on 32. If both
+/// operands are numbers, each in a range, the result is a number, in the range that the ranges and `op` give. Otherwise the reason is
+/// `PointerArithmetic`.
 fn of_scalars(wide: bool, op: Operator, a: Kind, b: Kind) -> Result<Kind, Reason>
     ensures { result ≡ of_scalars wide op a b }
 {
@@ -162,17 +172,19 @@ fn of_scalars(wide: bool, op: Operator, a: Kind, b: Kind) -> Result<Kind, Reason
     }
 }
 
-/// The kind of an operator's result on one operand, whose kind is `kind`, of 64 bits (`wide`) or 32. `PointerArithmetic` if the operand is
-/// no number. `of_scalars` gets the operand as the first and as the second, since a sign extension reads the second one, any other
-/// operator of one operand the first.
+/// The kind of the result of `op`, an operator of one operand, on an operand of the kind `kind`, on 64 bits (`wide`) or 32: a number, in
+/// the range of the results. `PointerArithmetic` if the operand is no number. `of_scalars`, which is for two operands, gets this one as
+/// both: a sign extension reads the second, a negation and a byte-order conversion the first. No caller has an `op` of two operands, which
+/// would read this one twice.
 pub(crate) fn of_scalar(wide: bool, op: Operator, kind: Kind) -> Result<Kind, Reason>
     ensures { result ≡ of_scalar wide op kind }
 {
     of_scalars(wide, op, kind, kind)
 }
 
-/// The kind of a 64-bit sum, of two numbers or of a pointer and a number in either order. `PointerArithmetic` for any other operands, and
-/// `PointerArithmetic` or `OffsetTooLarge` if `pointer_moved` does not allow the pointer to be moved by the number.
+/// The kind of a 64-bit sum, of two numbers or of a pointer and a number in either order. Only a pointer into a value may be moved, and, if
+/// the range of the number has only one number, a stack pointer: `PointerArithmetic` for any other operands. `OffsetTooLarge` if the moved
+/// offset may be more than `FARTHEST_OFFSET` from 0, or if the range has numbers of both signs.
 fn sum(a: Kind, b: Kind) -> Result<Kind, Reason>
     ensures { result ≡ sum_kind a b }
 {
@@ -184,8 +196,10 @@ fn sum(a: Kind, b: Kind) -> Result<Kind, Reason>
     }
 }
 
-/// The kind of a 64-bit difference, of two numbers or a pointer minus a number. `PointerArithmetic` for any other operands, and
-/// `PointerArithmetic` or `OffsetTooLarge` if `pointer_moved` does not allow the pointer to be moved by the number.
+/// The kind of a 64-bit difference, of two numbers or a pointer minus a number; `a` and `b` are the kinds of the operands. Only a pointer
+/// into a value may be moved, and, if the range of `b` has only one number, a stack pointer: `PointerArithmetic` for any other operands.
+/// `OffsetTooLarge` if the moved offset may be more than `FARTHEST_OFFSET` from 0, or if the range of `b` has numbers of both signs
+/// (`pointer_moved`).
 fn difference(a: Kind, b: Kind) -> Result<Kind, Reason>
     ensures { result ≡ difference_kind a b }
 {
@@ -197,17 +211,20 @@ fn difference(a: Kind, b: Kind) -> Result<Kind, Reason>
     }
 }
 
-/// Whether the kind is that of a look-up's result that may be null, since no null test has settled it.
+/// Whether the kind is that of a look-up's result that may be null, since no null test has settled it. By this `arithmetic` rejects a
+/// 64-bit sum or difference with such an operand for the reason `MaybeNull`. Without the test the reason would be `PointerArithmetic`.
 fn is_maybe_value(kind: Kind) -> bool
     ensures { result ≡ is_maybe_value kind }
 {
     matches!(kind, Kind::MaybeValue { .. })
 }
 
-/// The kind of an operator's result on the destination, of kind `a`, and the source, of kind `b`, of 64 bits (`wide`) or 32. The caller has
-/// found both readable. Allowed are a 64-bit move of any value, each operator on two numbers, and 64-bit sums and differences that move a
-/// pointer by a number (`sum`, `difference`). `MaybeNull` if an operand of a 64-bit sum or difference is a look-up's result that may be
-/// null, `OffsetTooLarge` if a pointer may be moved too far (`pointer_moved`), `PointerArithmetic` for all other operands.
+/// The kind of an operator's result, of 64 bits (`wide`) or 32, on the destination, of kind `a`, and the source, of kind `b`. A move does
+/// not read the destination, and for it `a` is the kind of the number 0. The caller has found both readable, which is not required: a
+/// 64-bit move would copy an unreadable kind, and the other operators reject it. Allowed are a 64-bit move of any value, each operator on
+/// two numbers, and 64-bit sums and differences that move a pointer into a value by a number, or a stack pointer by a constant. `MaybeNull`
+/// if an operand of a 64-bit sum or difference is a look-up's result that may be null. `OffsetTooLarge` if such a pointer's offset may then
+/// be more than `FARTHEST_OFFSET` from 0, or the number may have either sign. `PointerArithmetic` for all other operands.
 pub(crate) fn arithmetic(wide: bool, op: AluOp, a: Kind, b: Kind) -> Result<Kind, Reason>
     ensures { result ≡ arithmetic_kind wide op a b }
 {

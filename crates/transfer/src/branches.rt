@@ -44,9 +44,10 @@ pub enum Flow {
     },
 }
 
-/// Sets the kinds of the operands of a comparison to numbers: in the first range of `pair` for `dst`, in the second for `src`, if that is a
-/// register. A constant has no kind in facts. If a register is compared with itself, `compare_numbers` returns `Flow::Either`, which has no
-/// ranges.
+/// Refines the facts on one edge of a comparison of numbers, by the ranges that `pair` has for its operands there. The kind of `dst`
+/// becomes a number in the first range. If `src` is a register, its kind becomes a number in the second; if it is a constant, the second is
+/// not used, since a constant has no kind in facts. No caller has one register as both operands, which would get only the second range: if
+/// a register is compared with itself, `compare_numbers` returns `Flow::Either`, which has no ranges.
 #[inline(always)]
 pub fn set_ranges(facts: &mut Facts, dst: Reg, src: &Operand, pair: (Range, Range))
     ensures { facts.new ≡ with_pair facts.old dst src.now pair }
@@ -57,7 +58,8 @@ pub fn set_ranges(facts: &mut Facts, dst: Reg, src: &Operand, pair: (Range, Rang
     }
 }
 
-/// Whether a register is compared with itself.
+/// Whether a comparison of register `dst` with `src` compares a register with itself; false if `src` is a constant. If it does,
+/// `compare_numbers` refines no range, and both edges count as possible.
 fn is_same(dst: Reg, src: Operand) -> bool
     ensures { result ≡ is_same dst src }
 {
@@ -67,8 +69,9 @@ fn is_same(dst: Reg, src: Operand) -> bool
     }
 }
 
-/// The edges of a comparison of `dst` with `src`. `falls` and `jumps` are the ranges of `dst` and `src` on the falling and on the jumping
-/// edge; `None` for an edge that can't be taken.
+/// The edges of a comparison of two numbers, in `dst` and in `src`, a register or a constant: `Flow::Compares` with these arguments.
+/// `falls` and `jumps` have the ranges of `dst` and of `src`, in this order, on the falling and on the jumping edge; `None` for an edge
+/// that can't be taken. `compare_numbers` calls this with the ranges that `refine` has found, and only if `src` is not the register `dst`.
 fn compared(
     dst: Reg,
     src: &Operand,
@@ -86,8 +89,10 @@ fn compared(
 }
 
 /// The edges of a comparison of two numbers of 64 bits (`wide`) or 32, `dst` in the range `a` and `src` in the range `b`. On each edge both
-/// ranges are refined. If a register is compared with itself, no range changes, and both edges count as possible (`Either`), even if the
-/// condition never or always holds.
+/// ranges are refined; the edge is `None` only if it can't be taken. If a register is compared with itself, no range changes, and both
+/// edges count as possible (`Either`), even if the condition never or always holds. For any facts `f` before the jump, the edges are those
+/// of the definition (`edges`). In `stack`, which `apply` needs, `f` is both before and after the jump, since a comparison changes no
+/// facts.
 #[inline(always)]
 fn compare_numbers(
     wide: bool,
@@ -107,9 +112,11 @@ fn compare_numbers(
     compared(dst, &src, where_not, where_taken)
 }
 
-/// The edges of a test whether a pointer or a map is null; `condition` is `Equal` or `NotEqual`, as the caller has tested. A look-up's
-/// result may be null, and is settled on both edges. Anything else is not null: then a test for `Equal` never jumps, and one for `NotEqual`
-/// always does.
+/// The edges of a test whether a pointer or a map, of the kind `pointer`, is null. `condition` is `Equal`, if the jump is taken on null, or
+/// `NotEqual`, if it is taken on not null; the caller has tested this (`is_null_test`), and any other would count as `Equal`. A look-up's
+/// result (`MaybeValue`) may be null, and is settled on both edges. Anything else is not null: then a test for `Equal` never jumps, and one
+/// for `NotEqual` always does. Both clauses hold for any facts `f`. `stack` has `f` twice, as the facts before and after the test: the test
+/// itself changes no stack slot, and what holds on only one edge is in the result.
 fn test_pointer(condition: Condition, pointer: Kind) -> Flow
     ensures edges { (f : AnyFacts) → edges_of result f ≡ pointer_edges condition f pointer }
     ensures stack { (f : AnyFacts) → KeepsStack result f f }
@@ -127,8 +134,8 @@ fn test_pointer(condition: Condition, pointer: Kind) -> Flow
     }
 }
 
-/// Whether a comparison is a null test: of 64 bits, with the constant 0, for `Equal` or `NotEqual`. No other comparison may have a pointer
-/// or a map as an operand.
+/// Whether a comparison is a null test: of 64 bits (`wide`), with the constant 0 (`src`), for `Equal` or `NotEqual`. The kind of the first
+/// operand is not tested: `branch` calls this only for a pointer or a map, which no other comparison may have as an operand.
 fn is_null_test(wide: bool, condition: Condition, src: Operand) -> bool
     ensures { result ≡ is_null_test wide condition src }
 {
@@ -138,7 +145,9 @@ fn is_null_test(wide: bool, condition: Condition, src: Operand) -> bool
 
 /// The edges of a conditional jump that compares `dst`, of the kind `a`, with `src`, of the kind `b`: 64 bits (`wide`) or 32.
 /// `PointerComparison` unless both are numbers, or `dst` is no number and this is a null test of it. The caller has rejected operands that
-/// may not be read.
+/// may not be read, which the contract does not require. In the contract `f` is any facts before the jump, since they do not decide the
+/// flow: by `ok` and `refused` the result is that of the definition (`branch_edges`) with each `f`. The jump changes no stack slot:
+/// `KeepsStack` in `stack` takes the facts before and the facts after, and both are `f`.
 #[inline(always)]
 pub(crate) fn branch(
     wide: bool,

@@ -22,8 +22,8 @@ pub(crate) struct ShapedMap {
     shape: MapShape,
 }
 
-/// The descriptor and the shape of the map that a helper gets as an argument of this kind. `HelperArgument` if the kind is not that of a
-/// map, or if its descriptor names no map.
+/// The descriptor and the shape of the map that a helper gets as its first argument, a register of this kind. The error `HelperArgument`, a
+/// reason to reject the call, if the kind is not that of a map (`MapRef`), or if its descriptor names no map in `named`.
 fn argument_map(named: &[Named], kind: Kind) -> Result<ShapedMap, Reason>
     ensures { result ≡ argument_map (shapes_named named.now) kind }
 {
@@ -36,14 +36,16 @@ fn argument_map(named: &[Named], kind: Kind) -> Result<ShapedMap, Reason>
     }
 }
 
-/// The sum of an offset and a distance `by` in bytes, which may be negative. It can't overflow in 64 bits.
+/// The offset in a value, in bytes, of an access that is `by` bytes from a pointer with `offset`: their sum. Each of the three may be
+/// negative. The sum can't overflow in 64 bits.
 pub(crate) fn moved_by(offset: i32, by: i16) -> i64
     ensures { result ≡ offset +ℤ by }
 {
     i64::from(offset) + i64::from(by)
 }
 
-/// Checks that `count` bytes, at each offset from `low` to `last`, lie in a value of `size` bytes. `OutsideValue` if not.
+/// Checks that an access of `count` bytes lies in a value of `size` bytes at each offset from `low` to `last`, both included.
+/// `OutsideValue` if not. Only the ends are tested: `low` is not negative, and the access at `last` ends within `size`.
 fn room_in(low: i64, last: i64, count: u32, size: u32) -> Result<(), Reason>
     ensures { result ≡ (if int_le (pos 0) low && int_le (last +ℤ pos count) (pos size) then Ok tt
         else Err OutsideValue) }
@@ -57,8 +59,10 @@ fn room_in(low: i64, last: i64, count: u32, size: u32) -> Result<(), Reason>
     Ok(())
 }
 
-/// Checks that the `count` bytes that start `offset` bytes from a pointer lie in its value, for each offset that the pointer may have.
-/// `OutsideValue` if not, or if the descriptor of the pointer names no map.
+/// Checks an access of `count` bytes through a pointer into the value of a map: it starts `offset` bytes after the pointer, or before it if
+/// `offset` is negative. The pointer's own offset may be any from `pointer.lo` to `pointer.hi`, and for each of them all the bytes have to
+/// lie in the value. `OutsideValue` if they don't, or if the pointer's descriptor names no map in `named`, a list of descriptors and their
+/// objects.
 pub(crate) fn check_room(
     named: &[Named],
     pointer: ValuePointer,
@@ -75,9 +79,11 @@ pub(crate) fn check_room(
     room_in(low, last, count, shape.value_size)
 }
 
-/// Checks that an argument of this kind points to `count` bytes that a helper may read. `named` lists the open descriptors and their
-/// objects. The error is that of `check_read` for a pointer into the stack, `OutsideValue` for one into a value (`check_room`), `MaybeNull`
-/// for the result of a look-up that may be null, and `HelperArgument` for anything else.
+/// Checks that an argument of this kind points to `count` bytes that a helper may read. `facts` are those before the call, and `named`
+/// lists the open descriptors and their objects. The errors for a pointer into the stack, the first that applies: the bytes don't all lie
+/// in the stack (`OutsideStack`), they touch a spill (`PartOfSpill`), one may be unwritten (`UnwrittenStack`). For a pointer into a value:
+/// the bytes may lie outside, or its descriptor names no map (`OutsideValue`). `MaybeNull` for the result of a look-up that may be null,
+/// and `HelperArgument` for anything else.
 fn check_input(named: &[Named], facts: &Facts, count: u32, kind: Kind) -> Result<(), Reason>
     ensures { result ≡ input_kind (shapes_named named.now) facts.now count kind }
 {
@@ -89,10 +95,11 @@ fn check_input(named: &[Named], facts: &Facts, count: u32, kind: Kind) -> Result
     }
 }
 
-/// Updates the facts for a write of `length.lo` to `length.hi` bytes at an address of this kind; in the value of a map no fact changes.
-/// `check_length` has bounded the length, so it fits in 32 bits. The errors, after which no fact has changed: `OutsideStack` or
-/// `OutsideValue` if `length.hi` bytes don't all lie in the stack or in the value, or the value's descriptor names no map (`check_room`);
-/// `MaybeNull` for a look-up that may be null; `HelperArgument` for any other kind.
+/// Updates the facts for a helper's write of `length.lo` to `length.hi` bytes at an address of this kind. In the stack the first
+/// `length.lo` bytes count as written, and a spill that the first `length.hi` bytes touch is lost; in the value of a map no fact changes.
+/// `check_length` has bounded the length, so it fits in 32 bits. The errors, after which no fact has changed (`stays`): `OutsideStack` or
+/// `OutsideValue` if `length.hi` bytes don't all lie in the stack or in the value, or `named`, the open descriptors, has no map for the
+/// value's descriptor (`check_room`); `MaybeNull` for the result of a look-up that may be null; `HelperArgument` for any other kind.
 fn output(facts: &mut Facts, named: &[Named], length: Range, kind: Kind) -> Result<(), Reason>
     requires { length.hi < lengths_end }
     ensures ok { OnOk result (output_facts (shapes_named named.now) facts.old length kind
@@ -109,7 +116,8 @@ fn output(facts: &mut Facts, named: &[Named], length: Range, kind: Kind) -> Resu
     }
 }
 
-/// The range of an argument that has to be a number. `HelperArgument` if it is none.
+/// The range of an argument that has to be a number: the flags of an update, or the offset of a load of bytes. Any number is allowed, so
+/// `call` ignores the range. `HelperArgument` if the argument is no number.
 fn check_number(kind: Kind) -> Result<Range, Reason>
     ensures { result ≡ number_range kind }
 {
@@ -119,8 +127,9 @@ fn check_number(kind: Kind) -> Result<Range, Reason>
     }
 }
 
-/// The range of a length argument. `LengthUnbounded` unless all of it is above 0 and below `LENGTHS_END`; `HelperArgument` if it is no
-/// number.
+/// The range of a length argument: how many bytes the helper `LoadBytes` writes. `LengthUnbounded` if the length may be 0, or `LENGTHS_END`
+/// or more; `HelperArgument` if the argument is no number. By `bound` each length of the range is below `LENGTHS_END`, as `output`
+/// requires, so it fits in 32 bits.
 fn check_length(kind: Kind) -> Result<Range, Reason>
     ensures value { result ≡ length_range kind }
     ensures bound { IfOk result (λ r. r.hi < lengths_end) }
@@ -135,7 +144,8 @@ fn check_length(kind: Kind) -> Result<Range, Reason>
     }
 }
 
-/// Checks that an argument is the context. `HelperArgument` if not.
+/// Checks the first argument of a call of the helper that loads bytes of the packet (`LoadBytes`): `Ok` if its kind is `Ctx`, the pointer
+/// to the context, `HelperArgument` for any other kind. The definition `context_kind` has these two cases.
 fn check_context(kind: Kind) -> Result<(), Reason>
     ensures { result ≡ context_kind kind }
 {
@@ -145,17 +155,19 @@ fn check_context(kind: Kind) -> Result<(), Reason>
     }
 }
 
-/// The kind of all 64-bit numbers.
+/// The kind of a number of 64 bits that may be any: the result of each helper but a look-up.
 fn any_number() -> Kind
     ensures { result ≡ any_number }
 {
     Kind::Scalar(Range::full(true))
 }
 
-/// Updates the facts for a call of `helper` at `slot`. The result of a look-up has `slot` as its site; that of any other helper is any
-/// number. The error is the reason of the first condition that fails; then the facts are unchanged. The arguments, in registers 1 to 4, are
-/// a map, a key, and for `Update` a value and flags; for `LoadBytes` the context, an offset in the packet, which may be any number, a
-/// pointer to room for the bytes, and their number.
+/// Updates the facts for a call of `helper` at `slot`; `named` lists the objects of the open descriptors. The arguments, in registers 1 to
+/// 4, are a map, a pointer to a key, and for `Update` a pointer to a value and flags; for `LoadBytes` the context, an offset in the packet,
+/// which may be any number, a pointer to room for the bytes, and their number, which is checked before the pointer. The result of a look-up
+/// has `slot` as its site; that of any other helper is any number. The error, after which the facts are unchanged, is the first that
+/// applies: `UnreadableRegister`; then for each argument `HelperArgument` for a wrong kind, `MaybeNull` for a pointer that may be null,
+/// `OutsideStack`, `PartOfSpill`, `UnwrittenStack` or `OutsideValue` for the bytes at a pointer, `LengthUnbounded` for their number.
 pub(crate) fn call(
     facts: &mut Facts,
     named: &[Named],

@@ -33,7 +33,9 @@ use words::{AccessSize, AluOp, Operator};
 /// The size of the context in bytes: each of its words has four.
 const CONTEXT_SIZE: i16 = 4 * CONTEXT_WORDS as i16;
 
-/// A constant as a machine word: sign-extended if `wide`, else modulo 2^32.
+/// The constant operand of an instruction, its immediate `imm`, as a machine word. An instruction of 64 bits (`wide`) sign-extends the
+/// constant; one of 32 bits (not `wide`) takes it modulo 2^32, so that the upper half of the word is zero. In both cases the word is the
+/// constant modulo 2^64 or 2^32, its width (`unsigned`).
 fn constant_word(wide: bool, imm: i32) -> u64
     ensures { result ≡ unsigned (width wide) imm }
 {
@@ -44,7 +46,9 @@ fn constant_word(wide: bool, imm: i32) -> u64
     }
 }
 
-/// The kind of the second operand. An instruction of 64 bits (`wide`) sign-extends a constant, one of 32 bits reads it modulo 2^32.
+/// The kind of the second operand `src` of an instruction: of a register its kind in `facts`, those before the instruction, of a constant
+/// the range of one number. An instruction of 64 bits (`wide`) sign-extends a constant, one of 32 bits reads it modulo 2^32. The kind may
+/// be `Unreadable`, for which callers test (`check_readable`).
 #[inline(always)]
 fn source(facts: &Facts, wide: bool, src: &Operand) -> Kind
     ensures { result ≡ source_kind facts.now wide src.now }
@@ -84,8 +88,9 @@ fn context_read(offset: i16, size: AccessSize, signed: bool) -> Result<Kind, Rea
     }
 }
 
-/// The offset of a stack access, `offset` bytes from a pointer at offset `from`. `OutsideStack` if it does not fit in 32 bits: no byte
-/// there is in the stack. An offset that fits is checked by the access itself.
+/// The offset from the stack's upper end of an access, which is `offset` bytes from a pointer at offset `from`. `OutsideStack` if the sum
+/// does not fit in 32 bits: then no bytes from there on lie in the stack, for any number `n` of them (`outside`). A sum that fits may also
+/// be outside the stack: `read_stack`, `write_stack` and `change_stack` check that.
 fn stack_offset(from: i32, offset: i16) -> Result<i32, Reason>
     ensures ok { IfOk result (λ at. at ≡ from +ℤ offset) }
     ensures outside { IfErr result (λ reason. (reason ≡ OutsideStack)
@@ -95,9 +100,11 @@ fn stack_offset(from: i32, offset: i16) -> Result<i32, Reason>
         .ok_or(Reason::OutsideStack)
 }
 
-/// The kind of a value that is loaded `offset` bytes from an address of the kind `base`, which the caller has found readable. A number is
-/// sign-extended (`signed`) or zero-extended. `named` lists the objects of descriptors. The error is that of `read_stack` for the stack, of
-/// `context_read` for the context, and of `check_room` for a value; `MaybeNull` for a look-up's result that may be null; else `NotPointer`.
+/// The kind of a value loaded `offset` bytes from an address of the kind `base`; a number is sign-extended (`signed`) or zero-extended.
+/// `named` lists the objects of descriptors. The error is the first that applies. In the stack: bytes not in it (`OutsideStack`), not
+/// aligned to the size (`UnalignedStack`), only some of a spill (`PartOfSpill`), or maybe unwritten (`UnwrittenStack`). In the context: not
+/// one of its four-byte words, or `signed` (`ContextAccess`). In a map's value: bytes maybe outside it (`OutsideValue`). `MaybeNull` for a
+/// look-up's result that may be null; else `NotPointer`, also if `base` is unreadable (`apply` rejects that).
 #[inline(always)]
 fn load(
     facts: &Facts,
@@ -125,8 +132,9 @@ fn load(
     }
 }
 
-/// Checks that a value of this kind may be stored outside the stack, in the value of a map. `PointerStored` for a pointer or a map, which
-/// only the stack keeps whole. An unreadable value passes this check: the caller of `store` has rejected it.
+/// Checks that a value of this kind may be stored outside the stack, in the value of a map. The error is `PointerStored` for a pointer,
+/// also one that may be null, and for a map: only the stack keeps these whole. A number passes; an unreadable value too, since the caller
+/// of `store` has rejected it before.
 fn check_stored_in_map(value: Kind) -> Result<(), Reason>
     ensures { result ≡ (if is_pointer value then Err PointerStored else Ok tt) }
 {
@@ -137,12 +145,14 @@ fn check_stored_in_map(value: Kind) -> Result<(), Reason>
     }
 }
 
-/// Updates the facts for a store of a value of the kind `value`, `offset` bytes from an address of the kind `base`. The caller has tested
-/// that the address and the value may be read. `named` lists the objects of descriptors. Returns the one stack slot that the store may
-/// change; `None` for a store into the value of a map, which changes no fact. After an error no fact has changed. A store to the stack has
-/// the errors of `stack_offset` and `write_stack`, and a store into a value those of `check_room` (`OutsideValue`) and
-/// `check_stored_in_map` (`PointerStored`). Any other `base` is an error: `ContextAccess` for the context, `MaybeNull` for a look-up's
-/// result that may be null, else `NotPointer`.
+/// Updates the facts for a store of `size` of a value of the kind `value`, `offset` bytes from an address of the kind `base`, as
+/// `store_facts` defines. `apply` has found both kinds readable, which the contract does not require: if the stored value is unreadable, a
+/// store to the stack is the error `UnreadableRegister`, and one into a map is allowed. `named` lists what each open descriptor names.
+/// Returns the one stack slot that the store may change (`stack`), or `None` for a store into the value of a map, which changes no fact.
+/// The error is the first that applies, and then no fact has changed (`stays`). On the stack: the bytes are not in the stack
+/// (`OutsideStack`), they are not aligned to the size (`UnalignedStack`), or a pointer or a map is not stored by eight bytes
+/// (`PartOfSpill`). In the value of a map: the bytes may be outside (`OutsideValue`), or a pointer or a map is stored (`PointerStored`).
+/// For any other `base`: `ContextAccess` for the context, `MaybeNull` for a look-up's result that may be null, else `NotPointer`.
 #[inline(always)]
 fn store(
     facts: &mut Facts,
@@ -190,9 +200,11 @@ fn number_or(reason: Reason, value: Kind) -> Result<(), Reason>
     }
 }
 
-/// Updates the facts for an atomic operation at `offset` from the stack's upper end: it loads a number, and may store any number. Returns
-/// the stack slot, the only one that may change. The errors, after which no fact has changed, are those of `read_stack`, and `PartOfSpill`
-/// also if the bytes are a whole spill.
+/// Updates the facts for an atomic operation on `size` bytes of the stack, at `offset` from its upper end: it loads a number, and may store
+/// any number. Returns the index of its stack slot, the only one that may change (`stack`). After an error no fact has changed (`stays`).
+/// The error is the first that applies: the bytes are not in the stack (`OutsideStack`), or not aligned to the size (`UnalignedStack`);
+/// they are only some bytes of a spill, or a whole spill that is no number (`PartOfSpill`); one of them may be unwritten
+/// (`UnwrittenStack`).
 fn change_stack(facts: &mut Facts, offset: i32, size: AccessSize) -> Result<usize, Reason>
     ensures ok { OnOk result (stack_changed facts.old offset size ≡ Ok facts.new) }
     ensures stack { IfOk result (λ slot. ChangesAtMost (Some slot) facts.old facts.new) }
@@ -204,28 +216,34 @@ fn change_stack(facts: &mut Facts, offset: i32, size: AccessSize) -> Result<usiz
     write_stack(facts, offset, size, Kind::Scalar(Range::full(true)))
 }
 
-/// Whether an offset, which may be negative, is a multiple of the bytes of a size.
+/// Whether an offset in bytes, which may be negative, is a multiple of the number of bytes of `size`: 1, 2, 4 or 8. The offset of an atomic
+/// operation in the value of a map has to be such a multiple (`is_known_multiple`). The sign makes no difference, so the absolute value is
+/// tested.
 fn is_multiple(offset: i64, size: AccessSize) -> bool
     ensures { result ≡ (unsigned_abs offset % bytes_of size == 0) }
 {
     offset.unsigned_abs() % u64::from(size.bytes()) == 0
 }
 
-/// Whether the offset of an access, `offset` bytes from a pointer into a value, is known and a multiple of the size.
+/// Whether an access, `offset` bytes from a pointer into a map's value, is known to be aligned: the pointer has only one offset in the
+/// value (`lo` is `hi`), and the access begins at an offset in the value that is a multiple of the number of bytes of `size`. If not,
+/// `change` rejects an atomic operation in the value (`UnalignedAtomic`).
 fn is_known_multiple(pointer: ValuePointer, offset: i16, size: AccessSize) -> bool
     ensures { result ≡ is_known_multiple pointer offset size }
 {
     pointer.lo == pointer.hi && is_multiple(moved_by(pointer.lo, offset), size)
 }
 
-/// Updates the facts for an atomic operation with an operand of the kind `value`, `offset` bytes from an address of the kind `base`; both
-/// may be read, as the caller has tested. `named` lists the objects of descriptors. Returns the stack slot that the operation may change;
-/// `None` in the value of a map, since no fact changes. After an error no fact has changed. The error is the first that applies. In the
-/// stack: the operand is no number (`PointerArithmetic`); the bytes are not in the stack (`OutsideStack`), or not aligned to the size
-/// (`UnalignedStack`); they are only some bytes of a spill, or a whole spill that is no number (`PartOfSpill`); one may be unwritten
-/// (`UnwrittenStack`). In a map's value: the operand is no number (`PointerArithmetic`); the bytes may be outside (`OutsideValue`); the
-/// offset is not known, or no multiple of the size (`UnalignedAtomic`). For other kinds of `base`: `ContextAccess` for the context,
-/// `MaybeNull` for a look-up's result that may be null, else `NotPointer`.
+/// Updates the facts for an atomic operation with an operand of the kind `value`, `offset` bytes from an address of the kind `base`.
+/// `atomic_facts` defines the facts afterwards (`ok`) and the error (`refused`). The caller has tested that both kinds may be read. The
+/// contract does not require this: an unreadable address is no pointer, and an unreadable operand is no number. `named` lists the objects
+/// of descriptors. Returns the stack slot that the operation may change, the only one (`stack`); `None` in the value of a map, since no
+/// fact changes. After an error no fact has changed (`stays`). The error is the first that applies. In the stack: the operand is no number
+/// (`PointerArithmetic`); the bytes are not in the stack (`OutsideStack`), or not aligned to the size (`UnalignedStack`); they are only
+/// some bytes of a spill, or a whole spill that is no number (`PartOfSpill`); one may be unwritten (`UnwrittenStack`). In a map's value:
+/// the operand is no number (`PointerArithmetic`); the bytes may be outside (`OutsideValue`); the offset is not known, or no multiple of
+/// the size (`UnalignedAtomic`). For other kinds of `base`: `ContextAccess` for the context, `MaybeNull` for a look-up's result that may be
+/// null, else `NotPointer`.
 fn change(
     facts: &mut Facts,
     named: &[Named],
@@ -263,7 +281,9 @@ fn change(
     }
 }
 
-/// The `Kind` of a register that has the map of this descriptor. `DescriptorNotMap` if the descriptor names no map.
+/// The `Kind` of the register into which an instruction loads the map of this descriptor: `MapRef` of the descriptor. `named` lists
+/// descriptors and the objects that they name. `DescriptorNotMap` if `descriptor` is not in the list, or names a program: the check of a
+/// program's shape has excluded this.
 fn map_of(named: &[Named], descriptor: u32) -> Result<Kind, Reason>
     ensures { result ≡ map_of descriptor (shapes_named named.now descriptor) }
 {
@@ -273,7 +293,8 @@ fn map_of(named: &[Named], descriptor: u32) -> Result<Kind, Reason>
     }
 }
 
-/// An offset in a value as a signed number. It is below `longest_value`, so the cast does not change it.
+/// An offset in a value, in bytes, as a signed number, since that of a pointer into a value may be negative. It is below `longest_value`,
+/// the length of the longest value (`LONGEST_VALUE`), so the cast does not change it.
 fn signed_offset(offset: u32) -> i32
     requires { offset < longest_value }
     ensures { result ≡ pos offset }
@@ -281,8 +302,10 @@ fn signed_offset(offset: u32) -> i32
     offset as i32
 }
 
-/// The kind of a pointer to byte `offset` of a map's direct value, which only an array with one index has. `DescriptorNotMap` if the
-/// descriptor names no map, `NoDirectValue` if the map has no direct value, or `offset` lies outside it.
+/// The kind of what `MapValue`, a wide load, puts into its register: a pointer to byte `offset` of the direct value of the map that
+/// `descriptor` names in `named`. Only an array with one index has a direct value: that of this index, which a program reaches without a
+/// call. The pointer's offset is known, so its bounds are equal (`at` twice). `DescriptorNotMap` if the descriptor names no map,
+/// `NoDirectValue` if the map has no direct value, or `offset` lies outside it.
 #[tactic(auto, unfolding(crate::specs::Effects::value_of))]
 fn value_of(named: &[Named], descriptor: u32, offset: u32) -> Result<Kind, Reason>
     ensures { result ≡ value_of descriptor offset (shapes_named named.now descriptor) }
@@ -297,7 +320,8 @@ fn value_of(named: &[Named], descriptor: u32, offset: u32) -> Result<Kind, Reaso
     Ok(Kind::Value(ValuePointer::new(descriptor, at, at)))
 }
 
-/// Sets the kind of the destination register, and returns the falling edge, the only one after a load.
+/// Updates the facts for a load, from memory or of a constant, a map or an address in one: sets the kind of its destination register,
+/// `dst`, to `kind`, that of the loaded value. Returns `Falls`: the falling edge is the only one after a load, which changes no stack slot.
 #[inline(always)]
 fn assign(facts: &mut Facts, dst: Reg, kind: Kind) -> Flow
     ensures flow { result ≡ Falls }
@@ -307,7 +331,9 @@ fn assign(facts: &mut Facts, dst: Reg, kind: Kind) -> Flow
     Flow::Falls
 }
 
-/// The falling edge, after an instruction that may change only the stack slot `slot`, or no stack slot if `slot` is `None`.
+/// The flow after a store or an atomic operation: `WritesSlot` if it may change only the stack slot `slot`, `Falls` if it changes none
+/// (`None`). Both have only the falling edge, with the facts `f` after the instruction (`edges`). `stack`: if facts `g` after it differ
+/// from facts `f` before it at most in that stack slot (`ChangesAtMost`), the flow allows this difference (`KeepsStack`).
 #[inline(always)]
 fn flow_after_write(slot: Option<usize>) -> Flow
     ensures edges { (f : AnyFacts) → edges_of result f ≡ edges_of Falls f }
@@ -319,8 +345,9 @@ fn flow_after_write(slot: Option<usize>) -> Flow
     }
 }
 
-/// The ranges of both operands, that of `dst` first; `None` unless both are numbers. A constant is sign-extended to 64 bits (`wide`) or
-/// taken modulo 2^32. The range of a register is that of all its 64 bits, also if `wide` is false.
+/// The ranges of both operands, first that of the destination `dst`, from which `operate` computes the range of the result; `None` unless
+/// both are numbers. The contract promises nothing of `None`. A constant is sign-extended to 64 bits if `wide` (an operator of 64 bits),
+/// else taken modulo 2^32. The range of a register is that of all its 64 bits, also if `wide` is false.
 #[inline(always)]
 fn operand_ranges(facts: &Facts, wide: bool, dst: Reg, src: &Operand) -> Option<(Range, Range)>
     ensures numbers { IfSome result (λ p. (kind_at facts.now dst ≡ Scalar p.0)
@@ -338,8 +365,10 @@ fn operand_ranges(facts: &Facts, wide: bool, dst: Reg, src: &Operand) -> Option<
     }
 }
 
-/// Updates the facts for an operator of two operands, of 64 bits (`wide`) or 32. The error, after which no fact has changed, is
-/// `UnreadableRegister` if the operator reads an operand that may not be read, else that of `arithmetic`. Out of line: `operate`, which is
+/// Updates the facts for an operator on the operands `dst` and `src`, of 64 bits (`wide`) or 32: `dst` gets the kind of the result, and no
+/// stack slot changes (`stack`). Then `facts` are those on the operator's only edge, to the next instruction (`ok`). The error (`refused`),
+/// after which no fact has changed (`stays`), is `UnreadableRegister` if the operator reads an operand that may not be read (a move does
+/// not read `dst`), else that of `arithmetic`: `MaybeNull`, `OffsetTooLarge` or `PointerArithmetic`. Out of line: `operate`, which is
 /// inlined, calls it only for a move of 32 bits, and for another operator with an operand that is no number.
 #[inline(never)]
 fn operate_on_any(
@@ -362,9 +391,11 @@ fn operate_on_any(
     Ok(())
 }
 
-/// Updates the facts for an operator of two operands, of 64 bits (`wide`) or 32. The error, after which no fact has changed, is
-/// `UnreadableRegister` if the operator reads an operand that may not be read, else that of `arithmetic`. This function does a 64-bit move
-/// itself, and if both operands are numbers, any operator but a move; `operate_on_any` does the rest.
+/// Updates the facts for an operator of two operands, of 64 bits (`wide`) or 32: only the kind of `dst`, no stack slot (`stack`). The new
+/// facts, on the falling edge (`ok`), or the error (`refused`) are those of `operator_edges`; after an error no fact has changed (`stays`).
+/// It is `UnreadableRegister` if the operator reads an operand that may not be read, else that of `arithmetic`: `MaybeNull` if an operand
+/// of a 64-bit sum or difference may be null, `OffsetTooLarge` if a pointer may be moved too far, or `PointerArithmetic`. This function
+/// does a 64-bit move itself, and if both operands are numbers, any operator but a move; `operate_on_any`, not inlined, does the rest.
 #[inline(always)]
 fn operate(facts: &mut Facts, wide: bool, op: AluOp, dst: Reg, src: Operand) -> Result<(), Reason>
     ensures ok { OnOk result (operator_edges wide op dst src facts.old ≡ falls facts.new) }
@@ -388,8 +419,10 @@ fn operate(facts: &mut Facts, wide: bool, op: AluOp, dst: Reg, src: Operand) -> 
     }
 }
 
-/// Updates the facts for an operator of one operand, `src`, of 64 bits (`wide`) or 32, whose result goes to `dst`. `UnreadableRegister` if
-/// `src` may not be read, `PointerArithmetic` if it is no number.
+/// Updates the facts for an operator of one operand, `src`, of 64 bits (`wide`) or 32, whose result goes to `dst`: a sign extension, a
+/// negation or a conversion of byte order. After `Ok` the facts are those on the falling edge, the only one (`ok`), and no stack slot has
+/// changed (`stack`). The error is that of the definition (`refused`): `UnreadableRegister` if `src` may not be read, else
+/// `PointerArithmetic` if it is no number. Then no fact has changed (`stays`).
 #[inline(always)]
 fn operate_on_one(
     facts: &mut Facts,
@@ -409,7 +442,8 @@ fn operate_on_one(
     Ok(())
 }
 
-/// Checks the result at the end of a run: `UnreadableRegister` if register 0 may not be read, `ResultNotScalar` if it is no number.
+/// Checks the result at the end of a run, which register 0 has. After `Ok` the exit may be run, and no edge leads out of it (`ok`). The
+/// error is that of the definition (`refused`): `UnreadableRegister` if register 0 may not be read, `ResultNotScalar` if it is no number.
 fn exit(facts: &Facts) -> Result<(), Reason>
     ensures ok { OnOk result (exit_edges facts.now ≡ ends) }
     ensures refused { IfErr result (λ reason. exit_edges facts.now ≡ Err reason) }
@@ -420,14 +454,15 @@ fn exit(facts: &Facts) -> Result<(), Reason>
     }
 }
 
-/// Applies the transfer function of the instruction at `slot`: `facts`, those before the instruction, become those that hold on each edge
-/// out of the instruction. Returns these edges, with what holds on only one of them (`Flow`). In `facts` no stack slot changes but the one
-/// of `WritesSlot`; after `Writes` any may have changed (`stack`). `named` lists the objects that descriptors name.
+/// Applies the transfer function of `insn`, the instruction at slot `slot` of the program: `facts`, those before the instruction, become
+/// those that hold on each edge out of the instruction (`ok`). Returns these edges, with what holds on only one of them (`Flow`). In
+/// `facts` no stack slot changes but the one that `WritesSlot` names; after `Writes` any may have changed (`stack`). `named` lists the
+/// objects that descriptors name.
 ///
 /// # Errors
 ///
-/// Why the instruction may not be run: the first of its conditions that fails, in the order of the definition of `effect`. Then
-/// `facts` are unchanged.
+/// Why the instruction may not be run: the first of its conditions that fails, in the order of the definition of `effect` (`refused`). Then
+/// `facts` are unchanged (`stays`).
 #[inline(always)]
 pub fn apply(facts: &mut Facts, named: &[Named], slot: usize, insn: &Insn) -> Result<Flow, Reason>
     ensures ok { IfOk result (λ flow. effect (shapes_named named.now) slot insn.now facts.old

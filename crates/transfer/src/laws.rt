@@ -10,8 +10,9 @@ ghost use Rattle.transfer.specs.Effects.{effect};
 ghost use Rattle.transfer.specs.Reasons.{TransferReasons};
 ghost use Rattle.transfer.specs.Sound.{TransferIsSound, TransferKeepsWellFormed, CallsAreSound};
 
-/// A law, soundness: if facts admit a state and let an instruction be run, its step on tagged values is no fault, and the facts on the edge
-/// that it takes admit the state after it.
+/// A law, soundness: if well-formed facts admit a state and allow an instruction that does not jump below slot 0, its step on tagged values
+/// is no fault, and the facts on the edge that it takes admit the state after it. `verifier` applies this law to each step of a run, so no
+/// run of an accepted program faults.
 pub fn transfer_is_sound()
     ensures { TransferIsSound }
 {
@@ -29,9 +30,10 @@ pub fn transfer_is_sound()
     calls_are_sound();
 }
 
-/// A law: if the facts before an instruction are well formed at its slot, those on its edges are well formed at each higher slot, so that
-/// soundness can be applied to the next step. Facts are well formed at a slot if their ranges end below 2^64, their masks have eight bits,
-/// and their look-ups were at lower slots.
+/// A law: if the facts before an instruction are well formed at its slot, those on its edges are well formed at each higher slot. Facts are
+/// well formed at a slot if their ranges end below 2^64, the masks, which say which bytes of a stack slot are written, have eight bits, and
+/// the look-ups whose results may be null were at lower slots. Soundness (`transfer_is_sound`) requires this of the facts before an
+/// instruction, so by this law it can be applied to the next step.
 pub fn transfer_keeps_well_formed()
     ensures { TransferKeepsWellFormed }
 {
@@ -39,15 +41,17 @@ pub fn transfer_keeps_well_formed()
     interval::laws::results_are_words();
 }
 
-/// A law: an instruction is rejected for `UnknownHelper` only if it calls an unknown helper, for `DescriptorNotMap` only if its descriptor
-/// names no map (has no shape), and for `NoDirectValue` only if it loads the address of a direct value and the map has none at the offset.
-/// It is never rejected for another reason of a program's shape, nor for `Memory`.
+/// A law: the transfer function (`effect`) rejects an instruction for `UnknownHelper` only if it calls an unknown helper, for
+/// `DescriptorNotMap` only if its descriptor names no map (has no shape), and for `NoDirectValue` only if it loads the address of a direct
+/// value and the map has none at the offset. It rejects none for the other reasons of a program's shape (`JumpOutside`, `JumpBackward`,
+/// `FallsOff`, `Unreachable`, `FramePointerWritten`, `DescriptorNotOpen`), nor for `Memory`. So in a program without a fault of its shape,
+/// an instruction is rejected only for safety (`safety_follows_shape` of `verifier`).
 pub fn transfer_reasons()
     ensures { TransferReasons }
 {}
 
-/// A law: the definition of an instruction's effect (`effect`) never has the reason `Memory`. So a verifier that returns this reason is
-/// itself out of memory.
+/// A law: if the definition of the effect of instruction `i` at slot `at`, with the facts `f` before it (`effect`), has a reason for which
+/// it may not be run, this is never `Memory`. So a verifier that returns `Memory` is itself out of memory.
 pub fn effects_need_no_memory()
     ensures { (shapes : Shapes) (at : ℕ) (i : Insn) (f : Facts) (reason : Reason)
         → effect shapes at i f ≡ Err reason → reason ≢ Memory }
@@ -55,8 +59,10 @@ pub fn effects_need_no_memory()
     transfer_reasons();
 }
 
-/// A law, soundness of calls: take facts that describe a state (`Describes`) and allow a call of a helper, and whose sites, the slots of
-/// look-ups, are all below the state's slot. Then the call is no fault, and the facts after the call describe the state after the call.
+/// A law, soundness of calls, which `transfer_is_sound` uses. Suppose that facts describe a state (`Describes`: they admit it, its numbers
+/// are in range, and it has the maps of the shapes), that they allow a call of a helper, and that their sites, the slots of look-ups, are
+/// all below the state's slot. Then the call is no fault in this state, and the facts after the call describe the state after it, by a
+/// witness that may be another one.
 pub fn calls_are_sound()
     ensures { CallsAreSound }
 {

@@ -14,7 +14,9 @@ use Rattle.transfer.specs.Branches.{Edges}
 use Rattle.transfer.specs.Effects.{effect}
 use Rattle.verifier.specs.Shape.{falls_into, jumps_into}
 
--- the join of the facts on two edges; those on one if the other has none (None)
+-- the join of the facts that two sources pass on to one slot; each is an edge, a group of edges, or
+-- the entry of the program. None is no facts, if no edge of the source leads to the slot and can be
+-- taken; the result is then the other argument
 abbrev pub joined : Option Facts → Option Facts → Option Facts
 joined None g = g
 joined (Some f) None = Some f

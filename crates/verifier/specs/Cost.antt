@@ -29,7 +29,8 @@ IsPath code at (i ∷ is) =
 
 -- ---- what is counted
 
--- what an instruction names is a helper
+-- whether what an instruction names (`Reference`) is a helper, and not a map, a byte of a map's
+-- first value, or nothing. Only a call names a helper, so calls are counted by this
 abbrev pub is_helper : Reference → Bool
 is_helper names.Nothing = false
 is_helper (names.Helper id) = true

@@ -15,8 +15,10 @@ use Rattle.verifier.specs.declared.refusal.Cause.TheVariants.{Slots, Verdict}
 use Rattle.verifier.specs.declared.refusal.Refusal.{Refusal}
 use Rattle.verifier.specs.Verdict.{IsAccepted, IsRefused}
 
--- the number of a cause: that of the reason, which is below 100, or 100 plus that of the codec's
--- fault
+-- the number of a cause, in the reply to a rejected PROG_LOAD and in the line of a refusal
+-- (`refusal_text`): 100 plus the number of the codec's fault (1 to 8) if the slots are no program
+-- (`Slots`), or the number of the reason, which is below 100, if they are a program that is not
+-- accepted (`Verdict`)
 abbrev pub cause_number : Cause → ℕ
 cause_number (Slots kind) = 100 + fault_number kind
 cause_number (Verdict reason) = number reason

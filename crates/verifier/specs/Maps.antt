@@ -11,7 +11,7 @@ use Rattle.insn_set.specs.Flow.{descriptor}
 abbrev pub without : ℕ → List ℕ → List ℕ
 without fd fds = filter (λ other. not (other == fd)) fds
 
--- each descriptor of a list once, in the order of their first occurrences
+-- the descriptors of a list, each once, in the order of their first occurrences: 3, 5, 3 gives 3, 5
 unfoldable pub distinct : List ℕ → List ℕ
 distinct [] = []
 distinct (fd ∷ fds) = fd ∷ without fd (distinct fds)

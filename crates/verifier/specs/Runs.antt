@@ -22,9 +22,10 @@ executed_by i (ends n) rest = i ∷ []
 executed_by i faults rest = []
 
 -- the instructions that a run executes from state s on. The first argument is the instruction i
--- that begins at the slot of s: its step determines what is executed (`executed_by`). It is None if
--- no instruction begins there, and then none is executed. `rest` has, for a state, what is executed
--- from this state on
+-- that begins at the slot of s, or None if none begins there, which is a fault: then none is
+-- executed. If the step of i leads to a state, the instructions are i and what `rest` has for that
+-- state, which is what is executed from it on. If the step ends the run, only i is executed; if it
+-- is a fault, none (`executed_by`)
 abbrev pub executed_at : Option Insn → RunState → (RunState → List Insn) → List Insn
 executed_at None s rest = []
 executed_at (Some i) s rest = executed_by i (act i s) rest

@@ -24,7 +24,8 @@ use Rattle.insn_set.specs.Flow.{falls_to, jumps_to, falls, jumps, written_regist
 abbrev pub is_first_slot : List Insn → ℕ → Bool
 is_first_slot code n = is_some (begins_at code n)
 
--- there is a number, of a slot or a register, and it is i
+-- the option has a number, and it is i: the slot to which a jump leads, or the register that an
+-- instruction writes. False for None: the slot would be below 0, or no register is written
 abbrev pub is_number : Option ℕ → ℕ → Bool
 is_number None i = false
 is_number (Some n) i = n == i
@@ -38,7 +39,8 @@ falls_into insn n i = falls insn && falls_to insn n == i
 abbrev pub jumps_into : Insn → ℕ → ℕ → Bool
 jumps_into insn n i = jumps insn && is_number (jumps_to insn n) i && nat_lt n i
 
--- an edge of the instruction at slot n, if one begins there, leads to slot i
+-- an edge of the instruction at slot n, falling or jumping, leads to slot i; false if no
+-- instruction begins at slot n (None). A jump to slot n or an earlier one is no edge
 abbrev pub leads_into : Option Insn → ℕ → ℕ → Bool
 leads_into None n i = false
 leads_into (Some insn) n i = falls_into insn n i || jumps_into insn n i
@@ -57,7 +59,8 @@ is_reachable code i = reached_from code i i
 
 -- ---- the faults of an instruction
 
--- an instruction names a helper by a number that no helper has
+-- an instruction names a helper by a number that no helper here has: one other than 1, 2, 3 and 26
+-- (`known_helpers`). False if it names a map, a byte of a map's value, or nothing
 abbrev pub is_unknown_helper : Reference → Bool
 is_unknown_helper names.Nothing = false
 is_unknown_helper (names.Helper id) = not (is_some (helper_of id))
@@ -68,7 +71,7 @@ is_unknown_helper (names.Value fd off) = false
 abbrev pub calls_unknown : Insn → Bool
 calls_unknown i = is_unknown_helper (profile i).reference
 
--- what a descriptor names is a map
+-- whether the object that an open descriptor names is a map, of any shape; false for a program
 abbrev pub is_map : Target → Bool
 is_map (target.Map shape) = true
 is_map target.Program = false
@@ -102,7 +105,9 @@ abbrev pub leads_outside : List Insn → Option ℕ → Bool
 leads_outside code None = true
 leads_outside code (Some n) = not (is_first_slot code n)
 
--- the target of a jump at slot `at` is no later slot; a target below slot 0 is None
+-- whether the target of a jump at slot `at` is `at` itself or an earlier slot: such a jump is
+-- rejected (JumpBackward). None is a target below slot 0, which is earlier too, but `shape_reason`
+-- has rejected it before, as JumpOutside
 abbrev pub leads_backward : Option ℕ → ℕ → Bool
 leads_backward None at = true
 leads_backward (Some n) at = nat_le n at

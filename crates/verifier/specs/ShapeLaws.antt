@@ -19,8 +19,10 @@ use Rattle.verifier.specs.Verdict.{HasNoFault}
 no_reason : (reason : Reason) → Some reason ≡ None → ⊥
 no_reason reason e = cc
 
--- if no condition holds in a list of conditions with their reasons (`first_reason` is None), the
--- first condition does not hold, and none holds in the rest of the list
+-- each item of a list is a condition and the reason of a fault, and `first_reason` is the reason of
+-- the first condition that is true. If it is None for a list, the condition of the first item
+-- (`line`) is false, and it is None for the rest (`lines`) too. So `unrefused_is_fine` concludes,
+-- one after another, that the nine conditions of `shape_reason` are false for an instruction
 passed : (line : Bool × Reason) (lines : List (Bool × Reason))
     → first_reason (line ∷ lines) ≡ None
     → (line.0 ≡ false) × (first_reason lines ≡ None)

@@ -47,7 +47,8 @@ fn calls_of(reference: Reference) -> u16
 }
 
 impl Counts {
-    /// The greater number of instructions, and the greater number of calls, of `self` and `other`.
+    /// The join of the counts of two sets of paths: the greater number of instructions, and the greater number of calls, of `self` and
+    /// `other`. One may be from `self` and the other from `other`.
     #[inline(always)]
     pub(crate) fn greater(self, other: Counts) -> Counts
         ensures instructions { result.instructions ≡ max self.instructions other.instructions }
@@ -75,8 +76,10 @@ impl Counts {
     }
 }
 
-/// Joins `counts`, those of paths that end with a jump to the slot `target`, into the counts that `jumping` has for this slot: of each
-/// count the greater one is kept. `None`, a target below slot 0, changes nothing: its jump was rejected before.
+/// Joins `counts`, those of paths that end with a jump to the slot `target`, into the counts that `jumping` has for this slot: the number
+/// of instructions (`instructions`) and that of calls (`calls`) each become the greater of the two. The counts of other slots are
+/// unchanged. `target` is an index of `jumping`, since the jump has no fault. `None`, a target below slot 0, changes nothing: its jump was
+/// rejected before.
 #[inline(always)]
 fn join_at_target(jumping: &mut [Counts], target: Option<usize>, counts: Counts)
     requires { IfSome target (λ to. to < length jumping.old) }
@@ -102,8 +105,8 @@ pub(crate) struct Paths {
 }
 
 impl Paths {
-    /// The counts when the pass is at slot 0, all 0: the only path to slot 0 has no instruction (`here`), and no path to an exit has been
-    /// found (`ended`).
+    /// The numbers of instructions and of calls of helpers with which the pass over a program's slots begins, at slot 0. All are 0: the
+    /// only path to slot 0 has no instruction (`here`), and no path to an exit has been found (`ended`).
     pub(crate) fn new() -> Paths
         ensures here { result.here ≡ no_counts }
         ensures ended { result.ended ≡ no_counts }
@@ -114,9 +117,9 @@ impl Paths {
         }
     }
 
-    /// Joins `jumping`, the counts of the paths that end with a jump to the slot at which the pass is, into those along the falling edge:
-    /// of each count the greater one is kept. `jumping` is `NO_COUNTS` if there are no such paths. Then nothing changes, so the test only
-    /// saves the comparisons.
+    /// Joins `jumping`, the counts of the paths that end with a jump to the slot at which the pass is, into `here`, those of the paths
+    /// along the falling edge: of each count the greater one is kept. The counts at the exits are unchanged (`ended`). `jumping` is
+    /// `NO_COUNTS`, both counts 0, if no path ends with such a jump. Then nothing changes, so the test only saves the comparisons.
     #[inline(always)]
     pub(crate) fn join(&mut self, jumping: Counts)
         ensures instructions { self.new.here.instructions
@@ -129,7 +132,9 @@ impl Paths {
         }
     }
 
-    /// Whether a path leads to `slot`, which has to be the one at which the pass is. The path to slot 0 has no instruction, any other has.
+    /// Whether a path from slot 0 leads to `slot`, the slot at which the pass is. The path to slot 0 has no instruction, any other has
+    /// (`have_instructions`). A path that ends with a jump to `slot` counts only after `join`. No clause requires that the pass is at
+    /// `slot`: the caller requires that the result is then `is_reachable` (`LeadTo`).
     #[inline(always)]
     pub(crate) fn lead_to(&self, slot: usize) -> bool
         ensures { result ≡ (nat_lt 0 self.now.here.instructions || slot == 0) }
@@ -137,9 +142,10 @@ impl Paths {
         self.have_instructions() || slot == 0
     }
 
-    /// Whether a path with at least one instruction leads to the slot at which the pass is; the instruction at that slot is not counted. A
-    /// path that ends with a jump to this slot counts only after the call of `join`. `false` at slot 0: the only path there has no
-    /// instruction.
+    /// Whether a path with at least one instruction leads to the slot at which the pass is; the instruction at that slot is not counted. By
+    /// the clause the most instructions on a path there (`here`) are more than 0. A path that ends with a jump to this slot counts only
+    /// after the call of `join`. `false` at slot 0: the only path there has no instruction. `is_simple` calls this, a quick test without
+    /// the slot's number; `lead_to` is also true at slot 0.
     #[inline(always)]
     pub(crate) fn have_instructions(&self) -> bool
         ensures { result ≡ nat_lt 0 self.now.here.instructions }
@@ -147,8 +153,10 @@ impl Paths {
         self.here.instructions > 0
     }
 
-    /// Adds a simple instruction, one that is no call and whose only successor is the next one, to the paths that lead to it (`here`); the
-    /// paths to the exits (`ended`) stay. The paths have at most `MAX_SLOTS` instructions, so the count does not overflow.
+    /// Adds a simple instruction, one that is no call and whose only successor is the next one, to the paths that lead to it: `here`, their
+    /// counts, has one instruction more and as many calls as before, and `ended`, the counts of the paths to the exits, is unchanged.
+    /// `add`, for any other instruction, tests more. By the precondition the paths have at most `MAX_SLOTS` instructions, so the count, of
+    /// 16 bits, does not overflow.
     #[inline(always)]
     pub(crate) fn add_simple(&mut self)
         requires { self.old.here.instructions ≤ MAX_SLOTS }
@@ -159,11 +167,13 @@ impl Paths {
         self.here.instructions += 1;
     }
 
-    /// Adds the instruction at `slot` to the paths on which control reaches this slot (`here`); `row` is the profile of the instruction.
-    /// The sums, the counts with this instruction, are joined into the counts at the jump's target in `jumping` if the instruction may
-    /// jump, and into the counts at the exits (`ended`) if the instruction is an exit. Then `here` has the counts along the falling edge:
-    /// the sums, or `NO_COUNTS` if there is no such edge. The target is a slot of the program, since the instruction has no fault. By `few`
-    /// neither count is above `MAX_SLOTS`, so no sum overflows. Only the contract needs `insn`.
+    /// Adds `insn`, the instruction at `slot`, to the paths on which control reaches this slot (`here`). The new counts have one
+    /// instruction more than `here`, and one call more if `insn` calls a helper. If it may jump, they are joined into the counts at its
+    /// target in `jumping`: of each count the greater one is kept. If it is an exit, they are joined so into the counts at the exits
+    /// (`ended`). Then `here` has the counts along the falling edge: the new ones, or `NO_COUNTS` if there is no such edge (`IsAdded`).
+    /// `row` is the profile of `insn`; only the contract needs `insn`. By `room` the number of the next slot does not overflow. By `lands`
+    /// the target is a slot of the program: the caller has found no fault in the instruction. By `few` neither count of `here` is above
+    /// `MAX_SLOTS`, so no new one overflows.
     #[inline(always)]
     pub(crate) fn add(&mut self, jumping: &mut [Counts], insn: &Insn, row: &Profile, slot: usize)
         requires room { slot ≤ MAX_SLOTS }
@@ -190,7 +200,9 @@ impl Paths {
         }
     }
 
-    /// The cost of the program, after the pass: the most instructions, and the most calls of helpers, on a path to an exit.
+    /// The cost of the program: the most instructions, and the most calls of helpers, on a path to an exit. These are the counts `ended`,
+    /// those of the exits that the pass has found so far: `check_shape`, the only caller, calls this function after its pass over all
+    /// slots. A count has 16 bits in `Paths`, and 32 in `Cost`.
     pub(crate) fn cost(&self) -> Cost
         ensures instructions { result.instructions ≡ self.now.ended.instructions }
         ensures calls { result.calls ≡ self.now.ended.calls }

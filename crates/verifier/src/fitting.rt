@@ -26,13 +26,15 @@ pub enum ReplaceFault {
 impl From<AllocError> for ReplaceFault {
     ghost from_gives = { λ _ fault. fault ≡ Memory };
 
-    /// `Memory`: out of memory.
+    /// Converts the error of an allocation, for the `?` in `replace_objects`. An allocation fails only if out of memory, so the fault is
+    /// `Memory`.
     fn from(_error: AllocError) -> ReplaceFault {
         ReplaceFault::Memory
     }
 }
 
-/// Whether `one` and `other` are the same shape, or both `None`.
+/// Whether `one` and `other` are the same shape, or both `None`. It is a function of its own, so that only its proof has to show that `==`
+/// on shapes is equality.
 fn is_same(one: Option<MapShape>, other: Option<MapShape>) -> bool
     ensures { IsTrue result ↔ one ≡ other }
 {
@@ -40,16 +42,18 @@ fn is_same(one: Option<MapShape>, other: Option<MapShape>) -> bool
 }
 
 impl Verified {
-    /// Whether the program loads a map, or a value of one, by the descriptor `fd`, and this map had the shape `shape` when the program was
-    /// accepted. With `None`: whether the program loads neither by this descriptor.
+    /// Whether `shape` is the shape that the map of descriptor `fd` had when the program was accepted (`shapes_in`). That shape is `None`
+    /// if the program loads neither a map nor an address in a map's value by `fd`. The functions `fits`, here and in `tenant`, pass the
+    /// shape of the map that `fd` names now: if the shapes of all maps of the program are those of then, it is not verified again.
     pub fn has_shape(&self, fd: u32, shape: Option<MapShape>) -> bool
         ensures { IsTrue result ↔ shape ≡ shapes_in self.now fd }
     {
         is_same(shape, shape_of(&self.found.objects, fd))
     }
 
-    /// Whether each descriptor of the program's maps names, in the list `named`, a map of the shape with which the program was accepted.
-    /// The search ends at the first that does not.
+    /// Whether each descriptor of the program's maps names, in the list `named`, a map of the shape with which the program was accepted
+    /// (`Fits`). If so, the program is accepted with the objects of `named` too, so `replace_objects` does not verify it again. The search
+    /// ends at the first descriptor that names no such map.
     fn fits(&self, named: &[Named]) -> bool
         ensures { IsTrue result ↔ Fits self.now named.now }
     {
@@ -61,8 +65,10 @@ impl Verified {
         true
     }
 
-    /// Replaces the maps with which the program was accepted by those that its descriptors name in `named`, the open descriptors, if these
-    /// have the same shapes. The program is accepted with them too, and is then what `verify_slots` gives for its slots and `named`.
+    /// Replaces the maps with which the program was accepted by those that its descriptors name in `named`, the open descriptors with their
+    /// objects. So a prepared program can be installed without a second verification. The new maps need the shapes of the old ones
+    /// (`fits`). By `code` the instructions are unchanged, by `judged` the program is accepted with `named` too, and by `objects` it has
+    /// the entries of `named` for the descriptors of its maps: so it is what `verify_slots` gives for its slots and `named`.
     ///
     /// # Errors
     ///

@@ -27,11 +27,12 @@ pub(crate) struct Findings {
     pub(crate) cost: Cost,
 }
 
-/// Verifies a program: first its shape, then in one pass its safety. In this pass `watcher` receives the facts before each instruction that
-/// a run may reach, by slot, up to and with the first that has a fault. Returns the program's maps, their objects and its cost. `named`
-/// lists the open descriptors and their objects; `check_safety` receives only those of the program's maps. The error is the first fault, or
-/// out of memory. The facts that a rejected program leaves in `working` are removed, so that the verification of the next program, which
-/// may be of another tenant, does not take longer.
+/// Verifies a program: first its shape, then in one pass its safety. `named` lists the open descriptors and their objects; `check_safety`
+/// receives only those of the program's maps. Returns the maps of an accepted program, their objects and its cost. The error is the first
+/// fault, or out of memory (`refused`). In the pass `watcher` receives the facts before each instruction that a run may reach, by slot: all
+/// of them if the program is accepted (`seen`), else those up to and with the first that has a fault, none if the shape has one, and if out
+/// of memory those below some slot (`seen_refused`). The facts that a rejected program leaves in `working` are removed, so that the
+/// verification of the next program, which may be of another tenant, does not take longer.
 pub(crate) fn judge<W: Watcher>(
     alloc: Global,
     program: &Program,

@@ -15,9 +15,11 @@ use reg_kinds::Facts;
 use std::alloc::{AllocError, Global};
 use tagged_model::Named;
 
-/// Joins `facts`, those on a jump to `slot`, into the facts that `entries` has for this slot. If `entries` has facts for no other slot
-/// before, it has facts for no other slot after: facts are kept once for each target, however many jumps lead to it. Each group of eight
-/// stack slots that the join changes gets the new number `fresh`. The error is out of memory.
+/// A known result of `TargetFacts::put`, which joins `facts`, those on a jump to `slot`, into the facts that `entries` has for this slot.
+/// If `entries` has facts for no other slot before (`alone`), it has facts for no other slot after, unless the call fails (`OnOk`): facts
+/// are kept once for each target, however many jumps lead to it. `slot` is less than `MAX_SLOTS` (`within`). `put` gives each group of
+/// eight stack slots that the join changes the new number `fresh`, since groups with one index and one number are equal in all facts of a
+/// pass (`NumberedFacts`). The error is out of memory.
 fn one_entry(
     entries: &mut TargetFacts,
     slot: usize,
@@ -42,15 +44,18 @@ impl Watcher for Notes {
 
     ghost seen = { λ n. Some n.notes.items };
 
-    /// Appends the slot and the facts before it to the notes. `AllocError`: out of memory.
+    /// Receives the facts before the instruction at `slot` from the pass of `verify_watched`, which calls this function once for each slot
+    /// that a run may reach. Appends the slot and the facts to `notes`, by which contracts see what was received (`seen`). `AllocError`:
+    /// out of memory.
     fn before(&mut self, slot: usize, facts: &Facts) -> Result<(), AllocError> {
         self.notes.push((slot, *facts))?;
         Ok(())
     }
 }
 
-/// The slots of an accepted program that a run may reach, each once and in order, with the facts before it (`reached`). The error is why
-/// the program is rejected, or out of memory.
+/// The slots of an accepted program that a run may reach, each once, in order, and with the facts before its instruction: the list
+/// `reached` of the slots below the program's number of slots (`slot_count`). `named` lists what descriptors name. The error is why the
+/// program is rejected, or out of memory. This shows that the contract of `verify_watched` determines what a watcher receives.
 fn all_notes(
     alloc: Global,
     program: &Program,

@@ -12,7 +12,9 @@ ghost use Rattle.verifier.specs.Runs.{AcceptedRunsArePaths};
 ghost use Rattle.verifier.specs.Sound.{StepIsSound, StepsGoOn, NeverFaults};
 ghost use Rattle.verifier.specs.Verdict.{IsAccepted, IsRefused};
 
-/// A law: a rejected program has one slot and one reason for which it is rejected. So slots have at most one judgement (`one_judgement`).
+/// A law: a rejected program has one slot and one reason for which it is rejected. The contract: if it is rejected at slot `m` for reason
+/// `a`, and at slot `n` for `b`, with the open descriptors and objects in `named` both times, then `m` is `n`, and `a` is `b`.
+/// `one_judgement` uses it: the bytes of a program have at most one judgement.
 pub fn one_refusal()
     ensures { (code : List Insn) (named : List Named) (m n : ℕ) (a b : Reason)
         → IsRefused code named m a → IsRefused code named n b → (m ≡ n) × (a ≡ b) }
@@ -25,7 +27,9 @@ pub fn accepted_is_not_refused()
         → IsAccepted code named → ¬ IsRefused code named slot reason }
 {}
 
-/// A law: a program is rejected by a rule, never for `Memory`, which `verify` reports only if it is out of memory.
+/// A law: the reason for which a program is rejected at a slot (`IsRefused`), with the objects in `named`, is a rule of the program's shape
+/// or safety, never `Memory`, which `verify` returns only if it is out of memory. The law is used for `refusals_are_reported` of `tenant`:
+/// a load that rejects its program does not have the status of refused memory.
 pub fn refused_by_a_rule()
     ensures { (code : List Insn) (named : List Named) (slot : ℕ) (reason : Reason)
         → IsRefused code named slot reason → reason ≢ Memory }
@@ -33,7 +37,9 @@ pub fn refused_by_a_rule()
     transfer::laws::effects_need_no_memory();
 }
 
-/// A law: slots have at most one judgement, which is the accepted program that they spell or else their refusal.
+/// A law: with given objects of the open descriptors (`named`), the bytes of slots have at most one judgement (`Judges`). This is the
+/// program that they spell, if it is accepted, or else their refusal: a slot, and the fault of the codec or the rule that is broken there.
+/// `tenant` uses the law for the result of a load, and `host` for the verdict of `verify`.
 pub fn one_judgement()
     ensures { OneJudgement }
 {
@@ -43,33 +49,40 @@ pub fn one_judgement()
     accepted_is_not_refused();
 }
 
-/// A law: if the shape of a program has no fault, the reason for which an instruction may not be run (`safety_fault`) is none of
-/// `UnknownHelper`, `DescriptorNotMap` and `NoDirectValue`. The check of the shape has excluded these.
+/// A law: if the shape of a program has no fault, no instruction is rejected for safety (`safety_fault`) because it calls an unknown helper
+/// (`UnknownHelper`), loads a map by a descriptor that names none (`DescriptorNotMap`), or loads a direct value that the map does not have
+/// (`NoDirectValue`). The check of the shape has excluded these, so a verdict gives these three reasons only for a fault of the shape.
 pub fn safety_follows_shape()
     ensures { SafetyFollowsShape }
 {
     transfer::laws::transfer_reasons();
 }
 
-/// A law: each descriptor by which an accepted program loads a map, or a value of one, names a map. So each such descriptor has a shape
-/// both among all open descriptors and among those that are kept with the program.
+/// A law: each descriptor by which an accepted program loads a map, or a value of a map, names a map, and so has a shape. By `named` the
+/// list of open descriptors with which the program was accepted gives this shape. By `kept` so does the part of that list that is kept with
+/// the program, the objects of its maps (`shapes_of`). A load (`loaded` of `tenant`) needs the law to find each of these maps.
 pub fn loaded_maps_have_shapes()
     ensures { LoadedMapsHaveShapes }
 {}
 
-/// A law: the list of a program's maps (`maps_of`) has each descriptor by which an instruction loads a map, or a value of one, and has no
-/// descriptor twice. `shapes_of`, the shapes of maps by descriptor, gives none to a descriptor that is not in the list.
+/// A law on `maps_of`, the list of the descriptors of a program's maps. If an instruction loads the map of a descriptor, or the address of
+/// a byte in this map's first value, the list has the descriptor (`each`); and it has no descriptor twice (`once`). `shapes_of`, the shapes
+/// of the program's maps by descriptor, gives none to a descriptor that is not in the list (`shaped`). A tenant finds the handles of a
+/// program's maps by this list.
 pub fn maps_are_listed()
     ensures { MapsAreListed }
 {}
 
-/// A law: an accepted program is accepted with other objects too, if the descriptors of its maps name maps of the same shapes among them.
+/// A law: a program that is accepted with one list of descriptors and their objects is accepted with another list too, if in both each
+/// descriptor of its maps names a map of the same shape. So `Verified::replace_objects` need not verify the program again.
 pub fn same_shapes_are_accepted()
     ensures { SameShapesAreAccepted }
 {}
 
-/// A law: if the shape of a program has no fault, and the facts before a slot admit a state at it and let the instruction be run, the
-/// machine has a step, and the facts on the edge that it takes admit the next state.
+/// A law: take a program whose shape has no fault, and a state at a slot. The state's numbers are in range, the state has a map of each
+/// shape, and the facts before the slot admit it (`Describes`) and let the instruction be run (`effect`). Then the machine has a step.
+/// Unless this ends the run, the next state has numbers in range and a map of each shape again, and the facts on the edge that the step
+/// takes admit it.
 pub fn step_is_sound()
     ensures { StepIsSound }
 {
@@ -77,8 +90,10 @@ pub fn step_is_sound()
     transfer::laws::transfer_keeps_well_formed();
 }
 
-/// A law: if a state of an accepted program is admitted by the facts before its slot, the step from this state is no fault. Unless the run
-/// ends, the next state is at a later slot, and the facts before that slot admit it. So the law can be applied to step after step.
+/// A law: in an accepted program, if the facts before a state's slot describe the state by some witness (`IsAdmitted`), its step is no
+/// fault. Then either the run ends with a result of 32 bits, or the next state is at a later slot, and the facts before that slot describe
+/// it. So the law can be applied to step after step: by it no run of an accepted program faults. The body calls the laws from which it
+/// follows.
 pub fn steps_go_on()
     ensures { StepsGoOn }
 {
@@ -94,8 +109,9 @@ pub fn accepted_programs_never_fault()
     steps_go_on();
 }
 
-/// A law: a run of an accepted program, on maps of the shapes with which it is accepted, executes a path from slot 0 to an exit, an
-/// instruction in each step. So no run executes more than the cost of the program.
+/// A law: a run of an accepted program executes a path, one instruction in each step, on maps of the shapes with which the program is
+/// accepted, and on any context and packet. The path begins at slot 0, follows edges between instructions, and ends at an exit. No path has
+/// more instructions, or more calls of helpers, than the cost of the program, so no run executes more.
 pub fn accepted_runs_are_paths()
     ensures { AcceptedRunsArePaths }
 {

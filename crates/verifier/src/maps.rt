@@ -13,8 +13,8 @@ use insn_codec::{Insn, Program};
 use std::alloc::{AllocError, Global};
 use tagged_model::Named;
 
-/// Appends the descriptor by which an instruction loads a map, or a value of one, to `maps`, unless it is listed already. Nothing is
-/// appended if the instruction loads neither. The error is out of memory.
+/// Appends to `maps` the descriptor by which `insn` loads a map, or an address in a map's first value, unless `maps` has this descriptor
+/// already: so `maps` gets no descriptor twice. Nothing is appended if `insn` loads neither. `AllocError`: out of memory.
 fn add_descriptor(maps: &mut Vec<u32>, insn: &Insn) -> Result<(), AllocError>
     ensures { OnOk result (maps.new.items ≡ with_descriptor maps.old.items (descriptor insn.now)) }
 {
@@ -26,8 +26,9 @@ fn add_descriptor(maps: &mut Vec<u32>, insn: &Insn) -> Result<(), AllocError>
     Ok(())
 }
 
-/// Appends the descriptor by which the instruction at `slot` loads a map, or a value of one, to `maps`, unless it is listed already.
-/// Nothing is appended if the instruction loads neither, or none begins there. The error is out of memory.
+/// Appends the descriptor by which the instruction at `slot` loads a map, or a value of one, to `maps`, unless it is listed already
+/// (`with_descriptor`). Nothing is appended if the instruction loads neither, or if none begins at `slot` (`begins_at` is `None`). The
+/// error is out of memory.
 fn add_at(maps: &mut Vec<u32>, program: &Program, slot: usize) -> Result<(), AllocError>
     ensures { OnOk result (maps.new.items
         ≡ with_descriptor maps.old.items (and_then (begins_at program.now slot) descriptor)) }
@@ -39,7 +40,8 @@ fn add_at(maps: &mut Vec<u32>, program: &Program, slot: usize) -> Result<(), All
     }
 }
 
-/// Whether the instruction loads, by a descriptor, a map or an address in a map's first value.
+/// Whether the instruction loads, by a descriptor, a map or an address in a map's first value. `loaded_maps` calls `add_at` only for the
+/// slots of which this is true.
 fn names_map(insn: &Insn) -> bool
     ensures { result ≡ is_some (descriptor insn.now) }
 {
@@ -73,15 +75,18 @@ pub(crate) fn loaded_maps(
     Ok(maps)
 }
 
-/// Whether a descriptor is in the list `maps`.
+/// Whether the descriptor `fd` is in the list `maps`. `objects_at` asks this of each open descriptor, with those by which a program loads
+/// maps as the list.
 fn is_among(maps: &[u32], fd: u32) -> bool
     ensures { result ≡ is_among maps.now fd }
 {
     maps.contains(&fd)
 }
 
-/// Those of the open descriptors and their objects (`named`) whose descriptor is in the list `maps`, in the order of `named`. The error is
-/// out of memory.
+/// Returns the entries of `named` that a program uses. Each entry is an open descriptor with its object, and `maps` lists the descriptors
+/// by which the program loads maps or values of maps: an entry is returned if its descriptor is in `maps`. The entries are in the order of
+/// `named`. The pass over the program needs no others, and an accepted program keeps them (`objects` of `Verified`). The error is out of
+/// memory.
 pub(crate) fn objects_at(
     alloc: Global,
     named: &[Named],

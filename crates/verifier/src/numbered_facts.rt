@@ -22,8 +22,9 @@ pub(crate) struct NumberedFacts {
 }
 
 impl NumberedFacts {
-    /// The facts at program entry. Each group of eight stack slots has number 1, which no later change of a group gives: so groups with one
-    /// index and number 1 are equal in all facts of a pass. `includes` is 0 for each group, since no group has been joined into it.
+    /// The facts at program entry, with which a pass over a program begins. Each group of eight stack slots has number 1. A group that
+    /// changes later in the pass gets a number above 1, so two groups with one index and number 1 are both unchanged since program entry,
+    /// and so equal. `includes` is 0 for each group, since no group has been joined into it.
     pub(crate) fn at_entry() -> NumberedFacts
         ensures { result ≡ at_entry }
     {
@@ -34,8 +35,9 @@ impl NumberedFacts {
         }
     }
 
-    /// Gives all groups of eight stack slots the new number `fresh`, since any may have changed: groups with one index and one number have
-    /// to be equal in all facts of a pass. Also records that since then no group has been joined into any of them (`includes` is 0).
+    /// Gives all groups of eight stack slots the new number `fresh`, since an instruction or a null test may have changed any of them: in
+    /// all facts of a pass, two groups with the same index and the same number have to be equal. Also sets `includes` of each group, the
+    /// number of the group that was joined into it last, to 0: none has been joined into it since the change.
     pub(crate) fn renumber(&mut self, fresh: usize)
         ensures { self.new ≡ renumbered self.old fresh }
     {
@@ -43,8 +45,9 @@ impl NumberedFacts {
         self.includes = [0; STACK_GROUPS];
     }
 
-    /// Gives the group of eight that has stack slot `slot` the new number `fresh`, since the slot may have changed, and records that since
-    /// then no group has been joined into this group (its `includes` is 0).
+    /// Gives the group of eight stack slots that has stack slot `slot`, 0 to 63, the new number `fresh`, since the slot may have changed:
+    /// groups with one index and one number have to be equal in all facts of a pass. Also records that since then no group has been joined
+    /// into this group: its `includes` becomes 0. No fact and no other group changes (`group_renumbered`).
     #[inline(always)]
     fn renumber_group(&mut self, slot: usize, fresh: usize)
         requires { slot < stack_slots }
@@ -56,9 +59,11 @@ impl NumberedFacts {
     }
 
     /// Gives the new number `fresh` to each group of eight stack slots into which an instruction with this flow may have written, since
-    /// groups with one index and one number have to be equal in all facts of a pass. For `WritesSlot` this is the group of that slot, which
-    /// is a slot of the stack (`IsInStack`); for `Writes` these are all groups. Other flows change nothing; a null test changes the stack
-    /// only on its edges (`leave_null_test`).
+    /// groups with one index and one number have to be equal in all facts of a pass; also 0 in `includes`, as no group has been joined into
+    /// it since. No clause requires that `fresh` is new: the only caller passes 8 * n + 3 for the instruction at slot n, which no other
+    /// change of a group gives. For `WritesSlot` this is the group of that stack slot, one of the 64 (`IsInStack`); for `Writes` these are
+    /// all groups. Other flows change nothing (`noted`); a null test changes the stack only on its edges, for which `leave_null_test` gives
+    /// new numbers.
     #[inline(always)]
     pub(crate) fn renumber_written(&mut self, flow: &Flow, fresh: usize)
         requires { IsInStack flow.now }
@@ -76,10 +81,11 @@ impl NumberedFacts {
         }
     }
 
-    /// Joins the group of eight stack slots of index `group` in `edge` into the group of this index in `self`. If the join changes the
-    /// group in `self`, that group gets the new number `fresh`. `includes` then has the number that the group has in `edge`, by which a
-    /// second join with that group is recognized. Not inlined, unlike its caller `join_stack_group`, which leaves out joins that would
-    /// change nothing.
+    /// Joins the group of eight stack slots of index `group` in `edge`, the facts on another edge to the same instruction, into the group
+    /// of this index in `self`. If the join changes the latter, it gets the new number `fresh`: groups with one index and one number have
+    /// to be equal in all facts of a pass. Changed or not, this group then has in `includes` the number of the group in `edge`, by which a
+    /// second join with that group is recognized. Not inlined, unlike its only caller, `join_stack_group`, which leaves out a second join,
+    /// since it would change nothing. The contract is that of the caller, so it also allows to leave out such a join.
     #[inline(never)]
     fn join_other_group(&mut self, edge: &NumberedFacts, fresh: usize, group: usize)
         requires { group < stack_groups }
@@ -91,9 +97,11 @@ impl NumberedFacts {
         self.includes[group] = edge.numbers[group];
     }
 
-    /// Joins a group of eight stack slots in `edge`, the facts on another edge, into the group of the same index, `group`, in these facts.
-    /// If the latter changes, it gets the new number `fresh`. The join is left out if by `includes` it would repeat the last join into this
-    /// group, and so change nothing.
+    /// Joins the group of eight stack slots of index `group` in `edge`, the facts on another edge, into the group of this index in `self`.
+    /// If the join changes the group in `self`, that group gets the new number `fresh`. Its `includes` is the number of the group that was
+    /// last joined into it since it was written, or 0, which is no group's number. If the group in `edge` has this number, it equals the
+    /// group that was joined then, so a second join would change nothing, and is left out. By `IsGroupJoin` the registers and the other
+    /// groups in `self` are unchanged.
     #[inline(always)]
     fn join_stack_group(&mut self, edge: &NumberedFacts, fresh: usize, group: usize)
         requires { group < stack_groups }
@@ -104,8 +112,9 @@ impl NumberedFacts {
         }
     }
 
-    /// Joins `edge`, the facts on another edge to this instruction, into these. Each group of eight stack slots that the join changes gets
-    /// the new number `fresh`, since two groups with one index and one number have to be equal in all facts of a pass.
+    /// Joins `edge`, the facts on another edge to the same instruction, into these (`IsJoin`): the kind of each register, and each group of
+    /// eight stack slots. Each group that the join changes gets the new number `fresh`, since groups of one index and one number have to be
+    /// equal in all facts of a pass. A group is left out if by `includes` the join would only repeat the last one into this group.
     pub(crate) fn join(&mut self, edge: &NumberedFacts, fresh: usize)
         ensures { IsJoin fresh self.old edge.now self.new }
     {

@@ -42,11 +42,12 @@ pub(crate) struct Pass {
     taken: NumberedFacts,
 }
 
-/// Joins the facts on the jumping edge of a comparison of `dst` with `src` into those that `entries` has for `target`, a slot of the
-/// program, since the program's shape has no fault. For `None`, a jump to below slot 0, nothing is joined. `hand` has the facts before the
-/// jump; only the operands' ranges in `hand` change, to `jumps`, their ranges on the jumping edge, and the caller then sets those of the
-/// falling edge. If `jumps` is `None`, the edge can't be taken, and nothing is done. Each group of eight stack slots at the target that the
-/// join changes gets the new number `fresh`. The error is out of memory.
+/// Passes the facts in `hand`, those before a comparison of `dst` with `src`, along its jumping edge. `jumps` has the ranges of both
+/// operands on this edge; if it is `None`, the edge can't be taken, and nothing is done. Else the operands in `hand` get these ranges, and
+/// `hand` is joined into the facts that `entries` has for `target` (`sent`). A target is a slot of the program (`lands`), since the
+/// program's shape has no fault; for `None`, a jump to below slot 0, nothing is joined. Each group of eight stack slots that the join
+/// changes at the target gets the new number `fresh`. `hand`: only the ranges of the operands have changed, since with equal ranges `q` for
+/// them `hand` is as before. The caller then sets those of the falling edge. The error is out of memory.
 #[inline(always)]
 fn send_compared(
     hand: &mut NumberedFacts,
@@ -79,11 +80,13 @@ struct Compared {
     src: Operand,
 }
 
-/// Passes the facts in `hand`, those before a jump that compares the operands `compared`, along its two edges. `falls` and `jumps` have the
-/// ranges of the operands on the falling and on the jumping edge, each `None` if this edge can't be taken. The facts on the jumping edge
-/// are joined into those that `entries` has for `target`, a slot of the program; nothing is joined if `target` is `None`. Each group of
-/// eight stack slots that the join changes gets the new number `fresh`. Then `hand` has the facts on the falling edge. Returns whether the
-/// falling edge can be taken; if not, nothing is promised of `hand`. The error is out of memory.
+/// Passes the facts in `hand`, those before a jump that compares the operands `compared`, along the two edges of the jump. The parameters
+/// `falls` and `jumps` are for the falling and the jumping edge: `None` if the edge can't be taken, else the range of `dst` on it and then
+/// that of `src`. The facts on an edge are those before the jump with these ranges (`with_ranges`). Those on the jumping edge are joined
+/// into the facts that `entries` has for `target` (clause `sent`); nothing is joined if the edge can't be taken, or if `target` is `None`,
+/// for a jump to below slot 0. Each group of eight stack slots that the join changes gets the new number `fresh`. `target` is a slot of the
+/// program, so below `MAX_SLOTS` (`lands`). Returns whether the falling edge can be taken (clause `falls`): if so, `hand` then has the
+/// facts on it; if not, nothing is promised of `hand`. The error is out of memory.
 #[inline(always)]
 fn leave_comparison(
     hand: &mut NumberedFacts,
@@ -112,11 +115,13 @@ fn leave_comparison(
     }
 }
 
-/// Settles the look-up at slot `site` on both edges of the null test at `slot`. If `jumps_on_null`, the test jumps if the result is null,
-/// else if it is not. Changes `hand` from the facts before the test to those on the falling edge. Those on the jumping edge, for which
-/// `taken` is space, are joined into those that `entries` has for `target`; without a target (`None`) they are not joined. A target is a
-/// slot of the program, since the program's shape has no fault. The groups of eight stack slots get new numbers on both edges. The error is
-/// out of memory.
+/// Passes the facts in `hand`, those before the null test at `slot`, along its two edges. The test settles the look-up at slot `site`: if
+/// `jumps_on_null`, its result is null on the jumping edge and not null on the falling edge, else the opposite. Then `hand` has the facts
+/// on the falling edge (`falls`). Those on the jumping edge are made in `taken`, a buffer whose old facts mean nothing, and joined into the
+/// facts that `entries` has for `target` (`sent`); for `None`, a jump to below slot 0, nothing is joined. A target is a slot of the program
+/// (`lands`), since the program's shape has no fault. A null test may change any group of eight stack slots, so all get a new number:
+/// `8 * slot + 4` on the jumping edge, `+ 5` on the falling edge. Groups that the join changes at the target get `+ 6`. The error is out of
+/// memory.
 fn leave_null_test(
     hand: &mut NumberedFacts,
     entries: &mut TargetFacts,
@@ -138,11 +143,13 @@ fn leave_null_test(
     entries.send(target, taken, 8 * slot + 6)
 }
 
-/// Joins the facts on the jumping edge of `flow` into those that `entries` has for `target`, or nothing if `target` is `None` or the edge
-/// is never taken. `target` is a slot of the program, as the program's shape has no fault. Changes `hand` from the facts after the
-/// instruction at `slot` to those on the falling edge. Returns whether this edge can be taken: `false` after an exit, a jump that is always
-/// taken, and a comparison that always holds; `hand` means nothing then. `taken` is space for a null test. Groups of eight stack slots get
-/// new numbers: `8 * slot + 4` and `+ 5` on the edges of a null test, `+ 6` by a join at `target`. The error is out of memory.
+/// Passes `hand`, the facts after the instruction at `slot`, along the edges of its `flow`, which adds what holds on only one edge.
+/// Afterwards `hand` has the facts on the falling edge (`falls`). Returns whether this edge can be taken: `false` after an exit, a jump
+/// that is always taken, and a comparison that always holds; `hand` means nothing then. The facts on the jumping edge are joined into those
+/// that `entries` has for `target` (`sent`); nothing is joined if `target` is `None` or this edge is never taken. `target` is a slot of the
+/// program, so below `MAX_SLOTS` (`lands`), as the program's shape has no fault. `taken` is space for the facts on the jumping edge of a
+/// null test. Groups of eight stack slots get new numbers: `8 * slot + 4` on the jumping and `+ 5` on the falling edge of a null test,
+/// `+ 6` by a join at `target`. By `room` these do not overflow. The error is out of memory.
 #[inline(always)]
 fn leave_by(
     hand: &mut NumberedFacts,
@@ -191,11 +198,13 @@ fn leave_by(
     }
 }
 
-/// Passes the facts after the instruction at `slot`, which are in `hand`, along the edges of its `flow`. The facts on the jumping edge are
-/// joined into those that `entries` has for the jump's target, a slot of the program, as the program's shape has no fault; then `hand` has
-/// the facts on the falling edge. Returns whether the falling edge can be taken; if not, `hand` means nothing afterwards. `taken` is space
-/// for the facts on the jumping edge of a null test. A flow that has only the falling edge needs no target, so none is computed. The error
-/// is out of memory.
+/// Passes the facts after `insn`, the instruction at `slot`, along its edges. `flow` says which edges control may take, and what holds on
+/// only one. At the call `hand` has the facts after the instruction. Afterwards it has those on the falling edge, if the result is `true`;
+/// if `false`, this edge can't be taken, and `hand` means nothing (`falls`). The facts on the jumping edge are joined into those that
+/// `entries` has for the jump's target (`sent`), a slot of the program, as the program's shape has no fault (`lands`). `taken` is space for
+/// the facts on the jumping edge of a null test. Groups of eight stack slots get new numbers: `8 * slot + 4` on the jumping and `+ 5` on
+/// the falling edge of a null test, `+ 6` if the join at the target changes them. A flow that has only the falling edge needs no target, so
+/// none is computed. The error is out of memory.
 #[inline(always)]
 fn leave(
     hand: &mut NumberedFacts,
@@ -228,10 +237,12 @@ fn leave(
 }
 
 /// Passes the facts before the instruction at `slot`, which are in `hand`, to the watcher, and then changes `hand`, by the transfer
-/// function (`apply`), to the facts on the falling edge. The facts on the jumping edge, if there is one, are joined into those that
-/// `entries` has for the jump's target, a slot of the program (`lands`). Returns whether the falling edge can be taken; if not, nothing is
-/// promised of `hand`. The error is why the instruction may not be run with the facts before it, or out of memory. `named` lists the
-/// objects that descriptors name, and `taken` is space for the facts on the jumping edge of a null test.
+/// function (`apply`), to the facts on the falling edge. The facts on the jumping edge, if it can be taken, are joined into those that
+/// `entries` has for the jump's target, a slot of the program (`lands`). Both changes are in `past`. `taken` is space for the facts on the
+/// jumping edge of a null test, and `named` lists the objects that descriptors name. Returns whether the falling edge can be taken; if not,
+/// nothing is promised of `hand`. Without an error the instruction may be run with the facts before it (`ok`), and the watcher has received
+/// these (`seen`). The error (`refused`) is why the instruction may not be run, after the watcher has received the facts, or out of memory,
+/// whether it has received them or not.
 #[inline(always)]
 fn run_past<W: Watcher>(
     hand: &mut NumberedFacts,
@@ -277,8 +288,9 @@ impl Pass {
         }
     }
 
-    /// Begins a pass: the facts are those at program entry, and no jump has facts. `end` removes the facts on jumps. `judge` has called
-    /// `end` after the last pass, but no contract says so; so `begin` calls it again.
+    /// Begins a pass over a program: the facts before slot 0 are those at program entry (`falling`), and no jump has brought facts to a
+    /// later slot (`entries`). `end` empties `entries`. `judge` calls `end` after each pass, but no contract promises that `entries` is
+    /// empty before the next one; so `begin` calls it again.
     fn begin(&mut self)
         ensures falling { self.new.falling ≡ Some at_entry }
         ensures entries { self.new.entries ≡ [] }
@@ -288,18 +300,21 @@ impl Pass {
         self.falling.is_known = true;
     }
 
-    /// Ends a pass: removes the facts on jumps that a rejected program leaves in `entries`. Their memory is kept for later passes.
+    /// Ends a pass: removes the facts on jumps that are left in `entries` if a program is rejected before the targets of these jumps. Their
+    /// memory is kept for later passes.
     pub(crate) fn end(&mut self)
         ensures { self.new.entries ≡ [] }
     {
         self.entries.clear();
     }
 
-    /// The step of the pass at the instruction at `slot`. At the call `falling` has the facts before the instruction, which the watcher
-    /// gets. Afterwards `falling` has those on the falling edge, or none if this edge can't be taken. If the instruction may jump, the
-    /// facts on its jumping edge are joined into those that `entries` has for the target, which is a slot of the program, as the shape has
-    /// no fault. If `falling` has no facts at the call, no run reaches the instruction, and nothing is done. The error is why the
-    /// instruction may not be run with these facts, or out of memory. `named` has the program's maps.
+    /// Takes the pass past `insn`, the instruction at `slot`, after `step` has joined the facts on the jumps there. At the call `falling`
+    /// has the facts before the instruction. If it has none, no run reaches the instruction, and nothing is done. Otherwise the watcher
+    /// gets them (`seen`). Then `falling` has the facts on the falling edge, or none if this edge can't be taken, and those on the jumping
+    /// edge, if there is one, are joined into those that `entries` has for the target (`past`), a slot of the program, as the shape has no
+    /// fault (`lands`). `Ok` means that the instruction may be run with the facts before it (`ok`). The error (`refused`) is why it may
+    /// not, after the watcher got the facts (`SeesFault`), or out of memory, before or after that (`StopsWatching`). `named` has the
+    /// program's maps. By `room` the new numbers of groups of stack slots, at most `8 * slot + 6`, don't overflow.
     #[inline(always)]
     fn pass_instruction<W: Watcher>(
         &mut self,
@@ -336,11 +351,13 @@ impl Pass {
     }
 
     /// Takes the pass past `insn`, the instruction at `slot`. First the facts on jumps to `slot` are joined into `falling`, which has the
-    /// facts on the falling edge to `slot`. Then `pass_instruction` passes the joined facts to the watcher, leaves the facts on the falling
-    /// edge out of `insn` in `falling`, and joins the facts on the jumping edge out of `insn` into those that `entries` has for the jump's
-    /// target, a slot of the program. The error is why the instruction may not be run with the joined facts, or out of memory. `named` has
-    /// the program's maps. The proof needs `absorb` and `numbered`: by them, a join of `NumberedFacts` leaves out only joins of stack slots
-    /// that would change nothing.
+    /// facts on the falling edge to `slot`. Then `pass_instruction` passes the joined facts (`arriving_at`) to the watcher (`seen`), leaves
+    /// the facts on the falling edge out of `insn` in `falling`, and joins those on the jumping edge into the facts that `entries` has for
+    /// the jump's target, a slot of the program (`lands`); those of no other later slot change (`sent`). Without joined facts no run
+    /// reaches `insn`, and nothing is done. If there is no error, `insn` may be run with the joined facts (`ok`). The error is why it may
+    /// not, or out of memory; by `refused` the watcher has the joined facts then too, but perhaps not if out of memory. `named` has the
+    /// program's maps. The proof needs `absorb` and `numbered`, which holds again for the next slot: by them, a join of `NumberedFacts`
+    /// leaves out only joins of stack slots that would change nothing.
     fn step<W: Watcher>(
         &mut self,
         named: &[Named],
@@ -373,10 +390,11 @@ impl Pass {
     }
 }
 
-/// Finds the first instruction that may not be run with the facts before it, in one pass over the slots. The error is its slot and why, or
-/// out of memory. `named` has the program's maps, and `pass` is memory for the facts. Nothing is done at the second slot of a wide
-/// instruction. The watcher receives the facts before each instruction that a run may reach, up to and with the one that the error names.
-/// Each jump leads to a slot of the program, as the caller has checked its shape.
+/// Finds the first instruction that may not be run with the facts before it, in one pass over the slots; `Ok` if there is none (`sound`).
+/// The error is its slot and why, or out of memory. `named` has the program's maps, and `pass` is memory for the facts. Nothing is done at
+/// the second slot of a wide instruction. The watcher receives, in addition to what it had (`W.seen`), the facts before instructions that a
+/// run may reach: before all of them if the result is `Ok` (`seen`), else before those up to and with the one that the error names or, if
+/// out of memory, before those below some slot (`refused`). No jump leads past the end (`JumpsLand`), as the caller has checked the shape.
 pub(crate) fn check_safety<W: Watcher>(
     program: &Program,
     named: &[Named],

@@ -19,7 +19,8 @@ pub enum Cause {
 impl Cause {
     ghost use Rattle.verifier.specs.Judgement.{cause_number};
 
-    /// The number that loads, `verify` and the log give: that of the reason, which is below 100, or 100 plus that of the codec's fault.
+    /// The number that loads, `verify` and the log give for a rejection. For a program that breaks a rule (`Verdict`) it is the number of
+    /// the reason, which is below 100; for slots that are no program (`Slots`) it is 100 plus the number of the codec's fault.
     pub fn number(self) -> u16
         ensures { result ≡ cause_number self }
     {
@@ -44,7 +45,7 @@ impl From<CodecFault> for Refusal {
 
     ghost from_gives = { λ fault refusal. refusal ≡ refusal_of_slots fault };
 
-    /// The refusal of slots that are no program.
+    /// The refusal of slots that are no program: its slot is that of the codec's fault, and its cause is the kind of this fault.
     fn from(fault: CodecFault) -> Refusal {
         Refusal {
             slot: fault.slot,
@@ -58,7 +59,8 @@ impl From<VerifyFault> for Refusal {
 
     ghost from_gives = { λ fault refusal. refusal ≡ refusal_of_program fault };
 
-    /// The refusal of slots whose program breaks a rule.
+    /// The refusal of slots that are a program which breaks a rule. It has the slot of the verifier's fault; its cause is the fault's
+    /// reason (`Verdict`).
     fn from(fault: VerifyFault) -> Refusal {
         Refusal {
             slot: fault.slot,
@@ -73,7 +75,8 @@ impl fmt::Display for Refusal {
 
     ghost output = { λ refusal. Some (refusal_text refusal) };
 
-    /// Writes the line that `verify` and the log write for a rejection, without its line feed.
+    /// Writes the line that `verify` and the log write for a rejection, without its line feed. `number` is below 100 for a rule that the
+    /// program breaks, and above 100 for slots that are no program.
     fn fmt<W: fmt::Write>(&self, f: &mut fmt::Formatter<W>) -> fmt::Result {
         let (slot, number) = (self.slot, self.cause.number());
         write!(f, "refused: slot {slot} reason {number}")

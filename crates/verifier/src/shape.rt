@@ -23,7 +23,8 @@ use tagged_model::{Named, Target, known_helper, shape_of, target_of};
 /// The number of the register that is the frame pointer.
 const FRAME_POINTER: u8 = 10;
 
-/// Whether the register that an instruction writes is the frame pointer: `false` if it writes none.
+/// Whether an instruction writes the frame pointer, register 10, which a program may only read: if so, it is rejected
+/// (`FramePointerWritten`). `written` is the register that the instruction writes; if it writes none (`None`), the result is `false`.
 fn writes_frame_pointer(written: Option<Reg>) -> bool
     ensures { result ≡ is_number written 10 }
 {
@@ -33,7 +34,8 @@ fn writes_frame_pointer(written: Option<Reg>) -> bool
     }
 }
 
-/// Whether an instruction names a helper, and there is none with this number.
+/// Whether an instruction calls a helper, and there is none with this number (`known_helper`). `reference` is what the instruction names;
+/// only a call names a helper. `shape_fault_of` needs this for the fault `UnknownHelper`.
 fn is_unknown_helper(reference: Reference) -> bool
     ensures { result ≡ is_unknown_helper reference }
 {
@@ -45,8 +47,10 @@ fn is_unknown_helper(reference: Reference) -> bool
     }
 }
 
-/// Whether an instruction directly loads the address of a byte in a map's value, and may not: the map is no array of one element, or the
-/// offset is outside its value (`has_direct_value`). `false` also if the descriptor names no map, which is another fault.
+/// Whether an instruction loads the address of a byte in a map's value directly, that is, without a call, and may not: the map is no array
+/// of one element, or the offset is outside its value (`has_direct_value` is false). `named` lists what descriptors name, and `reference`
+/// is what the instruction names. `false` for an instruction that loads no such address, and also if the descriptor names no map, which is
+/// another fault.
 fn lacks_direct_value(named: &[Named], reference: Reference) -> bool
     ensures { result ≡ lacks_direct_value named.now reference }
 {
@@ -61,8 +65,10 @@ fn lacks_direct_value(named: &[Named], reference: Reference) -> bool
     }
 }
 
-/// Why the descriptor that an instruction names is at fault: it is not open, it names no map, or the map does not have the value that the
-/// instruction loads directly. `None` if there is no fault, or the instruction names no descriptor.
+/// Why the descriptor that an instruction names is at fault; `None` if there is no fault, or the instruction names no descriptor. `named`
+/// has the open descriptors with their objects. The fault is the first that applies (`first_reason`): the descriptor is not open, it names
+/// a program and no map, or the instruction loads the address of a byte in the map's value, and the map is no array of one element, or its
+/// value has no byte at the offset.
 fn descriptor_reason(named: &[Named], reference: Reference) -> Option<Reason>
     ensures { result ≡ first_reason
         ((is_not_open named.now (descriptor_by reference), DescriptorNotOpen)
@@ -77,9 +83,10 @@ fn descriptor_reason(named: &[Named], reference: Reference) -> Option<Reason>
     }
 }
 
-/// The fault of the target of `insn`, the instruction at `slot`, if it may jump: `JumpOutside` if the target is below slot 0 or no
-/// instruction begins there, `JumpBackward` if it is not a later slot. `None` if there is no fault or no jump. `successors` are those of
-/// `insn`, and only the contract needs `insn` itself.
+/// The fault of the target of `insn`, the instruction at `slot`, if `insn` may jump: `JumpOutside` if the target is below slot 0 or no
+/// instruction begins there, else `JumpBackward` if it is `slot` or an earlier slot. `None` if there is no fault or no jump. `successors`
+/// are those of `insn`, so only the contract needs `insn` itself. By `room` the sum `slot + 1`, from which the jump counts, does not
+/// overflow.
 fn jump_reason(
     program: &Program,
     insn: &Insn,
@@ -103,9 +110,10 @@ fn jump_reason(
     }
 }
 
-/// Whether an instruction is simple, and so has no fault of shape: a path with at least one instruction leads to it (`paths`); its only
-/// successor is the next instruction, at slot `next`, which is one of the program's `slots` slots; it names nothing, and does not write the
-/// frame pointer. `row` has its properties. `false`, as always at slot 0, only means that all checks are made.
+/// Whether an instruction is simple, and so has no fault of shape: a path with at least one instruction leads to it (`paths`), so it can be
+/// reached; its only successor is the next instruction, at slot `next`, which is one of the program's `slots` slots; it names no helper and
+/// no descriptor, and does not write the frame pointer. `row` has its properties. Only `true` promises something (`IsSimple`): after
+/// `false`, as always at slot 0, the caller makes all checks, which may find no fault either.
 #[inline(always)]
 fn is_simple(row: &Profile, next: usize, slots: usize, paths: &Paths) -> bool
     ensures { IsTrue result → IsSimple row.now next slots paths.now }
@@ -118,8 +126,10 @@ fn is_simple(row: &Profile, next: usize, slots: usize, paths: &Paths) -> bool
     }
 }
 
-/// The first fault of shape of `insn`, the instruction at `slot`, by all checks; `None` if there is none. `row` has the properties of
-/// `insn`, and `is_reached` is whether `slot` can be reached from slot 0.
+/// The first fault of shape of `insn`, the instruction at `slot`, in this order; else `None`. `JumpOutside`: no instruction begins at its
+/// target. `JumpBackward`: the target is no later slot. `FallsOff`: it can fall past the program's end. `Unreachable`: no path leads to it
+/// (`is_reached`). `UnknownHelper`: no helper has its number. `FramePointerWritten`: it writes register 10. By `named`, its descriptor is
+/// not open or no map's, or its map lacks the value that it loads (`descriptor_reason`). `row` is its profile. By `room` no sum overflows.
 #[inline(always)]
 fn shape_fault_of(
     program: &Program,
@@ -149,9 +159,11 @@ fn shape_fault_of(
     }
 }
 
-/// Checks the instruction at `slot` by all rules of shape. The error is the first fault. Without a fault, the instruction is added to the
-/// counts in `paths`, the most instructions and calls on the paths that lead to `slot`. If the instruction may jump, the new counts are
-/// joined into those of its target in `jumping`, which has, by slot, the counts on the paths that end with a jump there.
+/// Checks the instruction at `slot` by all rules of shape; `check_and_add` calls this if the instruction is not simple (`is_simple`). The
+/// error is the first fault (`refused`). Without a fault (`fine`) the instruction is added to the counts in `paths`, the most instructions
+/// and calls on the paths that lead to `slot`. If it may jump, the new counts are joined into those of its target in `jumping`, which has,
+/// for each slot of the program (`long`), the counts on the paths that end with a jump there (`added`). By `reached`, `paths` shows whether
+/// `slot` can be reached; by `few`, no sum overflows.
 #[inline(always)]
 fn check_and_count(
     program: &Program,
@@ -181,10 +193,12 @@ fn check_and_count(
     }
 }
 
-/// Checks the shape of the instruction at `slot`, whose profile is `row`. The error is the instruction's first fault of shape. An
-/// instruction without a fault is added to `paths`, the counts on the paths that lead to `slot`; a simple instruction (`is_simple`) is
-/// added unchecked, since no such instruction has a fault. `jumping` has, for each slot, the most instructions and calls on the paths that
-/// end with a jump to that slot; if the instruction may jump, the counts with the instruction are joined into those for its target.
+/// Checks the shape of `insn`, the instruction at `slot` (at most `MAX_SLOTS`: `room`), whose profile is `row`. `named` has the open
+/// descriptors with their objects. The error is the first fault of shape (`refused`). An instruction without a fault (`fine`) is added to
+/// `paths` (`added`): the most instructions and calls on the paths that lead to `slot`, neither above `MAX_SLOTS` (`few`). `slot` is
+/// reachable exactly if it is 0 or these paths have an instruction (`reached`). A simple instruction (`is_simple`) is added unchecked,
+/// since no such instruction has a fault. `jumping` has, for each slot (`long`), the most instructions and calls on the paths that end with
+/// a jump to that slot; if the instruction may jump, the counts with the instruction are joined into those for its target.
 #[inline(always)]
 fn check_and_add(
     program: &Program,
@@ -214,7 +228,9 @@ fn check_and_add(
     }
 }
 
-/// Checks a program's shape in one pass, and returns the program's cost. The error is the first fault of the shape, or out of memory.
+/// Checks a program's shape in one pass, and returns the program's cost (`cost`): the most instructions, and the most calls of helpers, on
+/// a path from slot 0 to an exit. On success no slot has a fault of the shape (`sound`), and each jump leads to a slot of the program
+/// (`lands`), as `check_safety` requires. The error is the fault at the lowest slot that has one, or out of memory, at slot 0 (`refused`).
 /// `named` lists the open descriptors and their objects. `jumping` is a buffer, whose old contents mean nothing: by slot, the most
 /// instructions and calls on the paths that end with a jump there.
 pub(crate) fn check_shape(

@@ -30,7 +30,8 @@ impl Model for TargetFacts {
     ghost view = { λ e. map (option_map box_value) e.facts.items };
 }
 
-/// A box with these facts: a spare one, or a new one if there is no spare one. The error is out of memory.
+/// A box with a copy of `facts`: the last box of `spare`, whose old facts are lost, or a new one if `spare` is empty. The reuse saves an
+/// allocation. The error is out of memory for a new box.
 fn boxed(
     spare: &mut Vec<Box<NumberedFacts>>,
     alloc: Global,
@@ -47,7 +48,8 @@ fn boxed(
     }
 }
 
-/// Appends a box to the spare ones, for reuse. The error is out of memory for their list.
+/// Appends `entry`, a box whose facts are no longer needed, to the list `spare`, from which `boxed` takes a box for new facts before it
+/// allocates one. The error is out of memory for the list; the box is then freed.
 fn keep(spare: &mut Vec<Box<NumberedFacts>>, entry: Box<NumberedFacts>) -> Result<(), AllocError>
     ensures { OnOk result (spare.new.items ≡ spare.old.items ++ entry ∷ []) }
 {
@@ -55,9 +57,10 @@ fn keep(spare: &mut Vec<Box<NumberedFacts>>, entry: Box<NumberedFacts>) -> Resul
     Ok(())
 }
 
-/// Joins `facts`, those on a jump, into `entry`, the facts on the earlier jumps to the same target. If `entry` is empty, it gets a copy of
-/// `facts`, in a box of `spare` or else in a new one. Each group of eight stack slots that a join changes gets the new number `fresh`. The
-/// error is out of memory.
+/// Joins `facts`, those on a jump, into `entry`, which has the join of the facts on the earlier jumps to the same target (`IsJoinedBy`, on
+/// the facts in the boxes, which `box_value` gives). If there were none, `entry` is `None`, and gets a copy of `facts` and their numbers,
+/// in a box of `spare` or else in a new one. Otherwise each group of eight stack slots in `entry` that the join changes gets the new number
+/// `fresh`, since groups with one index and one number have to be equal in all facts of a pass. The error is out of memory for a new box.
 fn join_entry(
     entry: &mut Option<Box<NumberedFacts>>,
     facts: &NumberedFacts,
@@ -75,7 +78,9 @@ fn join_entry(
     Ok(())
 }
 
-/// Appends empty entries (`None`) to `facts`, until it has at least `slots` entries. The error is out of memory.
+/// Appends empty entries (`None`) to `facts`, an entry for each slot from 0 on, until it has at least `slots` entries (`within`). A longer
+/// list is unchanged. The entry of each slot `i` is as before (`entries`): one past the end of the list counts as `None` (`entry_of`). In
+/// the contract, `map (option_map box_value)` takes the facts of each entry out of its box. The error is out of memory.
 fn append_empty(facts: &mut Vec<Option<Box<NumberedFacts>>>, slots: usize) -> Result<(), AllocError>
     ensures within { OnOk result (slots ≤ length (map (option_map box_value) facts.new.items)) }
     ensures entries { OnOk result ((i : ℕ) → entry_of i (map (option_map box_value) facts.new.items)
@@ -87,8 +92,8 @@ fn append_empty(facts: &mut Vec<Option<Box<NumberedFacts>>>, slots: usize) -> Re
     Ok(())
 }
 
-/// Empties the entries of all slots, and keeps their boxes in `spare`, for reuse. A box for which this list cannot grow is freed, which
-/// only costs an allocation later.
+/// Empties the entries of all slots in `facts`, and moves their boxes to `spare`, for reuse. If `spare` cannot grow for a box, since memory
+/// is refused, this box is freed, which is no error: it only costs an allocation later.
 fn keep_all(facts: &mut [Option<Box<NumberedFacts>>], spare: &mut Vec<Box<NumberedFacts>>) {
     for entry in facts {
         if let Some(entry) = entry.take() {
@@ -98,7 +103,8 @@ fn keep_all(facts: &mut [Option<Box<NumberedFacts>>], spare: &mut Vec<Box<Number
 }
 
 impl TargetFacts {
-    /// An empty list: no jump has led to a slot yet, and there is no spare box. Allocates nothing.
+    /// A list without entries: no jump has led to a slot yet. There is no spare box either, the memory of an earlier entry that a new one
+    /// can reuse. Allocates nothing; the first `put` does.
     pub(crate) fn new(alloc: Global) -> TargetFacts
         ensures { result ≡ [] }
     {
@@ -108,7 +114,8 @@ impl TargetFacts {
         }
     }
 
-    /// Removes the facts of all slots. Their memory is kept for later ones.
+    /// Removes the facts of all slots, such as those that a rejected program leaves: the list is then empty. Their boxes are kept in
+    /// `spare`, for later facts; a box for which that list cannot grow is freed.
     pub(crate) fn clear(&mut self)
         ensures { self.new ≡ [] }
     {
@@ -116,9 +123,11 @@ impl TargetFacts {
         self.facts.clear();
     }
 
-    /// Joins the facts on the jumps to `slot` into `known`, the facts on the falling edge to `slot`. Nothing is done if no facts are stored
-    /// for the slot. Each group of eight stack slots that the join changes gets the new number `fresh`. Then the entry of the slot is
-    /// empty, and its box is kept for reuse. The error is out of memory for the list of spare boxes.
+    /// Joins the facts on the jumps to `slot`, its entry, into `known`, the facts on the falling edge to `slot`. If `known` has no facts,
+    /// it gets those of the entry. Nothing is done if there is no entry, or an empty one. Each group of eight stack slots that the join
+    /// changes gets the new number `fresh`, since groups of one index and one number have equal facts (`NumberedFacts`). Then the entry is
+    /// empty, and its box is kept for reuse. The entries of later slots are unchanged (`IsTaken`); the pass does not read those of earlier
+    /// slots again. The error is out of memory for the list of spare boxes.
     pub(crate) fn join_at(
         &mut self,
         slot: usize,
@@ -138,8 +147,9 @@ impl TargetFacts {
         Ok(())
     }
 
-    /// Appends `None` to the list of facts until `slot` is one of its indices. `slot` is a slot of a program, so `slot + 1` can't overflow.
-    /// The error is out of memory.
+    /// Appends `None` to the list of facts until `slot` is one of its indices (`within`); a list that is long enough is unchanged. By
+    /// `entries` no slot's facts change, since `entry_of` gives `None` past the end too. `slot` is a slot of a program, below `MAX_SLOTS`,
+    /// so `slot + 1` can't overflow. The error is out of memory.
     fn reach(&mut self, slot: usize) -> Result<(), AllocError>
         requires { slot < MAX_SLOTS }
         ensures within { OnOk result (slot < length self.new) }
@@ -148,9 +158,10 @@ impl TargetFacts {
         append_empty(&mut self.facts, slot + 1)
     }
 
-    /// Joins `facts`, those on a jump to `target`, a slot of a program, into the facts on the earlier jumps to this slot, or copies them if
-    /// there are none. Nothing is done without a target (`None`). Each group of eight stack slots that a join changes gets the new number
-    /// `fresh`, since equal numbers mean equal groups (`NumberedFacts`). The error is out of memory.
+    /// Joins `facts`, those on a jump to the slot `target`, into the facts on the earlier jumps to this slot, or copies them if there are
+    /// none. `target` is a slot of the program, so below `MAX_SLOTS`, since the program's shape has no fault. `None` is a target below slot
+    /// 0, which would be such a fault; nothing is done then. Each group of eight stack slots that a join changes gets the new number
+    /// `fresh`, since groups with one index and one number are equal in all facts of a pass (`NumberedFacts`). The error is out of memory.
     pub(crate) fn send(
         &mut self,
         target: Option<usize>,
@@ -166,9 +177,10 @@ impl TargetFacts {
         Ok(())
     }
 
-    /// Joins the facts on a jump to `slot`, a slot of a program, into those on the jumps there so far; the first jump's are copied. Each
-    /// group of eight stack slots that a join changes gets the new number `fresh`: groups with one index and one number are the same in all
-    /// facts (`NumberedFacts`). The error is out of memory.
+    /// Joins `facts`, those on a jump to `slot`, into the entry of this slot, which has the join of the facts on the jumps there so far; an
+    /// empty entry gets a copy of them. `slot` is a slot of a program, so less than `MAX_SLOTS`; the list grows until it has an entry for
+    /// it. No other slot's entry changes (`IsPut`). Each group of eight stack slots that the join changes gets the number `fresh`, which is
+    /// new in the pass: groups with one index and one number are the same in all facts (`NumberedFacts`). The error is out of memory.
     pub(crate) fn put(
         &mut self,
         slot: usize,
@@ -182,8 +194,10 @@ impl TargetFacts {
         self.put_within(slot, facts, fresh)
     }
 
-    /// Joins the facts on a jump to `slot` into those on the jumps there so far. The list has an entry for the slot, which may be empty
-    /// (`None`). Each group of eight stack slots that a join changes gets the new number `fresh`. The error is out of memory.
+    /// Joins `facts`, those on a jump to `slot`, into the entry of this slot: the facts on the earlier jumps to it. If there are none
+    /// (`None`), the entry gets a copy of `facts`. The caller `put` has lengthened the list, so that it has an entry for the slot. Each
+    /// group of eight stack slots that the join changes gets the new number `fresh`: groups with one index and one number are the same in
+    /// all facts (`NumberedFacts`). Entries of other slots are unchanged (`IsPut`). The error is out of memory.
     fn put_within(
         &mut self,
         slot: usize,

@@ -48,7 +48,9 @@ impl Model for Verified {
 }
 
 impl Verified {
-    /// The program that was verified. By `verified` it was accepted, with the objects that its descriptors named then.
+    /// The program that was verified: its instructions (`value`), which a save writes, and its slots, which a run reads. By `verified` it
+    /// was accepted with the objects that are kept with it (`objects`), whatever its descriptors name at present. This holds of each
+    /// `Verified`.
     pub fn program(&self) -> &Program
         ensures value { result.now ≡ self.now.code }
         ensures verified { IsVerified self.now }
@@ -56,15 +58,17 @@ impl Verified {
         &self.program
     }
 
-    /// The descriptors of the maps that the program loads, or of which it loads values, each once, in the order of their first loads.
+    /// The descriptors of the program's maps, each once, in the order of the first instructions that name them: the maps that the program
+    /// loads, or of whose values it loads an address (`maps_of`). A run binds a map to each of them.
     pub fn maps(&self) -> &[u32]
         ensures { result.now ≡ maps_of self.now.code }
     {
         &self.found.maps
     }
 
-    /// What the program costs: the most instructions and the most calls of helpers on a path from slot 0 to an exit. No run on maps of the
-    /// shapes with which the program was accepted executes more.
+    /// What the program costs (`most`): the most instructions on a path from slot 0 to an exit, and the most calls of helpers on such a
+    /// path, perhaps another one. By `runs` no run on maps of the shapes with which the program was accepted executes more instructions or
+    /// calls.
     pub fn cost(&self) -> Cost
         ensures most { IsCostOf result self.now.code }
         ensures runs { RunsCostAtMost result (shapes_in self.now) self.now.code }
@@ -73,8 +77,9 @@ impl Verified {
         self.found.cost
     }
 
-    /// A law: a run of the program executes a path from slot 0 to an exit, an instruction in each step, if the run is given maps of the
-    /// shapes with which the program was accepted. The function does nothing when it is called.
+    /// A law: on maps of the shapes with which the program was accepted, a context and a packet (`AreRunInputs`), each run executes the
+    /// instructions of a path from slot 0 to an exit, one in each step. So no run executes more instructions or calls than `cost`, the most
+    /// on such a path. The function does nothing when it is called.
     pub fn runs_are_paths(&self)
         ensures { RunsArePaths (shapes_in self.now) self.now.code }
     {
@@ -83,8 +88,10 @@ impl Verified {
         laws::accepted_runs_are_paths();
     }
 
-    /// A law: no run of the program faults on maps of the shapes with which the program was accepted, a context and a packet
-    /// (`AreRunInputs`). The function does nothing when it is called.
+    /// A law: no run of the program faults, that is, its outcome on tagged values (`result_of`) is never `Fault`. The run is given, for
+    /// each descriptor of its maps, a map of the shape with which the program was accepted, the eleven words of a context, and a packet
+    /// (`AreRunInputs`). `flat_machine` needs the law, as it runs the program without bounds checks. The function does nothing when it is
+    /// called.
     pub fn never_faults(&self)
         ensures { (maps : MapsByDescriptor) (words packet : List ℕ)
             → AreRunInputs (shapes_in self.now) maps words packet
@@ -95,8 +102,10 @@ impl Verified {
         laws::accepted_programs_never_fault();
     }
 
-    /// A law: each edge out of an instruction of the program leads to another instruction, at a later slot. The function does nothing when
-    /// it is called.
+    /// A law: each edge out of an instruction of the program leads to another instruction of the program, at a later slot (`GoesAhead`).
+    /// The edges are that to the next instruction, unless the instruction is an exit or always jumps, and that to the target of a jump. By
+    /// this law the loop of a run (`flat_machine`) needs no counter and no bounds check of slots, and terminates because fewer slots are
+    /// left. The function does nothing when it is called.
     pub fn goes_ahead(&self)
         ensures { GoesAhead self.now.code }
     {
@@ -105,14 +114,16 @@ impl Verified {
     }
 }
 
-/// Verifies a program. `named` lists the open descriptors and the objects that they name; if it has a descriptor twice, the first object
-/// counts. The result has a copy of the program.
+/// Verifies a program that the caller keeps: if it is accepted, the result has a copy of the program, and of `named` the objects of its
+/// maps (`accepted`). `named` lists the open descriptors and the objects that they name; if it has a descriptor twice, the first object
+/// counts. A load calls `verify_slots`, which reads the program from slots and does not copy it. The log calls `verify_watched`, which
+/// returns no `Verified`.
 ///
 /// # Errors
 ///
-/// The first fault of the program's shape; if there is none, the first instruction that may not be run with the facts before
-/// it; each with its slot and its first reason. `Memory` at slot 0 if out of memory for the verdict, for the lists of the
-/// program's maps or for the copy.
+/// `refused`: the slot and the reason of the first fault of the program's shape; if there is none, of the first instruction that may not be
+/// run with the facts before it. If several reasons apply at that slot, it is the first. `Memory` at slot 0 if out of memory for the
+/// verdict, for the lists of the program's maps or for the copy.
 pub fn verify(alloc: Global, program: &Program, named: &[Named]) -> Result<Verified, VerifyFault>
     ensures accepted { IfOk result (IsAcceptedAs program.now named.now) }
     ensures refused { IfErr result (IsFaultOf program.now named.now) }
@@ -123,10 +134,11 @@ pub fn verify(alloc: Global, program: &Program, named: &[Named]) -> Result<Verif
     Ok(Verified { program, found })
 }
 
-/// Verifies the program that `slots`, eight bytes each, spell. Returns it, without a copy, if it is accepted, or else why the slots are
-/// rejected: they are no program, or it breaks a rule. `named` lists the open descriptors and the objects that they name. `working` is
-/// memory to work in, which the next call can use again; its contents mean nothing. Not inlined, as the library calls it from two
-/// functions.
+/// Verifies the program that the bytes `slots`, eight for each slot, spell. `named` lists the open descriptors and the objects that they
+/// name. The result is the accepted program, without a copy (`accepted`), or else a `Refusal`: why, and because of which slot, the slots
+/// are rejected (`refused`). Either they are no program, or it breaks a rule. By `objects` the program has the entries that `named` has for
+/// the descriptors of its maps. `working` is memory to work in, which the next call can use again; its contents mean nothing. Not inlined,
+/// as the library calls it from two functions.
 ///
 /// # Errors
 ///
@@ -163,13 +175,15 @@ pub fn verify_slots(
     }
 }
 
-/// Verifies a program like `verify`, and passes the facts before each instruction that a run may reach to `watcher`: each slot once
-/// and in order. If the program is rejected for its safety, the last slot is that of the fault; if for its shape, nothing is passed.
-/// Nothing is kept of the program; the result is what it costs.
+/// Verifies a program like `verify`, and passes the facts before each instruction that a run may reach to `watcher`, once for each slot at
+/// which one begins, in order (`seen`): so the log learns them. Keeps nothing of the program, and returns only its cost (`cost`). If the
+/// program is rejected for its safety, the last slot that is passed is that of the fault; if for its shape, none is passed
+/// (`seen_refused`). `W.seen` is the list of the slots and facts that a watcher has received, or `None` if it does not say which.
 ///
 /// # Errors
 ///
-/// Those of `verify`; `Memory` at slot 0 also if the watcher is out of memory. Then it has received the facts up to some slot.
+/// Those of `verify`: the first fault of the shape, else of the safety, with its slot and its first reason (`refused`). `Memory` at slot 0
+/// if out of memory, also if the watcher is. Then the watcher has received the facts before the slots below some slot.
 pub fn verify_watched<W: Watcher>(
     alloc: Global,
     program: &Program,

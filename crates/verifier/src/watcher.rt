@@ -12,11 +12,12 @@ pub trait Watcher {
     // The slots and facts that it has received so far; `None` of a watcher that does not say which, as one that only counts.
     ghost seen: { Self → Option (List (ℕ × AnyFacts)) } = { λ _. None };
 
-    /// Receives the facts before the instruction at `slot`. They are borrowed from the pass.
+    /// Receives the facts before the instruction at `slot`, which are borrowed from the pass. `with_more` appends the slot and these facts
+    /// to `seen`, the list of what was received (`ok`); a `seen` of `None` is unchanged, as the watcher does not say what it receives.
     ///
     /// # Errors
     ///
-    /// `AllocError`: out of memory, whether or not the facts were received. The pass ends there.
+    /// `AllocError`: out of memory, whether or not the facts were received, and so appended to `seen` (`err`). The pass ends there.
     fn before(&mut self, slot: usize, facts: &Facts) -> Result<(), AllocError>
         ensures ok { OnOk result
             (seen self.new ≡ with_more (seen self.old) ((slot, facts.now) ∷ [])) }

@@ -29,7 +29,8 @@ impl WorkingMemory {
         }
     }
 
-    /// The allocator of this memory.
+    /// The allocator that was given to `new`. A load also allocates with it what is not in this memory: the list of the tenant's open
+    /// descriptors, and the loaded program.
     pub fn alloc(&self) -> Global {
         self.alloc
     }

@@ -6,8 +6,8 @@ use log_text::run_log_words;
 use std::process::ExitCode;
 use std::{env, io};
 
-/// Runs the program on its arguments, those after its name, and returns the exit status. An error means that they
-/// could not be read, for instance since one is not UTF-8 or memory ran out.
+/// Runs the program on its arguments, those after its name, and returns its exit status (`run_log_words`). An error means that the
+/// arguments could not be read, for instance since one is not UTF-8 or memory ran out.
 fn run(rt: &HostRuntime) -> io::Result<u8> {
     let alloc = rt.alloc();
     let given: Vec<String> = env::args(rt)?.skip(1).collect(alloc)?;

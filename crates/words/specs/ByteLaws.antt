@@ -114,8 +114,10 @@ bytes_written bytes new offset h =
     (drop-append_seam (take offset bytes) (new ++ drop (offset + length new) bytes))
     ∙ take-append_seam new (drop (offset + length new) bytes)
 
--- if other bytes (`rest`) replace the list from an offset on, n bytes at `from` that end at this
--- offset or below are unchanged
+-- bytes before an offset are unchanged if other bytes (`rest`), of any number, replace all bytes of
+-- the list from the offset on: the n bytes at `from`, which end at the offset or below. The offset
+-- is at most the list's length, so `rest` begins at the offset. `bytes_stay` needs this for bytes
+-- before a write
 before : (bytes rest : List ℕ) (offset from n : ℕ)
     → from + n ≤ offset
     → offset ≤ length bytes
@@ -138,7 +140,9 @@ before bytes rest offset from n h k =
     (drop (offset - from) (drop from bytes)) less)
     ∙ ap (take n) (take-append-drop (offset - from) (drop from bytes))
 
--- a write does not change the list from `from` on, if each written byte is before `from`
+-- if the bytes `new` are written at `offset`, and each of them is before `from`, the list is not
+-- changed from `from` on. It is assumed that the write begins in the list or at its end
+-- (`offset ≤ length bytes`); it may make the list longer
 rest_after_write : (bytes new : List ℕ) (offset from : ℕ)
     → offset + length new ≤ from
     → offset ≤ length bytes
@@ -342,7 +346,8 @@ number_of-low_bytes (suc n) x h =
     let small : x / 256 < 256 ^ n = omega arith in
     ap (λ (y : ℕ). x % 256 + 256 * y) (number_of-low_bytes n (x / 256) small) ∙ omega arith
 
--- n bytes, each below 256, represent a number below 256 ^ n (`number_of`)
+-- n bytes, each below 256 (`small`), represent a number below 256 ^ n, little-endian (`number_of`);
+-- n is the length of the list. This bounds the number of a key, and of loaded bytes
 pub number_below : (bytes : List ℕ)
     → ((i : ℕ) → i < length bytes → get_or bytes i 0 < 256)
     → number_of bytes < 256 ^ length bytes
@@ -355,7 +360,8 @@ number_below (b ∷ bytes) small =
     below_more : (b n x : ℕ) → b < 256 → x < 256 ^ n → b + 256 * x < 256 ^ suc n
     below_more b n x h g = omega arith
 
--- bytes that are each below 256 are the low bytes of their number
+-- a list of bytes, each below 256, can be recovered from the number that it represents: as many low
+-- bytes of `number_of bytes` as the list is long are the list. In both the lowest byte is the first
 pub low_bytes_of_number : (bytes : List ℕ)
     → ((i : ℕ) → i < length bytes → get_or bytes i 0 < 256)
     → low_bytes (length bytes) (number_of bytes) ≡ bytes

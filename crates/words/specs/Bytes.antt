@@ -2,7 +2,8 @@
 -- machine).
 use Rattle.std.specs.Prelude.{ℕ, zero, suc, ◌+◌, ◌*◌, ◌/◌, ◌%◌, List, [], ◌∷◌, ◌++◌, length, take, drop}
 
--- the number that these bytes represent, of which the first is the lowest
+-- the number that these bytes represent in little-endian order: the first byte is the lowest, and
+-- each next one counts 256 times as much. 0 for the empty list. A load reads this number
 abbrev pub number_of : List ℕ → ℕ
 number_of [] = 0
 number_of (b ∷ bs) = b + 256 * number_of bs

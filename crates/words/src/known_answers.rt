@@ -4,8 +4,8 @@ use crate::{
     AccessSize, AluOp, ByteOrder, Condition, ExtendedBits, KeptBits, Operator, words32, words64,
 };
 
-/// On 64 bits: 7 divided by 0 is 0 and leaves 7, 0 less 1 is 2^64 - 1, the low 16 bits of 287454020 (0x11223344) in reverse are 17459
-/// (0x4433), and 0 is above -1, both signed.
+/// On 64 bits: 7 divided by 0 has the quotient 0 and the remainder 7; 0 less 1 is 2^64 - 1; the low two bytes of 287454020 (0x11223344) are
+/// 17459 (0x4433) in big-endian order, which reverses them; and 0 is above 2^64 - 1, which is -1, if both are signed.
 fn words_of_64_bits() {
     let quotient = words64::operate(Operator::Binary(AluOp::Div), 7, 0);
     prove!(quotient == 0);
@@ -40,7 +40,7 @@ fn sizes_of_accesses() {
     prove!(!is_double);
 }
 
-/// A move of 32 bits can extend the sign from fewer than 32 bits (`is_short`): from 16, and not from 32.
+/// A move of 32 bits can extend the sign only from fewer bits (RFC 9669, section 4.1): `is_short` is true for 16 bits, false for 32.
 fn sign_extensions_of_32_bits() {
     let from_half = ExtendedBits::Bits16.is_short();
     prove!(from_half);

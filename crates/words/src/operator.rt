@@ -105,7 +105,8 @@ impl ExtendedBits {
     ghost use Rattle.std.specs.Prelude.{◌≡◌};
     ghost use Rattle.words.specs.Operate.{extended_bits, is_short};
 
-    /// The number of bits: 8, 16 or 32. A slot has this number in its offset field, so both have the same type.
+    /// The number of low bits that a sign extension reads: 8, 16 or 32. A slot has this number in its offset field, so the result has the
+    /// type of this field.
     pub fn count(self) -> u16
         ensures { result ≡ extended_bits self }
     {

@@ -11,7 +11,8 @@ pub(crate) fn low_byte(a: u64) -> u8
     (a % 0x100) as u8
 }
 
-/// The low 16 bits of a word. In `words32` the low half of a word is not these, but its low 32 bits (`low_word`).
+/// The low 16 bits of a word: the word modulo 2^16 (`low 16`). Sign extensions from 16 bits and byte-order conversions of 16 bits read
+/// them. They are not what `words32` calls the low half of a word: that is its low 32 bits (`low_word`).
 #[inline(always)]
 pub(crate) fn low_16_bits(a: u64) -> u16
     ensures { result ≡ low 16 a }

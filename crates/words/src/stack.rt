@@ -34,7 +34,8 @@ impl AccessSize {
         }
     }
 
-    /// Whether it is a double word: eight bytes, the size of a stack slot.
+    /// Whether the size is a double word: eight bytes, the size of a stack slot. Only a load or a store of this size moves a pointer or a
+    /// map between a register and the stack.
     pub fn is_double(self) -> bool
         ensures { result ≡ is_double self }
     {

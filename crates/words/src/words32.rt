@@ -20,7 +20,7 @@ pub fn add(a: u64, b: u64) -> u64
     u64::from(low_word(a).wrapping_add(low_word(b)))
 }
 
-/// The difference of the low halves, modulo 2^32.
+/// The low half of `a` less that of `b`, modulo 2^32, as a word whose upper half is zero: a subtraction of 32 bits (RFC 9669, section 4.1).
 #[inline(always)]
 pub fn subtract(a: u64, b: u64) -> u64
     ensures { result ≡ subtract 32 (low 32 a) (low 32 b) }
@@ -36,7 +36,7 @@ pub fn multiply(a: u64, b: u64) -> u64
     u64::from(low_word(a).wrapping_mul(low_word(b)))
 }
 
-/// The unsigned quotient of the low halves; 0 if the divisor is 0.
+/// The low half of `a` divided by that of `b`, both unsigned, rounded down; 0 if the low half of `b` is 0 (RFC 9669, section 4.1).
 #[inline(always)]
 pub fn divide(a: u64, b: u64) -> u64
     ensures { result ≡ divide (low 32 a) (low 32 b) }
@@ -63,8 +63,8 @@ pub fn remainder(a: u64, b: u64) -> u64
     }
 }
 
-/// The signed quotient of the low halves, rounded toward zero; 0 if the divisor is 0. -2^31 divided by -1 is -2^31: 2^31 wraps, as it is no
-/// signed number of 32 bits.
+/// The signed quotient of the low half of `a` by that of `b`, rounded toward zero; 0 if the divisor is 0. -2^31 divided by -1 is -2^31:
+/// 2^31 wraps, as it is no signed number of 32 bits.
 #[inline(always)]
 pub fn signed_divide(a: u64, b: u64) -> u64
     ensures { result ≡ signed_divide 32 (low 32 a) (low 32 b) }
@@ -82,8 +82,8 @@ pub fn signed_divide(a: u64, b: u64) -> u64
     }
 }
 
-/// The remainder of the signed quotient of the low halves, with the sign of the dividend, in two's complement of 32 bits; the low half of
-/// `a` if the divisor is 0. -2^31 divided by -1 leaves 0. The upper half of the result is 0.
+/// The remainder when the low half of `a` is divided by that of `b`, both signed, with the sign of the dividend, in two's complement of 32
+/// bits; the low half of `a` if that of `b` is 0. -2^31 divided by -1 leaves 0. The upper half of the result is 0.
 #[inline(always)]
 pub fn signed_remainder(a: u64, b: u64) -> u64
     ensures { result ≡ signed_remainder 32 (low 32 a) (low 32 b) }
@@ -133,7 +133,7 @@ pub fn shift_left(a: u64, b: u64) -> u64
     u64::from(low_word(a) << (low_word(b) % 32))
 }
 
-/// The low half of `a` shifted right by `b % 32` bits, with zeros from the left.
+/// The low half of `a`, as an unsigned number, shifted right by `b % 32` bits, with zeros from the left.
 #[inline(always)]
 pub fn shift_right(a: u64, b: u64) -> u64
     ensures { result ≡ shift_right 32 (low 32 a) (low 32 b) }
@@ -165,7 +165,7 @@ pub fn negate(a: u64) -> u64
     u64::from(0u32.wrapping_sub(low_word(a)))
 }
 
-/// The low bits of `a`, as many as `from` has, sign-extended to 32 bits. For all 32 it is the low half itself.
+/// The low 8, 16 or 32 bits of `a`, as many as `from` has, sign-extended to 32 bits. All 32 bits are the low half, unchanged.
 #[inline(always)]
 pub fn sign_extend(from: ExtendedBits, a: u64) -> u64
     ensures { result ≡ sign_extend 32 (extended_bits from) (low 32 a) }
@@ -185,7 +185,7 @@ pub fn equal(a: u64, b: u64) -> bool
     low_word(a) == low_word(b)
 }
 
-/// Whether the low halves differ.
+/// Whether the low halves of `a` and `b` differ.
 #[inline(always)]
 pub fn not_equal(a: u64, b: u64) -> bool
     ensures { result ≡ not (low 32 a == low 32 b) }
@@ -257,7 +257,7 @@ pub fn signed_below_or_equal(a: u64, b: u64) -> bool
     low_word(a).cast_signed() <= low_word(b).cast_signed()
 }
 
-/// Whether the bitwise and of the low halves is not 0.
+/// Whether some bit is 1 in the low halves of both words, that is, their bitwise and is not 0: the condition `CommonBit` of a 32-bit jump.
 #[inline(always)]
 pub fn common_bit(a: u64, b: u64) -> bool
     ensures { result ≡ not (bit_and (low 32 a) (low 32 b) == 0) }
@@ -265,7 +265,8 @@ pub fn common_bit(a: u64, b: u64) -> bool
     low_word(a) & low_word(b) != 0
 }
 
-/// The result of an operator of two operands on the low halves of two words: `a` has the destination's value, `b` the source's.
+/// The result of an operator of two operands on the low halves of two words: `a` has the destination's value, `b` the source's, and 32 in
+/// the contract is the width. A quotient by 0 is 0, a remainder by 0 is the low half of `a`, and a move does not read `a`.
 #[inline(always)]
 pub fn alu(op: AluOp, a: u64, b: u64) -> u64
     ensures { result ≡ operate 32 (Binary op) a b }
@@ -288,8 +289,9 @@ pub fn alu(op: AluOp, a: u64, b: u64) -> u64
     }
 }
 
-/// The result of an operator on the low halves of two words: `a` has the destination's value, `b` the source's. Only a byte-order
-/// conversion reads and returns 64 bits, whatever the width.
+/// The result of any operator, of two operands (`alu`) or of one, on the low halves of two words: `a` has the destination's value, `b` the
+/// source's. A negation reads only `a`, a sign extension only `b`. A byte-order conversion also reads only `a`, and not only the low half:
+/// its operand and its result have 64 bits, whatever the width.
 #[inline(always)]
 pub fn operate(op: Operator, a: u64, b: u64) -> u64
     ensures { result ≡ operate 32 op a b }
@@ -302,7 +304,7 @@ pub fn operate(op: Operator, a: u64, b: u64) -> u64
     }
 }
 
-/// Whether a condition holds for the low halves of two words.
+/// Whether a condition holds for the low halves of `a` and `b`, in this order: for `Above`, whether that of `a` is above that of `b`.
 #[inline(always)]
 pub fn compares(condition: Condition, a: u64, b: u64) -> bool
     ensures { result ≡ compares 32 condition a b }

@@ -18,7 +18,7 @@ pub fn add(a: u64, b: u64) -> u64
     a.wrapping_add(b)
 }
 
-/// The difference, modulo 2^64.
+/// The difference `a` - `b`, modulo 2^64.
 #[inline(always)]
 pub fn subtract(a: u64, b: u64) -> u64
     ensures { result ≡ subtract 64 a b }
@@ -34,7 +34,7 @@ pub fn multiply(a: u64, b: u64) -> u64
     a.wrapping_mul(b)
 }
 
-/// The unsigned quotient; 0 if `b` is 0.
+/// The unsigned quotient, rounded down; 0 if `b` is 0 (RFC 9669, section 4.1).
 #[inline(always)]
 pub fn divide(a: u64, b: u64) -> u64
     ensures { result ≡ divide a b }
@@ -42,7 +42,7 @@ pub fn divide(a: u64, b: u64) -> u64
     if b == 0 { 0 } else { a / b }
 }
 
-/// The unsigned remainder; `a` if `b` is 0.
+/// The unsigned remainder; `a` if `b` is 0, as eBPF defines it (RFC 9669, section 4.1).
 #[inline(always)]
 pub fn remainder(a: u64, b: u64) -> u64
     ensures { result ≡ remainder a b }
@@ -134,7 +134,7 @@ pub fn negate(a: u64) -> u64
     0u64.wrapping_sub(a)
 }
 
-/// The low bits of `a`, as many as `from` has, sign-extended to 64 bits.
+/// The low 8, 16 or 32 bits of `a`, as `from` gives, sign-extended to 64 bits: for sign-extending loads, and for `Movsx` to 64 bits.
 #[inline(always)]
 pub fn sign_extend(from: ExtendedBits, a: u64) -> u64
     ensures { result ≡ sign_extend 64 (extended_bits from) a }
@@ -210,7 +210,7 @@ pub fn below_or_equal(a: u64, b: u64) -> bool
     a <= b
 }
 
-/// Whether `a` is above `b`, both signed.
+/// Whether `a` is above `b`, both as signed numbers of 64 bits: the condition `SignedAbove`, JSGT of RFC 9669, section 4.3.
 #[inline(always)]
 pub fn signed_above(a: u64, b: u64) -> bool
     ensures { result ≡ int_lt (signed 64 b) (signed 64 a) }
@@ -242,7 +242,7 @@ pub fn signed_below_or_equal(a: u64, b: u64) -> bool
     a.cast_signed() <= b.cast_signed()
 }
 
-/// Whether the bitwise and of the words is not 0.
+/// Whether the bitwise and of the words is not 0: some bit is 1 in both. This is the condition of the jump JSET (RFC 9669, section 4.3).
 #[inline(always)]
 pub fn common_bit(a: u64, b: u64) -> bool
     ensures { result ≡ not (bit_and a b == 0) }
@@ -250,7 +250,8 @@ pub fn common_bit(a: u64, b: u64) -> bool
     (a & b) != 0
 }
 
-/// The result of an operator of two operands on 64 bits: `a` is the destination's value, `b` the source's.
+/// The result of `op`, an operator of two operands or a move, on 64 bits: `a` is the destination's value, `b` the source's. A move (`Mov`)
+/// has the result `b`. A quotient by 0 is 0, a remainder by 0 is `a`, and a shift is by `b` modulo 64 (RFC 9669, section 4.1).
 #[inline(always)]
 pub fn alu(op: AluOp, a: u64, b: u64) -> u64
     ensures { result ≡ operate 64 (Binary op) a b }
@@ -273,8 +274,8 @@ pub fn alu(op: AluOp, a: u64, b: u64) -> u64
     }
 }
 
-/// The result of an operator on 64 bits: `a` is the destination's value, `b` the source's. An operator of one operand ignores the value
-/// that it does not read.
+/// The result of an operator on 64 bits: `a` is the destination's value, `b` the source's. A negation and a byte-order conversion ignore
+/// `b`; a sign extension ignores `a`, and so does a move.
 #[inline(always)]
 pub fn operate(op: Operator, a: u64, b: u64) -> u64
     ensures { result ≡ operate 64 op a b }
@@ -287,7 +288,9 @@ pub fn operate(op: Operator, a: u64, b: u64) -> u64
     }
 }
 
-/// Whether a condition holds for two 64-bit words.
+/// Whether a condition holds for two 64-bit words: `a` is the destination's value, `b` the source's, so `Below` means that `a` is below
+/// `b`. The conditions with `Signed` in their names compare in two's complement, the other comparisons are unsigned. `CommonBit` means that
+/// the bitwise and is not 0.
 #[inline(always)]
 pub fn compares(condition: Condition, a: u64, b: u64) -> bool
     ensures { result ≡ compares 64 condition a b }

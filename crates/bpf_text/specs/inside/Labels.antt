@@ -24,7 +24,8 @@ Labels = HashMap (Bor (List ℕ)) LineStart (BuildHasherDefault FoldHasher)
 abbrev pub definition_of : Labels → List ℕ → Option LineStart
 definition_of labels name = get_by (λ k. bytes_eq name k.now) labels
 
--- x if it is a value, else y
+-- the first of two options if it has a value, else the second (`y`), which may be None. By it, a
+-- label keeps the definition that it has, and gets a new one only if it has none
 abbrev pub or_else : {A : Type 0} → Option A → Option A → Option A
 or_else (Some x) y = Some x
 or_else None y = y
@@ -42,16 +43,17 @@ FindsLabels lines labels n =
 
 -- ---- a line's fault and instruction, given the definitions that are kept
 
--- the index of the line that defines a label, by the definition that is kept for the label. Without
--- one the result is `line`, the index of the line that is checked, so that `label_fault` finds no
--- earlier definition
+-- the index, from 0, of the line of a label's definition, given what `Labels` has for the label. If
+-- it has no definition (None), the result is `line`, the index of the line that `label_fault`
+-- checks: the label is defined twice if the result is less than `line`, so this is no fault
 abbrev pub kept_line : Option LineStart → ℕ → ℕ
 kept_line None line = line
 kept_line (Some definition) line = definition.line
 
--- the number of slots before the line that defines a label, by the definition that is kept for the
--- label. 0 if none is kept (None): no jump uses this slot, since a jump to a label without a
--- definition is a fault
+-- the slot of a label: the number of slots before the first line that defines the label. The
+-- argument is the definition that the assembler keeps for the label's name; None if it keeps none,
+-- since no line defines the label. The result is then 0, which no jump uses: a jump to a label
+-- without a definition is a fault (`UnknownLabel`)
 abbrev pub kept_slot : Option LineStart → ℕ
 kept_slot None = 0
 kept_slot (Some definition) = definition.slot
@@ -106,14 +108,16 @@ kept_forms labels slot [] = []
 kept_forms labels slot (line ∷ lines) =
     kept_form labels slot line ++ kept_forms labels (slot + line_slots line) lines
 
--- a line that was parsed is well formed; nothing is required of one that was not (None), which is a
--- fault of the text
+-- what the assembler requires of each line, and reading ensures: a line that was parsed is well
+-- formed (`IsWellFormed`), so its instruction has a form that a line can have, and a label's name
+-- only if the form names a label. Nothing is required of a line that was not parsed (None), which
+-- is the fault Syntax of the text
 abbrev pub IsNoneOrWellFormed : Option Line → Type 0
 IsNoneOrWellFormed None = Unit {0}
 IsNoneOrWellFormed (Some line) = IsWellFormed line
 
--- the name of the label that a line defines. The result is None if the line defines none, or if it
--- was not parsed (None)
+-- the name, in bytes, of the label that a line defines. The result is None if the line is blank, if
+-- it is an instruction, which may name a label but defines none, or if it was not parsed (None)
 abbrev pub defined_label : Option Line → Option (List ℕ)
 defined_label None = None
 defined_label (Some blank) = None

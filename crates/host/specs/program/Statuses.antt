@@ -13,8 +13,9 @@ use Rattle.host.specs.declared.program.failure.Failure.{Failure}
 use Rattle.host.specs.declared.program.failure.Failure.TheVariants.{WrongArguments, MapArgument, Truncated}
 use Rattle.host.specs.declared.program.failure.Failure.TheVariants.{TooManyFrames, TooLong, Line, Slot, Read, Write, Seed, Memory}
 
--- The exit status: 1 if the input is rejected, 2 if arguments are wrong, 3 if input or output
--- failed or `serve` has no seed for hash maps, 4 if out of memory.
+-- The exit status after a failure: 1 if the input is rejected (a stream ends inside a frame or has
+-- too many frames, the input is too long, a line or slot has a fault), 2 if arguments are wrong, 3
+-- if a call of input or output failed or `serve` has no seed for hash maps, 4 if out of memory.
 abbrev pub exit_status : Failure → ℕ
 exit_status (Truncated frames) = 1
 exit_status TooManyFrames = 1

@@ -51,7 +51,8 @@ fn tenant_count(digits: &str) -> Option<usize>
     }
 }
 
-/// The subcommand `serve`, with the required option `--tenants`, which has a value. `AllocError`: out of memory.
+/// The subcommand `serve` for clap, with the required option `--tenants`. The option has a value, the number of tenants, but clap takes any
+/// text. The contract: clap gets the subcommand of the definition (`serve_command`). `AllocError`: out of memory.
 fn serve_subcommand<'a>(alloc: Global) -> Result<Command<'a>, AllocError>
     ensures { IfOk result (λ command. app_of command ≡ serve_command) }
 {
@@ -62,7 +63,8 @@ fn serve_subcommand<'a>(alloc: Global) -> Result<Command<'a>, AllocError>
     Command::new(alloc, "serve").arg(tenants)
 }
 
-/// The subcommand `verify`, with any number of map arguments, which are positional. `AllocError`: out of memory.
+/// The subcommand `verify`, as `parse_arguments` gives it to clap: any number of positional arguments, one for each map, which clap
+/// collects under the name `map`. By the clause it is `verify_command` for clap's definitions (`app_of`). `AllocError`: out of memory.
 fn verify_subcommand<'a>(alloc: Global) -> Result<Command<'a>, AllocError>
     ensures { IfOk result (λ command. app_of command ≡ verify_command) }
 {
@@ -70,7 +72,9 @@ fn verify_subcommand<'a>(alloc: Global) -> Result<Command<'a>, AllocError>
     Command::new(alloc, "verify").arg(maps)
 }
 
-/// Parses the arguments, which don't begin with the program's name, with clap. `Err` if clap rejects them, or if out of memory.
+/// Parses the arguments, those after the program's name, with clap: a subcommand, `serve`, `asm`, `dis` or `verify`, is required. `given`:
+/// the result has the subcommand and what is given to its options (`chosen_subcommand`). `kinds`: `Err` has a kind of error that clap's
+/// definition gives for these arguments (`refusal_kinds`), or that of out of memory; the result is `Ok` only if the definition gives none.
 fn parse_arguments<'a>(
     alloc: Global,
     arguments: &'a [&'a str],
@@ -89,7 +93,9 @@ fn parse_arguments<'a>(
     program.try_get_matches_from(arguments)
 }
 
-/// The number of tenants given to `serve`; `None` if it is not from 1 to `MOST_TENANTS`, or missing, which clap rejects before.
+/// The number of tenants that the option `--tenants` gives; `serve` is what clap has found for the options of the subcommand `serve`
+/// (`rows_of`). `None` if the text of the option (`tenants_value`) is no decimal number from 1 to `MOST_TENANTS` (`tenant_number`): then
+/// the program ends with `WrongArguments`. Also `None` without the option, but clap rejects such arguments before.
 fn tenants_given(serve: &ArgMatches<'_>) -> Option<usize>
     ensures { result
         ≡ option_and_then tenant_number (tenants_value (rows_of (found_of serve.now))) }
@@ -97,7 +103,9 @@ fn tenants_given(serve: &ArgMatches<'_>) -> Option<usize>
     tenant_count(serve.get_str("tenants")?)
 }
 
-/// The task of the subcommand with this name; `None` if its options are wrong, or if no subcommand has the name, which clap rejects before.
+/// The task of the subcommand `name` with these options, which clap has parsed: the one that `asked_with` defines (`asked`). `None` if the
+/// `--tenants` of `serve` is no decimal number from 1 to `MOST_TENANTS`, so a task to serve has such a number (`tenants`). `None` too if
+/// `--tenants` is missing or `name` is no subcommand: clap rejects both before. The map arguments of `verify` are not parsed here.
 fn task_named<'m, 'a>(name: &str, options: &'m ArgMatches<'a>) -> Option<Task<'m, 'a>>
     ensures tenants { IfSome result HasTenants }
     ensures asked { option_map asked_by result
@@ -119,8 +127,10 @@ fn task_named<'m, 'a>(name: &str, options: &'m ArgMatches<'a>) -> Option<Task<'m
     }
 }
 
-/// The task of the chosen subcommand. That of `serve` has a number of tenants from 1 to `MOST_TENANTS` (`tenants`). `None` if the
-/// subcommand's options are wrong, or if no subcommand is chosen, which clap rejects before.
+/// The task of the subcommand that `matches` has, clap's result for the arguments. `None` if the number of tenants for `serve` is no
+/// decimal number from 1 to `MOST_TENANTS`, so the task of `serve` has one of these (`tenants`). Also `None` if `matches` has no
+/// subcommand, or `--tenants` is missing, but clap has rejected that before. `asked`: the result, with the task as the definitions have it
+/// (`asked_by`), is what they give for the subcommand and its options (`asked_of`).
 fn chosen_task<'m, 'a>(matches: &'m ArgMatches<'a>) -> Option<Task<'m, 'a>>
     ensures tenants { IfSome result HasTenants }
     ensures asked { option_map asked_by result ≡ asked_of (subcommand_rows_of matches.now) }
@@ -129,9 +139,10 @@ fn chosen_task<'m, 'a>(matches: &'m ArgMatches<'a>) -> Option<Task<'m, 'a>>
     task_named(name, options)
 }
 
-/// Serves the input's frames and writes the replies. Fails with `Seed` if there is no seed, before anything is read, with `Memory` if out
-/// of memory, or as `serve_frames` fails. No failure has status 2, that of wrong arguments. The streams are consumed, so only the contract
-/// of `serve_frames` has what is read and written, and which fault occurs.
+/// Serves the frames of `input` on a new host of `tenants` tenants, from 1 (`some`) to `MOST_TENANTS` (`few`), and writes the replies to
+/// `output`. Fails with `Seed` if `seed` is `None`, before anything is read, with `Memory` if out of memory, or as `serve_frames` fails. No
+/// failure has exit status 2, that of wrong arguments. The function consumes both streams, so its contract can't describe them afterwards:
+/// only the contract of `serve_frames` states what is read and written, and which fault occurs.
 fn serve_streams<I: Read + Drop, O: Write + Drop>(
     alloc: Global,
     seed: Option<HashSeed>,
@@ -154,8 +165,10 @@ fn serve_streams<I: Read + Drop, O: Write + Drop>(
     serve_frames(alloc, tenants, seed, &mut reader, &mut writer)
 }
 
-/// Assembles or disassembles the input, and writes the result. It fails like `rewrite`, and no failure has status 2, that of wrong
-/// arguments. It consumes the streams, so only the contract of `rewrite` says what is read and written, and which failure is returned.
+/// Runs `asm` or `dis`, as `task` selects: reads the whole input, and writes the program's hex lines or its text. The failures are those of
+/// `rewrite`: `TooLong`, `Line` or `Slot` if the input is rejected, `Read` or `Write` if a call of a stream failed, `Memory` if out of
+/// memory. None has status 2, that of wrong arguments. The function consumes the streams, so only the contract of `rewrite` says what is
+/// read and written, and which failure is returned.
 fn rewrite_streams<I: Read + Drop, O: Write + Drop>(
     alloc: Global,
     task: TextTask,
@@ -169,8 +182,9 @@ fn rewrite_streams<I: Read + Drop, O: Write + Drop>(
     rewrite(alloc, task, &mut reader, &mut writer)
 }
 
-/// The maps that the map arguments name; an empty list if `arguments` is `None`, without map arguments. The errors are those of
-/// `named_maps`.
+/// The maps that the map arguments of `verify` name, in their order (`named`); an empty list if `arguments` is `None`, as without map
+/// arguments. `MapArgument` with the number, from 1, of the first argument that names no map, or a map at the descriptor of an earlier map
+/// (`wrong`); `Memory` if out of memory.
 fn maps_given(alloc: Global, arguments: Option<&[&str]>) -> Result<Vec<Named>, Failure>
     ensures named { IfOk result (λ maps. AreMapArguments (texts_given arguments.entry) maps.items) }
     ensures wrong { FailsOnly result (IsWrongMapArgument (texts_given arguments.entry)) }
@@ -182,8 +196,10 @@ fn maps_given(alloc: Global, arguments: Option<&[&str]>) -> Result<Vec<Named>, F
 }
 
 /// Reads the map arguments (`None`: no argument) and the input, and writes the verdict on the input's program. Returns the exit status: 0
-/// if the program is accepted with these maps, else 1. The function fails like `maps_given` or `judge`. If a map argument is wrong, the
-/// failure has status 2 or is out of memory; no other failure has status 2. The function consumes the streams, so only the contract of
+/// if the program is accepted with these maps, else 1. `accepted`: after status 0 the input has a program that is accepted with the maps of
+/// the arguments; nothing is claimed of a reader whose bytes contracts do not know. The function fails like `maps_given` or `judge`. If a
+/// map argument names no map, or the descriptor of an earlier one, the failure has status 2 or is `Memory` (`refused`); no other failure
+/// has status 2 (`wrong`). The function consumes both streams, so its contract can't express their states after the call: only that of
 /// `judge` states what is read and written, and how `judge` fails.
 fn judge_streams<I: Read + Drop, O: Write + Drop>(
     alloc: Global,
@@ -206,10 +222,12 @@ fn judge_streams<I: Read + Drop, O: Write + Drop>(
     Ok(verdict_status(refusal))
 }
 
-/// Runs the subcommand that the arguments name, and returns the exit status: 1 if `verify` rejects a program, else 0. Every other end is a
-/// `Failure`. If the arguments name no task, or a map argument is wrong, the failure has exit status 2 or is `Memory` (`refused`); no other
-/// failure has status 2 (`wrong`). The arguments are those after the name of the program. Only `serve` needs a seed: it fails with `Seed`
-/// if `seed` is `None`.
+/// Runs the subcommand that the arguments name, those after the name of the program, and returns the exit status: 1 if `verify` rejects a
+/// program, else 0 (`status`). Every other end is a `Failure`. Only `serve` needs a seed: it fails with `Seed` if `seed` is `None`.
+/// Arguments are wrong (`AreWrongArguments`) if they name no task, since clap rejects them or `serve` has no number of tenants from 1 to
+/// `MOST_TENANTS`, or if a map argument is wrong. Then the function fails, with a failure of exit status 2 or with `Memory` (`refused`); no
+/// other failure has status 2 (`wrong`). `accepted`: after status 0 for `verify`, the input has a program that is accepted with the maps of
+/// the arguments; nothing is promised of an input whose bytes contracts do not know.
 fn run<I: Read + Drop, O: Write + Drop>(
     alloc: Global,
     seed: Option<HashSeed>,
@@ -240,10 +258,12 @@ fn run<I: Read + Drop, O: Write + Drop>(
 }
 
 /// Runs bpfhost on its arguments, those after its name, and returns its exit status: 1 if the input or the program in it is rejected, 2 if
-/// arguments are wrong, 3 if input or output failed, or if there is no seed for the maps of `serve`, 4 if out of memory, else 0. A fault is
-/// one line on `faults`; if that line can't be written, the status is still the fault's. `seed` is `None` if none could be drawn; only
-/// `serve` needs it. `accepted`: after status 0 for `verify`, the input has a program that is accepted with the maps of the arguments;
-/// nothing is promised of a reader whose bytes contracts do not know.
+/// arguments are wrong, 3 if a call of the input or the output failed, or if there is no seed for the maps of `serve`, 4 if out of memory,
+/// else 0. Arguments are wrong if they name no task, or a map argument is wrong (`AreWrongArguments`). Status 2 is only for these
+/// (`wrong`), and they end with 2, or with 4 if out of memory (`refused`). A fault, which a verdict of `verify` is not, is one line on
+/// `faults`; if that line can't be written, the status is still the fault's. `seed` is `None` if none could be drawn; only `serve` needs
+/// it. `accepted`: after status 0 for `verify`, the input has a program that is accepted with the maps of the arguments; nothing is
+/// promised of a reader whose bytes contracts do not know.
 pub fn run_words<I: Read + Drop, O: Write + Drop, F: Write + Drop>(
     alloc: Global,
     seed: Option<HashSeed>,
@@ -266,9 +286,10 @@ pub fn run_words<I: Read + Drop, O: Write + Drop, F: Write + Drop>(
     }
 }
 
-/// Writes a line to `faults` for arguments that could not be read, with this error, and returns the exit status: `out of memory`
-/// and 4 if out of memory, else (if an argument is not UTF-8) `wrong words` and 2. If the line can't be written, the status is
-/// the same.
+/// Reports that the arguments of the program could not be read; `error` is the reason. Writes a line to `faults`, the standard error, and
+/// returns the exit status. If out of memory, the line is `out of memory` and the status 4 (`memory`). For any other error, as for an
+/// argument that is not UTF-8, the line is `wrong words` and the status 2 (`wrong`). If the line can't be written, the status is the same.
+/// The `main` of `bpfhost` and that of `verifier_log` call this function.
 pub fn refuse_unread_words<F: Write + Drop>(error: &io::Error, mut faults: F) -> u8
     ensures memory { error_kind error.now ≡ OutOfMemory → result ≡ 4 }
     ensures wrong { error_kind error.now ≢ OutOfMemory → result ≡ 2 }

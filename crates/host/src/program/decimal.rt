@@ -5,7 +5,8 @@ ghost use Rattle.std.specs.Char.{is_ascii_digit};
 ghost use Rattle.std.specs.List.{list_all};
 ghost use Rattle.host.specs.program.Decimal.{decimal_number};
 
-/// Whether each byte of a text is a decimal digit; true for the empty text, for which `decimal` gets an error from `parse`.
+/// Whether each byte of a text is a decimal digit. `decimal` checks this before it calls `parse`, which also accepts digits after a `+`.
+/// The result is true for the empty text, for which `parse` returns an error.
 fn is_digits(text: &str) -> bool
     ensures { result ≡ list_all is_ascii_digit text.now }
 {

@@ -54,7 +54,8 @@ impl Failure {
     ghost use Rattle.host.specs.declared.program.failure.Failure.TheVariants.{WrongArguments, Memory};
     ghost use Rattle.host.specs.program.Statuses.{exit_status};
 
-    /// Why the arguments could not be read: `Memory` if out of memory, else `WrongArguments`, for instance if one is not UTF-8.
+    /// The failure of the program, a fault line and an exit status, if its arguments could not be read, with this error: `Memory` if out of
+    /// memory, else `WrongArguments`, for instance if an argument is not UTF-8.
     pub fn of_unread_arguments(error: &io::Error) -> Failure
         ensures memory { error_kind error.now ≡ OutOfMemory → result ≡ Memory }
         ensures wrong { error_kind error.now ≢ OutOfMemory → result ≡ WrongArguments }
@@ -86,7 +87,7 @@ impl From<AllocError> for Failure {
 
     ghost from_gives = { λ _ failure. failure ≡ Memory };
 
-    /// An allocation fails only if out of memory.
+    /// The failure to which `?` converts a failed allocation: `Memory`, since an allocation fails only if out of memory.
     fn from(_error: AllocError) -> Failure {
         Failure::Memory
     }
@@ -97,7 +98,8 @@ impl<T: Drop> From<AllocFailed<T>> for Failure {
 
     ghost from_gives = { λ _ failure. failure ≡ Memory };
 
-    /// Memory was refused, and the error gives a value back. The failure is `Memory`; the value is dropped.
+    /// By this conversion `?` turns the error of a call that needed memory and got none, as `Vec::push`, into `Memory`. Such an error
+    /// (`AllocFailed`) has the value that was not stored; it is dropped.
     fn from(_error: AllocFailed<T>) -> Failure {
         Failure::Memory
     }
@@ -124,7 +126,8 @@ impl From<ServeFault> for Failure {
 
     ghost from_gives = { λ fault failure. failure ≡ stream_failure fault };
 
-    /// The failure for the fault of a stream. Only the line of `Truncated` has the number of frames.
+    /// The failure for the fault with which `serve` ended. For each kind of fault there is a failure of its name (`stream_failure`). How
+    /// many frames got their replies (`frames`) is only in `Truncated`, whose fault line prints this number; the other fault lines don't.
     fn from(fault: ServeFault) -> Failure {
         match fault.kind {
             ServeFaultKind::Read => Failure::Read,
@@ -141,7 +144,9 @@ impl From<TextFault> for Failure {
 
     ghost from_gives = { λ fault failure. failure ≡ text_failure fault };
 
-    /// Out of memory, or the line of the fault and the number of its kind.
+    /// The failure for the fault of an input that is a program's text (`assemble`) or hex lines (`from_hex_lines`): `Memory` if out of
+    /// memory, else `Line` with the line of the fault, 0 for the whole input, and the number of its kind. The contract (`from_gives`) says
+    /// this by `text_failure`.
     fn from(fault: TextFault) -> Failure {
         match fault.kind {
             TextFaultKind::Memory => Failure::Memory,
@@ -160,7 +165,8 @@ impl From<CodecFault> for Failure {
 
     ghost from_gives = { λ fault failure. failure ≡ codec_failure fault };
 
-    /// Out of memory, or the slot of the fault and the number of its kind.
+    /// Converts `fault`, why slots are no program, for the `?` after `read_program`: to `Memory` if out of memory, else to `Slot` with the
+    /// slot of the fault and the number of its kind in `insn_codec`. `from_gives`: the failure is the one that `codec_failure` defines.
     fn from(fault: CodecFault) -> Failure {
         match fault.kind {
             FaultKind::Memory => Failure::Memory,

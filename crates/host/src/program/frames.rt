@@ -11,12 +11,14 @@ use crate::program::failure::Failure;
 use host_core::{HashSeed, MOST_FRAMES, Sink, Source, serve_new_host};
 use std::alloc::Global;
 
-/// Serves the reader's frames on a new host with this seed, `MOST_FRAMES` at most, and writes the replies. The number of frames is not
-/// returned.
+/// Serves the frames of `reader`, at most `MOST_FRAMES`, on a new host of 1 to `MOST_TENANTS` tenants (`some`, `few`), and writes the
+/// replies to `writer`. The keys of hash maps are hashed with `seed`. The number of frames is not returned. `reads`, `writes`: fewer than
+/// 2^64 - 1 calls of each stream have failed before. `ServesNewHost`: tenants and streams change as `serve_new_host` promises.
 ///
 /// # Errors
 ///
-/// The failure for a fault of `serve_new_host`: `Read`, `Write`, `Truncated`, `TooManyFrames` or `Memory`.
+/// The failure for a fault of `serve_new_host`: `Read` or `Write` if a call of that stream failed, `Truncated` if the input ends inside a
+/// frame, `TooManyFrames` if another byte follows `MOST_FRAMES` frames, `Memory` if out of memory for the host or the buffers.
 pub(crate) fn serve_frames<R: Source, W: Sink>(
     alloc: Global,
     tenants: usize,

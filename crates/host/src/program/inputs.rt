@@ -16,7 +16,8 @@ use std::alloc::Global;
 use std::io::Read;
 use tagged_model::Named;
 
-/// Reads an input to its end, as `asm`, `dis` and `verify` do. It consumes the input, so no contract says what was read.
+/// Reads an input to its end, as `asm`, `dis` and `verify` do, for the program of the verifier's log. Unlike `read_input`, it consumes the
+/// input, so no contract says what was read.
 ///
 /// # Errors
 ///
@@ -26,8 +27,9 @@ pub fn whole_input<I: Read + Drop>(alloc: Global, input: I) -> Result<Vec<u8>, F
     read_input(alloc, &mut reader)
 }
 
-/// The maps that map arguments name, in order. A map argument is `FD:KIND:KEY:VALUE:MAX`, as on the command line of `verify`
-/// (`read_shape`).
+/// The maps that map arguments name, in order, no two of them at one descriptor. A map argument is `FD:KIND:KEY:VALUE:MAX`, as on the
+/// command line of `verify`: a descriptor from 3 to 66, `array` or `hash`, the sizes of a key and of a value in bytes, and the maximum of
+/// entries (`read_shape`). The function is `named_maps` of this crate, made public for the verifier's log.
 ///
 /// # Errors
 ///
@@ -39,18 +41,20 @@ pub fn maps_named(alloc: Global, arguments: &[&str]) -> Result<Vec<Named>, Failu
     named_maps(alloc, arguments)
 }
 
-/// The slots on the hex lines of an input, as `dis` and `verify` read them.
+/// The bytes of the slots on the hex lines of an input, eight for each slot, as `dis` and `verify` read them (`IsSlotText`): a line has the
+/// sixteen hex digits of a slot, or is blank. Whether the slots are a program is not tested. `verifier_log` calls this function.
 ///
 /// # Errors
 ///
-/// `Line` if the input is not UTF-8, a line has a fault or no line has a slot; `Memory` if out of memory.
+/// `Line` if the input is not UTF-8, a line has a fault, or there is no slot or more than `MAX_SLOTS`; `Memory` if out of memory.
 pub fn hex_slots(alloc: Global, input: &[u8]) -> Result<Vec<u8>, Failure>
     ensures { IfOk result (λ slots. IsSlotText input.now slots.items) }
 {
     slots_on(alloc, input)
 }
 
-/// Assembles the program whose text is an input.
+/// Assembles the program's text in `input`, as `asm` does. If a program is returned, the input is UTF-8 (`utf8`), and the program is the
+/// one of this text (`program`).
 ///
 /// # Errors
 ///

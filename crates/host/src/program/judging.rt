@@ -20,8 +20,10 @@ use std::alloc::{AllocError, Global};
 use tagged_model::Named;
 use verifier::{Refusal, WorkingMemory, laws, verify_slots};
 
-/// Why the slots on the input's hex lines are rejected, if these maps are open; `None` if their program is accepted. `Line` if the input is
-/// not UTF-8, a line has a fault or no line has a slot; `Memory` if out of memory.
+/// Returns why the slots on the input's hex lines are rejected, if the descriptors of `maps` are open; `None` if their program is accepted.
+/// Fails with `Line` if the input is not UTF-8, a line has a fault or no line has a slot (`IsUnreadable`); with `Memory` if out of memory.
+/// The result is the judgement of the input (`judged`); if the input has one, it is returned (`only`). A failure is one of this input
+/// (`fault`); if the input has one, the call fails with it (`faulty`). The last three allow `Memory` instead.
 fn refusal_of_input(alloc: Global, maps: &[Named], input: &[u8]) -> Result<Option<Refusal>, Failure>
     ensures judged { IfOk result (λ refusal. IsJudgement maps.now input.now refusal) }
     ensures only { (refusal : Option AnyRefusal) → IsJudgement maps.now input.now refusal
@@ -39,8 +41,8 @@ fn refusal_of_input(alloc: Global, maps: &[Named], input: &[u8]) -> Result<Optio
     }
 }
 
-/// The line of a verdict, with its line feed, 10: `accepted` if there is no refusal, or the text of the refusal. `AllocError`: out of
-/// memory.
+/// The line that `verify` writes for a verdict: `accepted` if there is no refusal (`None`), else the refusal's text, `refused: slot S
+/// reason R`. It ends with a line feed, the byte 10, which `judgement_text` leaves out. `AllocError`: out of memory.
 fn verdict_line(alloc: Global, refusal: Option<Refusal>) -> Result<String, AllocError>
     ensures { IfOk result (λ line. string_bytes line ≡ judgement_text refusal ++ 10 ∷ []) }
 {
@@ -61,9 +63,11 @@ pub(crate) fn verdict_status(refusal: Option<Refusal>) -> u8
 }
 
 /// Reads the input, verifies the slots on its hex lines, and writes a line with the verdict. `maps` are the descriptors that count as open,
-/// with their maps. Returns why the slots are rejected; `None` if their program is accepted. Fails with `TooLong` or `Read` as `read_input`
-/// does, with `Line` as `refusal_of_input` does, and with `Memory` if out of memory; then nothing is written. Fails with `Write` if a call
-/// of the writer failed; then a front of the line may be written.
+/// with their maps. Returns why the slots are rejected; `None` if their program is accepted. `done`: the input was read to its end, the
+/// line of this verdict is written whole, and no call failed; `streams` is what contracts see of reader and writer. `fault` has the
+/// failures. `TooLong` if the input has more than `LONGEST_INPUT` bytes, `Read` if a call of the reader failed, `Line` if the input is not
+/// UTF-8, a line has a fault or no line has a slot, `Memory` if out of memory; then nothing is written. `Write` if a call of the writer
+/// failed; then a front of the line of a verdict on this input (`IsJudgedLine`) may be written.
 pub(crate) fn judge<S: Source, O: Sink>(
     alloc: Global,
     maps: &[Named],

@@ -34,7 +34,8 @@ pub(crate) enum TextTask {
     Disassemble,
 }
 
-/// The bytes as text. If they are not UTF-8, the failure is fault 1 (`Syntax` of `bpf_text`) of line 0, which means the whole text.
+/// The bytes as text, unchanged, if they are UTF-8. If not, the failure is fault 1 (`Syntax` of `bpf_text`) of line 0, which means the
+/// whole text (`IsNoText`).
 pub(crate) fn text_in(bytes: &[u8]) -> Result<&str, Failure>
     ensures { MatchResult result (λ text. (text.now ≡ bytes.now) × IsUtf8 bytes.now)
         (IsNoText bytes.now) }
@@ -45,8 +46,8 @@ pub(crate) fn text_in(bytes: &[u8]) -> Result<&str, Failure>
     }
 }
 
-/// The hex lines of the program whose text is the input. `Line` if the input is not UTF-8, a line has a fault or there is no instruction;
-/// `Memory` if out of memory.
+/// The output of `asm`: the hex lines of the program whose text is the input. `Line` if the input is not UTF-8, a line has a fault or there
+/// is no instruction; `Memory` if out of memory.
 fn assembled(alloc: Global, input: &[u8]) -> Result<String, Failure>
     ensures made { IfOk result (λ lines. IsAssembly input.now (string_bytes lines)) }
     ensures only { (output : List ℕ) → IsAssembly input.now output
@@ -60,8 +61,10 @@ fn assembled(alloc: Global, input: &[u8]) -> Result<String, Failure>
     Ok(lines)
 }
 
-/// The slots on the hex lines of the input, eight bytes each. `Line` if the input is not UTF-8, a line has a fault or no line has a slot;
-/// `Memory` if out of memory.
+/// The bytes of the slots on the hex lines of the input, in order, eight for each slot. There is at least one slot; whether the slots are a
+/// program is not checked here. `dis`, `verify` and `verifier_log` read hex lines by this function. If the input is rejected
+/// (`IsUnreadable`), the failure is `Line`, with the line and its fault: a line has a fault, or, at line 0, the input is not UTF-8 or no
+/// line has a slot. `Memory` if out of memory.
 pub(crate) fn slots_on(alloc: Global, input: &[u8]) -> Result<Vec<u8>, Failure>
     ensures read { IfOk result (λ slots. IsSlotText input.now slots.items) }
     ensures only { (slots : List ℕ) → IsSlotText input.now slots
@@ -74,8 +77,10 @@ pub(crate) fn slots_on(alloc: Global, input: &[u8]) -> Result<Vec<u8>, Failure>
     Ok(slots)
 }
 
-/// The program whose slots are on the hex lines of the input. `Line` if the input is not UTF-8, a line has a fault or no line has a slot;
-/// `Slot` if the slots are no program; `Memory` if out of memory.
+/// Reads the program that `dis` prints, from the hex lines of its slots. A program that is returned is the one on these lines (`read`); if
+/// the lines have a program, it is returned unless out of memory (`only`). The failures: `Line` if the input is not UTF-8, a line has a
+/// fault or no line has a slot; `Slot` if the slots are no program; `Memory` if out of memory. A failure other than `Memory` is that of
+/// this input (`fault`); if the input has one, the call fails with it or with `Memory` (`faulty`).
 pub(crate) fn program_on(alloc: Global, input: &[u8]) -> Result<Program, Failure>
     ensures read { IfOk result (λ program. IsProgramText input.now program) }
     ensures only { (insns : List AnyInsn) → IsProgramText input.now insns
@@ -104,8 +109,10 @@ fn disassembled(alloc: Global, input: &[u8]) -> Result<String, Failure>
     Ok(text)
 }
 
-/// The output of `asm` (`Assemble`) or of `dis` (`Disassemble`) for this input. `asm` makes a program's hex lines of its text, and `dis`
-/// its text of its hex lines. The errors are those of `assembled` or of `disassembled`.
+/// The output of `asm` (`Assemble`), a program's hex lines from its text, or of `dis` (`Disassemble`), its text from its hex lines. `Line`
+/// if the input is not UTF-8, a line has a fault, or there is no instruction (`asm`) or slot (`dis`); `Slot` if the slots (`dis`) are no
+/// program; `Memory` if out of memory. A returned text is the input's output (`made`), and if the input has one it is returned (`only`); so
+/// it is with failures (`fault`, `faulty`). Any call may fail with `Memory` instead.
 fn rewritten(alloc: Global, task: TextTask, input: &[u8]) -> Result<String, Failure>
     ensures made { IfOk result (λ output. IsRewritten task input.now (string_bytes output)) }
     ensures only { (output : List ℕ) → IsRewritten task input.now output
@@ -120,15 +127,17 @@ fn rewritten(alloc: Global, task: TextTask, input: &[u8]) -> Result<String, Fail
     }
 }
 
-/// A buffer of `size` zero bytes. `AllocError`: out of memory.
+/// A buffer of `size` zero bytes, into which `read_input` reads the input. The contract has only the number of bytes: `read_input` keeps
+/// only the bytes that it has read into the buffer, so nothing depends on the zeros. `AllocError`: out of memory.
 fn buffer(alloc: Global, size: usize) -> Result<Vec<u8>, AllocError>
     ensures { IfOk result (λ bytes. length bytes.items ≡ size) }
 {
     vec![in alloc; 0; size]
 }
 
-/// Reads the input to its end. `TooLong` if it has more than `LONGEST_INPUT` bytes, `Read` if a call of the reader failed, `Memory` if out
-/// of memory.
+/// Reads the whole input, at most `LONGEST_INPUT` bytes (`input`); then no call of the reader has failed (`sound`). Otherwise the failure
+/// is one of three (`fault`): `TooLong` if the input has more bytes, of which `LONGEST_INPUT + 1` are then read; `Read` if a call of the
+/// reader failed, after at most `LONGEST_INPUT` bytes; `Memory` if out of memory, before anything is read.
 pub(crate) fn read_input<S: Source>(alloc: Global, reader: &mut S) -> Result<Vec<u8>, Failure>
     requires { S.failures reader.old < 2 ^ 64 - 1 }
     ensures input { IfOk result (λ input.
@@ -151,8 +160,10 @@ pub(crate) fn read_input<S: Source>(alloc: Global, reader: &mut S) -> Result<Vec
     Ok(input)
 }
 
-/// Reads the input, and writes what the task makes of it. It fails like `read_input` or `rewritten`, and then writes nothing; or with
-/// `Write` if a call of the writer failed, and then a front of the output may be written.
+/// Reads the input, and writes the output that `asm` (`Assemble`) or `dis` (`Disassemble`) makes of it. The failures (`fault`): `TooLong`
+/// if the input has more than `LONGEST_INPUT` bytes, `Read` if a call of the reader failed, `Line` or `Slot` if the task rejects the input,
+/// `Memory` if out of memory, and then nothing is written; `Write` if a call of the writer failed, and then a front of the output may be
+/// written. Else the whole output is written (`done`). `streams` has the bytes of both streams, and how many calls of each failed.
 pub(crate) fn rewrite<S: Source, O: Sink>(
     alloc: Global,
     task: TextTask,

@@ -44,8 +44,8 @@ abbrev pub IsFaultOf : OpcodeForm → SlotFields → FaultKind → Type 0
 IsFaultOf f s kind = (rest : List ℕ) → fault_in_form f s rest ≡ Some kind
 
 -- the fault of an instruction's first slot s, if its opcode has this form and the bytes `rest`
--- follow the slot. It is Opcode if the opcode has no form (None). The result is None if an
--- instruction begins at s
+-- follow the slot: Opcode if the opcode has no form (None), else the first of Reserved, Register
+-- and SecondSlot that applies. The result is None if an instruction begins at s
 abbrev pub fault_by_form : Option OpcodeForm → SlotFields → List ℕ → Option FaultKind
 fault_by_form None s rest = Some Opcode
 fault_by_form (Some f) s rest = fault_in_form f s rest

@@ -18,8 +18,10 @@ use Rattle.insn_codec.specs.declared.opcode.SourceBit.TheVariants.{Imm, Reg}
 use Rattle.insn_codec.specs.inside.OpcodeForm.{OpcodeForm}
 use Rattle.insn_codec.specs.inside.OpcodeForm as form
 
--- whether some opcode has this form. Two forms have none: a signed division or remainder (its
--- opcode has the form of the unsigned one), and a sign-extending load of a double word
+-- whether some opcode has this form; `read_operation` requires it. A signed division or remainder
+-- (`alu_offset` is 1) has none: its opcode has the form of the unsigned one, and the offset field
+-- makes it signed (section 4.1). A load of a double word that extends the sign (`signed`) has none:
+-- there is no such instruction (section 5.2). Each other form has an opcode
 abbrev pub is_form : OpcodeForm → Bool
 is_form (form.Alu wide op source) = alu_offset op == 0
 is_form (form.Load size signed) = not (signed && is_double size)
@@ -125,10 +127,12 @@ offset_listed wide Mov Reg offset =
 offset_listed wide op source offset = offset == 0
 
 -- whether each field of a first slot has a value that its form allows; otherwise the fault is
--- `Reserved`. An unused field is 0 (section 3.1). The number of a used register is not tested here,
--- since one above 10 has a fault of its own, `Register`. This project's own choice: of calls only
--- those of helpers by their numbers (src 0), of wide loads only those of numbers, maps and values
--- of maps (src 0 to 2)
+-- `Reserved`. An unused field is 0 (section 3.1). An operator's offset is 0, 1 for signed division
+-- or remainder, or 8, 16 or (on 64 bits) 32 for a move that extends the sign. The immediate of a
+-- byte-order conversion is 16, 32 or 64, of an atomic operation 0x00, 0x40, 0x50 or 0xa0. A used
+-- register is not tested here: above 10 it has a fault of its own, `Register`. This project's own
+-- choice: of calls only those of helpers by number (src 0), of wide loads only those of numbers,
+-- maps and values of maps (src 0 to 2), of atomic operations only those without a fetch
 abbrev pub fields_allowed : OpcodeForm → SlotFields → Bool
 fields_allowed (form.Alu wide op source) s =
     one_operand source s && offset_listed wide op source s.offset

@@ -26,7 +26,8 @@ enum AccessKind {
 }
 
 impl AccessKind {
-    /// What the instruction does with the bytes, as a verb of which it is the subject.
+    /// What the instruction does with the bytes, as the verb of a sentence whose subject is the instruction: a load `reads` them, a store
+    /// `writes` them, and an atomic operation (`Change`), which does both, `changes` them.
     fn verb(self) -> &'static str {
         match self {
             AccessKind::Load | AccessKind::SignedLoad => "reads",
@@ -51,8 +52,10 @@ struct Access {
     access_kind: AccessKind,
 }
 
-/// The access to `size` bytes, `off` bytes from the address in `base`. `given` is the number of the register whose value the instruction
-/// stores or computes with; `None` for a load, and for a store of a constant. `access_kind` is what the instruction does with the bytes.
+/// Makes the `Access` of a load, a store or an atomic operation, from which the log says why the instruction is rejected. The instruction
+/// accesses `size` bytes, at the address in register `base` plus `off` bytes. `given` is the number of the register whose value a store
+/// writes, or with which an atomic operation computes; it is `None` for a load, and for a store of a constant. `access_kind` is what the
+/// instruction does with the bytes: it loads them, loads them with sign extension, stores them, or changes them by an atomic operation.
 fn access_at(
     base: Reg,
     off: i16,
@@ -69,7 +72,9 @@ fn access_at(
     }
 }
 
-/// What a load does: `SignedLoad` if the load extends the sign (`is_signed`), else `Load`.
+/// The kind of access of a load: `SignedLoad` if the load extends the sign of the number that it reads (`is_signed`), else `Load`. The two
+/// differ only in the text on a refused access to the context, which says of a `SignedLoad` that it reads bytes with their sign
+/// (`write_context`).
 fn load_access_kind(is_signed: bool) -> AccessKind {
     if is_signed {
         AccessKind::SignedLoad
@@ -78,9 +83,9 @@ fn load_access_kind(is_signed: bool) -> AccessKind {
     }
 }
 
-/// The memory access of a load, a store or an atomic operation; `None` for any other instruction, also for a call. The fourth argument of
-/// `access_at` is the number of the register whose value a store writes, or with which an atomic operation computes; `None` for a load, and
-/// for a store of a constant.
+/// The memory access of a load, a store or an atomic operation; `None` for any other instruction, also for a call. From the access
+/// `write_need` writes why the instruction is rejected. The fourth argument of `access_at` is the number of the register whose value a
+/// store writes, or with which an atomic operation computes; `None` for a load, and for a store of a constant.
 fn access_of(insn: &Insn) -> Option<Access> {
     match *insn {
         Insn::Load(ref load) => Some(access_at(
@@ -113,9 +118,10 @@ fn access_of(insn: &Insn) -> Option<Access> {
     }
 }
 
-/// The first and the last byte that an access of `bytes` bytes may touch, `offset` bytes from a pointer of this kind. Both count from the
-/// start of the object, or from the stack's upper end. The offset of a pointer into a value may be any of a range. For a kind that is no
-/// pointer into the stack or into a value, the pointer's offset is taken as 0; no caller uses the result then.
+/// The first and the last byte that an access of `bytes` bytes may touch, `offset` bytes from a pointer of this kind. Both are offsets from
+/// the start of the object, or from the stack's upper end. A pointer into a value may have any offset of a range: the first byte is for the
+/// least offset, the last byte for the greatest. For a kind that is no pointer into the stack or into a value, the pointer's offset is
+/// taken as 0; no caller uses the result then. The sums saturate, but not with the numbers of the callers, which have at most 32 bits.
 pub(crate) fn touched(kind: Kind, offset: i64, bytes: i64) -> (i64, i64) {
     let (low, high) = match kind {
         Kind::Stack(offset) => (offset, offset),
@@ -130,7 +136,8 @@ pub(crate) fn touched(kind: Kind, offset: i64, bytes: i64) -> (i64, i64) {
     (first, last)
 }
 
-/// Writes which bytes the instruction reads, writes or changes (`verb`), as `it reads bytes -8 to -1`.
+/// Writes which bytes the instruction reads, writes or changes (`verb`), those from `first` to `last`, both included: as
+/// `it reads bytes -8 to -1`, or as `it reads byte -1` if the two are equal.
 fn write_touched(text: &mut String, verb: &str, first: i64, last: i64) -> Result<(), AllocError> {
     write!(text, "it {verb} ")?;
     write_byte_range(text, first, last)
@@ -148,9 +155,9 @@ pub(crate) fn write_outside_stack(
     write!(text, " of the stack, whose bytes are -{STACK_SIZE} to -1")
 }
 
-/// The first and the last of the stack bytes from `first` to `last` that may be unwritten, as offsets from the stack's upper end (-1 is the
-/// highest byte). Bytes between the two results may be written. If no byte may be unwritten, which the reason `UnwrittenStack` excludes,
-/// both arguments are returned.
+/// The first and the last of the stack bytes from `first` to `last` that may be unwritten, since not each path to the instruction writes
+/// them. Both are offsets from the stack's upper end (-1 is the highest byte). Bytes between the two results may be written on each path.
+/// If no byte may be unwritten, which the reason `UnwrittenStack` excludes, both arguments are returned.
 fn unwritten_ends(facts: &Facts, first: i64, last: i64) -> (i64, i64) {
     let mut lowest = None;
     let mut highest = last;
@@ -165,8 +172,10 @@ fn unwritten_ends(facts: &Facts, first: i64, last: i64) -> (i64, i64) {
     (lowest.unwrap_or(first), highest)
 }
 
-/// Writes which of the stack bytes from `first` to `last`, offsets from the stack's upper end, may be unwritten, as the range from the
-/// first such byte to the last (`unwritten_ends`). Then writes why bytes of this range are missing (`write_way`).
+/// Writes why an instruction or a helper may not read the stack bytes from `first` to `last`, offsets from the stack's upper end: some may
+/// be unwritten (`UnwrittenStack`). The text begins with the range from the first byte that may be unwritten to the last one, as
+/// `bytes -8 to -5 of the stack`; bytes between the two may be written. Then follows why bytes of this range are missing (`write_way`), as
+/// `were never written` or `are lost at slot 4`.
 pub(crate) fn write_unwritten(
     text: &mut String,
     refusal: &RefusedProgram<'_>,
@@ -179,8 +188,8 @@ pub(crate) fn write_unwritten(
     write_way(text, refusal, Wanted::Stack { first, last })
 }
 
-/// The lowest spill that overlaps the stack bytes from `first` to `last`: the offset of its lowest byte, and the kind of its pointer.
-/// `None` if no spill does.
+/// The lowest spill, a pointer or a map that is whole in eight bytes of the stack, that overlaps the stack bytes from `first` to `last`:
+/// the offset of its lowest byte, from the stack's upper end, and its kind. `None` if no spill overlaps these bytes.
 fn spill_among(facts: &Facts, first: i64, last: i64) -> Option<(i64, Kind)> {
     for index in 0..STACK_SLOTS {
         let lowest = 8 * index as i64 - 8 * STACK_SLOTS as i64;
@@ -206,8 +215,9 @@ fn write_spill(text: &mut String, lowest: i64, kind: Kind) -> Result<(), AllocEr
     text.push_str("), which a load of these 8 bytes alone reads")
 }
 
-/// Writes that the instruction reads, writes or changes (`verb`) the stack bytes from offset `first` to offset `last`, and the lowest spill
-/// that they overlap. They overlap one, since the reason is `PartOfSpill`.
+/// Writes which stack bytes the instruction reads, writes or changes (`verb`): those from offset `first` to offset `last`. Then writes
+/// which spilled pointer overlaps them, of several the lowest (`spill_among`), and that only a load of all its eight bytes reads it. One
+/// overlaps them, since the reason of the rejection is `PartOfSpill`; the arm `None` can't occur.
 pub(crate) fn write_part_of_spill(
     text: &mut String,
     facts: &Facts,
@@ -223,8 +233,9 @@ pub(crate) fn write_part_of_spill(
     }
 }
 
-/// Writes the kind of a register, which is a pointer or a map, and that only a store of eight bytes may store the register. The
-/// rejected store stores `bytes` bytes, and this is written too.
+/// Writes why a store of register `register` (its number) to the stack is rejected, as `r2 is context, and is stored by 8 bytes, not by 4`:
+/// the kind of the register is a pointer or a map, which only a store of 8 bytes may store, and this store has `bytes` bytes, fewer than 8.
+/// The caller calls this only for the reason `PartOfSpill`, which no store of a number has.
 fn write_store_size(
     text: &mut String,
     facts: &Facts,
@@ -235,8 +246,9 @@ fn write_store_size(
     write!(text, ", and is stored by 8 bytes, not by {bytes}")
 }
 
-/// The size in bytes of the values of the map with this descriptor. 0 if it names no map, which can't occur: the descriptor in the `Kind`
-/// of a register or a spill is that of a map.
+/// The size in bytes of a value of the map with descriptor `fd`, which bounds the accesses to the value. `named` lists the open
+/// descriptors, each with what it names. 0 if `fd` names no map, which can't occur: callers have `fd` from the `Kind` of a register or a
+/// spill, and the descriptor in a kind is that of a map.
 pub(crate) fn value_size_of(named: &[Named], fd: u32) -> u32 {
     match shape_of(named, fd) {
         Some(shape) => shape.value_size,
@@ -244,8 +256,9 @@ pub(crate) fn value_size_of(named: &[Named], fd: u32) -> u32 {
     }
 }
 
-/// Writes which bytes the instruction reads, writes or changes (`verb`): those from `first` to `last`, counted from the start of a value of
-/// the map of descriptor `map`. Then it writes the size of the value, since not all these bytes lie in it.
+/// Writes which bytes of a map's value the instruction, or the helper that it calls, reads, writes or changes (`verb`), and the size of the
+/// value, since not all these bytes lie in it, as `it reads bytes 4 to 11 of a value of 8 bytes (map 3)`. `first` and `last` count from the
+/// start of the value. `map` is the descriptor of the map; `named` has the open descriptors with their objects, and so the size.
 pub(crate) fn write_outside_value(
     text: &mut String,
     named: &[Named],
@@ -259,8 +272,9 @@ pub(crate) fn write_outside_value(
     write!(text, " of a value of {size} bytes (map {map})")
 }
 
-/// Writes what is wrong with an access to the context. A load has to read a whole aligned word without its sign; a store or an atomic
-/// operation (the arm `_`) is never allowed.
+/// Writes what is wrong with an access to the context, which was rejected for the reason `ContextAccess`. A load has to read one aligned
+/// word, four bytes, and may not extend the sign: for any other load the text has the number of bytes, the sign extension and the offset,
+/// and then which loads are allowed. A store or an atomic operation (the arm `_`) is never allowed.
 fn write_context(text: &mut String, access: Access) -> Result<(), AllocError> {
     let (verb, bytes, offset) = (access.access_kind.verb(), access.bytes, access.offset);
     let sign = match access.access_kind {
@@ -277,8 +291,10 @@ fn write_context(text: &mut String, access: Access) -> Result<(), AllocError> {
     write!(text, "where words of 4 bytes are read at 0, 4, .. {last}")
 }
 
-/// Writes what is known of the source register `given`, and then `needed`, which says that a number is required. `given` is `None` for a
-/// constant source. This can't occur: the fault is that the source is no number.
+/// Writes the kind of the register `given` by `facts`, those before the rejected instruction, and then `needed`, which says that a number
+/// is required, as `r2 is context, and numbers alone are stored in a value`. The instruction is a store into a map's value, which writes
+/// this register, or an atomic operation, which computes with it. `given` is `None` for a store of a constant; then nothing is written.
+/// This can't occur: the fault is that what is stored, or computed with, is no number.
 fn write_given(
     text: &mut String,
     facts: &Facts,
@@ -294,9 +310,10 @@ fn write_given(
     }
 }
 
-/// Writes why the offset of `access`, an atomic operation in a map's value, is rejected. If the offset is known, it is no multiple of the
-/// operation's size; otherwise the range of the offset is written, and that one offset has to be known. `pointer` is what is known of the
-/// operation's base register.
+/// Writes why the offset of `access`, an atomic operation in a map's value, is rejected. `pointer` is what is known of the operation's base
+/// register: the map, and the least and the greatest offset in bytes from the start of a value. The instruction's own offset is added to
+/// both. The sum has to be one known number, a multiple of the operation's size. If both sums are equal, the offset is known, so it is no
+/// multiple, and this is written. Else the range of the offset is written, and that one offset has to be known.
 fn write_unaligned_atomic(
     text: &mut String,
     access: Access,
@@ -317,8 +334,10 @@ fn write_unaligned_atomic(
 }
 
 /// Writes why an access to the stack bytes from `first` to `last`, offsets from the stack's upper end, is rejected: what the access does,
-/// and which rule forbids it. The reason of the last two arms is `PartOfSpill`: a store breaks that rule by the pointer that it stores, a
-/// load or an atomic operation by the spill that it reads.
+/// and which rule forbids it. The caller passes four reasons: a byte outside the stack (`OutsideStack`), a `first` that is no multiple of
+/// the number of bytes (`UnalignedStack`), a byte that may be unwritten (`UnwrittenStack`), and `PartOfSpill`, the reason of the last two
+/// arms. A store breaks that rule if it stores only a part of the pointer or map in its register (`access.given`). A load or an atomic
+/// operation breaks it if it reads a spilled pointer or map, and is not a load of all its bytes.
 fn write_stack_need(
     text: &mut String,
     refusal: &RefusedProgram<'_>,
@@ -343,8 +362,10 @@ fn write_stack_need(
     }
 }
 
-/// Writes what is known of `access`, the access of the rejected instruction, and what is required, by the reason of the refusal. The last
-/// arm has the four reasons of an access to the stack: `OutsideStack`, `UnalignedStack`, `UnwrittenStack` and `PartOfSpill`.
+/// Writes, by the reason of the refusal, what is known of `access`, the access of the rejected instruction, and what the broken rule
+/// requires. The reasons `UnalignedAtomic` and `OutsideValue` are only those of accesses to a map's value, so the base register then points
+/// into a value. The last arm has the four reasons of an access to the stack: `OutsideStack`, `UnalignedStack`, `UnwrittenStack` and
+/// `PartOfSpill`.
 fn write_access_need(
     text: &mut String,
     refusal: &RefusedProgram<'_>,
@@ -393,9 +414,10 @@ fn write_access_need(
     }
 }
 
-/// Writes what is known of the memory access of the rejected instruction `insn`, and what the access needs. Writes nothing if `insn`
-/// accesses no memory, which can't occur: of such instructions the caller passes only unconditional jumps and wide loads, and these break
-/// no rule of safety.
+/// Writes what is known of the memory access of the rejected instruction `insn`, and what the access needs. The caller, `write_need` of
+/// `needs.rt`, calls this for an instruction that breaks a rule of safety and has no arm there: a load, a store or an atomic operation.
+/// Unconditional jumps and wide loads have no arm there either, but break no rule of safety. So `insn` always accesses memory, and the arm
+/// `None`, which writes nothing, can't occur.
 pub(crate) fn write_need(
     text: &mut String,
     refusal: &RefusedProgram<'_>,

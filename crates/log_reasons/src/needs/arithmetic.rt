@@ -8,7 +8,9 @@ use std::alloc::AllocError;
 use std::fmt::Write;
 use tagged_model::FARTHEST_OFFSET;
 
-/// Writes what is known of the operands `dst` and `src`, as the beginning of a sentence; for a move only of `src`, as `dst` is not read.
+/// Writes the kind of the register `dst`, and the kind of the register or the constant `src`, as the beginning of a sentence whose rest the
+/// caller writes, as `r2 is stack - 8 and the constant is 4`. For a move (`op`) it writes only what is known of `src`, as `dst` is not
+/// read. `refusal` has the facts before the instruction.
 fn write_operands(
     text: &mut String,
     refusal: &RefusedProgram<'_>,
@@ -26,8 +28,9 @@ fn write_operands(
     }
 }
 
-/// The number of the register that may be null: `dst` if its kind is such, else `src`. The last arm can't occur: the reason is `MaybeNull`,
-/// and a constant is no pointer.
+/// The number of the register that may be null, for the text on a sum or a difference that is rejected for `MaybeNull`: one operand is a
+/// look-up's result without a null test yet (`MaybeValue`). It is `dst` if that has this kind, else the register of `src`. The last arm
+/// can't occur: in it neither `dst` nor `src`, a constant, is such a result.
 fn maybe_null(refusal: &RefusedProgram<'_>, dst: Reg, src: Operand) -> u8 {
     match (kind_of(refusal.facts, dst.number()), src) {
         (Kind::MaybeValue { .. }, _) => dst.number(),
@@ -36,7 +39,9 @@ fn maybe_null(refusal: &RefusedProgram<'_>, dst: Reg, src: Operand) -> u8 {
     }
 }
 
-/// What this operator allows of pointers, with 64 bits (`wide`) or 32, as the rest of a sentence.
+/// What an operator of 64 bits (`wide`) or 32 allows of pointers, as the end of a sentence that `write_operands` begins with what is known
+/// of the operands. `write_need` writes it for the reason `PointerArithmetic`. A 64-bit sum or difference may move a pointer by a number,
+/// and a 64-bit move, which takes any value, never has this reason; all other operators take only numbers.
 fn rule(wide: bool, op: AluOp) -> &'static str {
     match op {
         AluOp::Add if wide => {
@@ -50,8 +55,10 @@ fn rule(wide: bool, op: AluOp) -> &'static str {
     }
 }
 
-/// Writes what is known of the operands of an operator of 64 bits (`wide`) or 32, against what it needs. The reason of the last arm is
-/// `PointerArithmetic`.
+/// Writes why the operator `op` of 64 bits (`wide`) or 32 is rejected on the operands `dst` and `src`: what is known of them, and what the
+/// operator needs. The reason of the rejection is one of three, since the caller writes faults of the shape and unreadable registers. For
+/// `MaybeNull` the text names the register that may be null, which the program has to test first; for `OffsetTooLarge` it has the bounds of
+/// a pointer's offset; for `PointerArithmetic`, the last arm, it says what the operator allows of pointers.
 pub(crate) fn write_need(
     text: &mut String,
     refusal: &RefusedProgram<'_>,
@@ -76,7 +83,8 @@ pub(crate) fn write_need(
     }
 }
 
-/// Writes what is known of `register`, an operator's only operand, and that this operator takes only numbers.
+/// Writes what is known of `register`, the only operand of a negation, a byte-order conversion or a move with sign extension, and that this
+/// operator takes only numbers.
 pub(crate) fn write_number_needed(
     text: &mut String,
     refusal: &RefusedProgram<'_>,

@@ -86,7 +86,8 @@ const LENGTH: Argument = Argument {
     role: Role::Length,
 };
 
-/// The arguments of a helper, in the order in which the verifier checks them: a length before the bytes that it counts.
+/// The arguments of a helper, each a register and its role, in the order in which the verifier checks them: so the first that breaks its
+/// rule is the rejected one. A length comes before the bytes that it counts: for `LoadBytes`, register 4 before register 3.
 fn arguments_of(helper: Helper) -> &'static [Argument] {
     match helper {
         Helper::LookUp | Helper::Delete => &[MAP, KEY],
@@ -95,7 +96,8 @@ fn arguments_of(helper: Helper) -> &'static [Argument] {
     }
 }
 
-/// Whether the helper with this number has an argument in a register. False for an unknown helper, which is a fault of the shape.
+/// Whether the helper with the number `id` has an argument in the register with the number `register`. By this `unreadable_argument` finds
+/// which unreadable register a rejected call reads. False if no helper has the number: such a call is a fault of the program's shape.
 pub(crate) fn has_argument(id: i32, register: u8) -> bool {
     match known_helper(id) {
         Some(helper) => arguments_of(helper)
@@ -105,9 +107,11 @@ pub(crate) fn has_argument(id: i32, register: u8) -> bool {
     }
 }
 
-/// How many bytes an argument of this role points to: for `Key` or `Value` the size of a key or a value of the map in register 1, for
-/// `Room` the greatest length that register 4 may have. `named` has the open descriptors. 0 for any other role, or if no map or length is
-/// known, or the length does not fit 32 bits: then the map or the length is itself rejected.
+/// How many bytes a helper may read, or in the role `Room` write, at the address in an argument of this role: for `Key` or `Value` the size
+/// of a key or a value of the map in register 1, for `Room` the greatest length that register 4 may have. `named` has the open descriptors
+/// with their objects, and `facts` are those before the call. 0 for any other role, which points to no bytes. Also 0 if for `Key` or
+/// `Value` register 1 is no map, or for `Room` register 4 is no number or may be 2^32 or more: then that register is itself rejected, and
+/// checked first.
 fn byte_count(named: &[Named], facts: &Facts, role: Role) -> u32 {
     let (map, length) = (kind_of(facts, 1), kind_of(facts, 4));
     match (role, map, length) {
@@ -118,14 +122,17 @@ fn byte_count(named: &[Named], facts: &Facts, role: Role) -> u32 {
     }
 }
 
-/// Whether some of the bytes from `first` to `last`, by their offsets from the stack's upper end, lie outside the stack.
+/// Whether some of the bytes from `first` to `last`, both included, lie outside the stack. Both are offsets in bytes from the stack's upper
+/// end: the stack has those from -`STACK_SIZE` to -1. The stack bytes that a helper writes (`Role::Room`) have no other check.
 fn is_outside_stack(first: i64, last: i64) -> bool {
     first < -(STACK_SIZE as i64) || last > -1
 }
 
-/// Why the bytes that an argument of `kind` points to may not be read, or written if `role` is `Room`; `None` if they may. `role` is `Key`,
-/// `Value` or `Room`, and `byte_count` says how many bytes. `facts` are those before the call. Room in the stack only has to lie in
-/// the stack: unwritten bytes and spills may be overwritten. The last arm has what is no pointer to the stack or to a value.
+/// Why a helper may not read the bytes to which an argument of `kind` points, or not write them if `role` is `Room`; `None` if it may.
+/// `role` is `Key`, `Value` or `Room`, and `byte_count` says how many bytes. `facts` are those before the call; `named` has what each open
+/// descriptor names. In the stack the reason is `OutsideStack` if not all bytes lie in it; else, for a read, `PartOfSpill` if they touch a
+/// spill, else `UnwrittenStack` if one may be unwritten, while `Room` may overwrite spills and unwritten bytes. `OutsideValue` if some may
+/// lie outside a value, `MaybeNull` for a look-up's result that may be null, `HelperArgument` for any other kind.
 fn bytes_reason(named: &[Named], facts: &Facts, role: Role, kind: Kind) -> Option<Reason> {
     let count = byte_count(named, facts, role);
     let (first, last) = touched(kind, 0, i64::from(count));
@@ -147,8 +154,10 @@ fn bytes_reason(named: &[Named], facts: &Facts, role: Role, kind: Kind) -> Optio
     }
 }
 
-/// Why an argument of a helper is rejected; `None` if it is allowed. `facts` are those before the call, and `named` has what each open
-/// descriptor names. The roles of the last arm are `Key`, `Value` and `Room`, which need pointers.
+/// Why `argument`, a register and its role in a call of a helper, is rejected; `None` if it is allowed. `facts` are those before the call,
+/// and `named` has what each open descriptor names. `HelperArgument` if the register has not the kind that its role needs: a map, the
+/// context or a number; or, for `Key`, `Value` and `Room`, the roles of the last arm, a pointer to bytes, which `bytes_reason` may also
+/// reject for other reasons. `LengthUnbounded` if a length may be 0, or `LENGTHS_END` or more.
 fn argument_reason(named: &[Named], facts: &Facts, argument: Argument) -> Option<Reason> {
     let kind = kind_of(facts, argument.register);
     match (argument.role, kind) {
@@ -166,7 +175,8 @@ fn argument_reason(named: &[Named], facts: &Facts, argument: Argument) -> Option
     }
 }
 
-/// The first rejected argument of the helper, in the order of the checks; `None` if all arguments are allowed.
+/// The first rejected argument of the helper, on which the log then writes what is known and needed; `None` if all arguments are allowed.
+/// The order is that in which the verifier checks them (`arguments_of`): a length before the bytes that it counts.
 fn refused_argument(refusal: &RefusedProgram<'_>, helper: Helper) -> Option<Argument> {
     for argument in arguments_of(helper) {
         if argument_reason(refusal.named, refusal.facts, *argument).is_some() {
@@ -176,7 +186,8 @@ fn refused_argument(refusal: &RefusedProgram<'_>, helper: Helper) -> Option<Argu
     None
 }
 
-/// What an argument in this role has to be, as the rest of a sentence.
+/// The end of the sentence on a rejected argument that is of the wrong kind: what an argument in this role has to be. `write_argument` has
+/// written the start, what is known of the argument's register. `Room` is bytes that the helper writes.
 fn needed(role: Role) -> &'static str {
     match role {
         Role::Map => ", and a map is needed",
@@ -188,8 +199,9 @@ fn needed(role: Role) -> &'static str {
     }
 }
 
-/// Writes what is known of the length argument, register 4, which has this kind, against what is needed. Writes nothing if the kind is no
-/// number, which can't occur: then the reason would be `HelperArgument`.
+/// Writes what is known of register 4, the length argument of `LoadBytes`, and what is needed: its range, from its `kind`, and that a
+/// length is from 1 to `LENGTHS_END` - 1. Writes nothing if the kind is no number, which can't occur: then the reason would be
+/// `HelperArgument`, and this function is called for `LengthUnbounded`.
 fn write_length(text: &mut String, kind: Kind) -> Result<(), AllocError> {
     let Kind::Scalar(range) = kind else {
         return Ok(());
@@ -200,9 +212,10 @@ fn write_length(text: &mut String, kind: Kind) -> Result<(), AllocError> {
     write!(text, ", and a length is from 1 to {greatest}")
 }
 
-/// Writes what is known of the rejected argument, against what is needed. If the argument is a pointer into the stack or into a value,
-/// `first` and `last` are the offsets of the first and the last byte that the helper may read there, or in the role `Room` write. The
-/// reason of the last arm is `HelperArgument`: an argument of this role may not have this kind.
+/// Writes what is known of the rejected argument, and what the helper needs in its role, by the reason of the fault. If the argument is a
+/// pointer into the stack or into a value, `first` and `last` are the offsets of the first and the last byte that the helper may read
+/// there, or in the role `Room` write. They count from the stack's upper end or from the start of the value. Only the arms for such a
+/// pointer use them. The reason of the last arm is `HelperArgument`: an argument of this role may not have this kind.
 fn write_argument(
     text: &mut String,
     refusal: &RefusedProgram<'_>,
@@ -233,9 +246,9 @@ fn write_argument(
     }
 }
 
-/// Writes what is known of the rejected argument of the helper with the number `id`, and what is required. An argument is always found: the
-/// helper is known, since the shape has no fault, and all arguments are readable, since the caller has tested that, so one of them breaks
-/// another rule.
+/// Writes what is known of the rejected argument in a call of the helper with the number `id`, and what is required. The caller has handled
+/// faults of the shape and unreadable registers before. So the helper is known, its arguments are readable, and one of them breaks another
+/// rule: `refused_argument` finds the first one that does. If the helper were unknown, or no argument rejected, nothing would be written.
 pub(crate) fn write_need(
     text: &mut String,
     refusal: &RefusedProgram<'_>,

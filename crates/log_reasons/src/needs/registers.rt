@@ -10,8 +10,8 @@ use std::alloc::AllocError;
 use std::fmt::Write;
 use words::REGISTERS;
 
-/// The kind of a register, by its number. Registers are 0 to 10; the test is needed since the type has other numbers too, which do not
-/// occur and count as unreadable.
+/// The kind of the register with this number, 0 to 10. The test is needed since a `u8` may be greater: such a number does not occur, and
+/// counts as an unreadable register.
 pub(crate) fn kind_of(facts: &Facts, register: u8) -> Kind {
     let number = usize::from(register);
     if number < REGISTERS {
@@ -31,12 +31,13 @@ pub(crate) fn write_register(
     write_kind(text, kind_of(facts, register))
 }
 
-/// Writes that a register may be null.
+/// Writes why a program is rejected for `MaybeNull`, as `r1 may be null: test it first`: `register` is the number of the register, 0 to 10,
+/// that has the result of a look-up before a null test. An access, an operator or a call may have this reason.
 pub(crate) fn write_maybe_null(text: &mut String, register: u8) -> Result<(), AllocError> {
     write!(text, "r{register} may be null: test it first")
 }
 
-/// The number of an operand's register; `None` for a constant.
+/// The number of the register that is the second operand of a comparison, or that a store writes; `None` if `src` is a constant.
 pub(crate) fn register_of(src: Operand) -> Option<u8> {
     match src {
         Operand::Reg(reg) => Some(reg.number()),
@@ -44,8 +45,9 @@ pub(crate) fn register_of(src: Operand) -> Option<u8> {
     }
 }
 
-/// The unreadable one of the two registers that an instruction reads (`None`: no register): `first` if it is unreadable, else `second`. One
-/// of the two is, since the reason is `UnreadableRegister`.
+/// The number of the unreadable register that an instruction reads: `first` if that is unreadable, else `second`. Each of the two is the
+/// number of a register, or `None` if the instruction reads no such register. The instruction was rejected for the reason
+/// `UnreadableRegister`, so one of the two is unreadable: `second` needs no test, and the result is not `None`.
 fn unreadable_of(facts: &Facts, first: Option<u8>, second: Option<u8>) -> Option<u8> {
     match first {
         Some(register) if kind_of(facts, register) == Kind::Unreadable => first,
@@ -53,7 +55,8 @@ fn unreadable_of(facts: &Facts, first: Option<u8>, second: Option<u8>) -> Option
     }
 }
 
-/// The lowest register with an unreadable argument of the helper with this number; `None` if each argument is readable.
+/// The lowest of registers 1 to 5 that has an argument of the helper with the number `id` and is unreadable by `facts`, those before a
+/// rejected call. `None` if each argument is readable, or if no helper has this number, which is a fault of the shape.
 fn unreadable_argument(facts: &Facts, id: i32) -> Option<u8> {
     for register in 1..=5 {
         if has_argument(id, register) && kind_of(facts, register) == Kind::Unreadable {
@@ -63,8 +66,10 @@ fn unreadable_argument(facts: &Facts, id: i32) -> Option<u8> {
     None
 }
 
-/// The number of the unreadable register that the rejected instruction reads, of several the first. One is unreadable, since the reason is
-/// `UnreadableRegister`, so this is never `None`. A call reads its helper's arguments, which its profile does not list.
+/// The number of the unreadable register that the rejected instruction reads; of the first one if several are unreadable. The caller calls
+/// this only if the reason of the rejection is `UnreadableRegister`, so there is one, and the result is not `None`. The profile of an
+/// instruction lists the registers that it reads, but not the arguments of a helper, in registers 1 to 5, which a call reads;
+/// `unreadable_argument` finds these.
 fn unreadable_in(facts: &Facts, insn: &Insn) -> Option<u8> {
     let row = insn.profile();
     match row.reference {
@@ -77,8 +82,9 @@ fn unreadable_in(facts: &Facts, insn: &Insn) -> Option<u8> {
     }
 }
 
-/// Writes which unreadable register the rejected instruction reads, and why it may not be read (`write_way`). The reason of the rejection
-/// is `UnreadableRegister`, so `unreadable_in` finds a register.
+/// Writes which unreadable register the rejected instruction `insn` reads, of several the first, and why the register has no readable value
+/// (`write_way`), as `r2 was never written`. The reason of the rejection is `UnreadableRegister`, so `unreadable_in` finds a register, and
+/// the arm `None`, which writes nothing, can't occur.
 pub(crate) fn write_unreadable(
     text: &mut String,
     refusal: &RefusedProgram<'_>,
@@ -93,7 +99,8 @@ pub(crate) fn write_unreadable(
     }
 }
 
-/// Writes what is known of register 0 at the exit, which has to be a number.
+/// Writes why an exit is rejected, as `r0 is context, and a number is needed`: the kind of register 0 before the exit, and that the result
+/// of a program has to be a number. An exit whose register 0 is unreadable gets another text (`write_unreadable`).
 pub(crate) fn write_result(
     text: &mut String,
     refusal: &RefusedProgram<'_>,
@@ -102,8 +109,8 @@ pub(crate) fn write_result(
     text.push_str(", and a number is needed")
 }
 
-/// Writes what is known of the operands of a rejected comparison, `dst` and, if it is a register, `src`, and then which comparison of a
-/// pointer is allowed.
+/// Writes what is known of the operands of a rejected conditional jump, `dst` and, if it is a register, `src`, and then which comparison of
+/// a pointer is allowed: a 64-bit == or != with the constant 0.
 pub(crate) fn write_comparison(
     text: &mut String,
     refusal: &RefusedProgram<'_>,

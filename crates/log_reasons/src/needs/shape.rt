@@ -7,15 +7,17 @@ use std::alloc::AllocError;
 use std::fmt::Write;
 use tagged_model::{MapKind, Named, shape_of};
 
-/// The target slot of a jump at `slot`, which may lie outside the program, also below 0. The sums never saturate: a slot is at most
-/// `MAX_SLOTS`, and a distance has 32 bits.
+/// The target slot of `insn`, a jump at `slot`, for the text of why the jump is refused. It is signed, as it may lie outside the program,
+/// also below slot 0. The sums never saturate: a slot is at most `MAX_SLOTS`, and a distance, counted from the next slot, has 32 bits.
 fn far_target(insn: &Insn, slot: usize) -> i64 {
     let from = i64::try_from(slot).unwrap_or(i64::MAX);
     from.saturating_add(1)
         .saturating_add(i64::from(insn.profile().successors.offset()))
 }
 
-/// Writes the target of a jump: a slot that the program does not have, or the second half of a wide instruction.
+/// Writes the target of the rejected jump `insn`: a slot that the program does not have, or the second half of a wide instruction. No other
+/// target is possible, since the reason is `JumpOutside`: no instruction begins at the target. `slots - 1` can't overflow, since a program
+/// has at least one slot.
 fn write_wrong_target(
     text: &mut String,
     refusal: &RefusedProgram<'_>,
@@ -36,7 +38,9 @@ fn write_wrong_target(
     }
 }
 
-/// Writes the target of a jump that does not go forward.
+/// Writes the target of the jump `insn`, which is rejected because it does not go forward (`JumpBackward`), and that jumps go forward only.
+/// The jump is at the slot of the fault of `refusal`. Its target is this slot or a lower one of the program: a target outside the program
+/// is another fault (`JumpOutside`).
 fn write_backward(
     text: &mut String,
     refusal: &RefusedProgram<'_>,
@@ -46,19 +50,21 @@ fn write_backward(
     write!(text, "it leads to slot {target}, and jumps go forward only")
 }
 
-/// The descriptor by which an instruction names a map; 0 if it names none. It always names one, since callers write about a fault of its
-/// descriptor: not open, no map, or no direct value.
+/// The descriptor by which the rejected instruction names a map. 0 if it names none, which can't occur: the callers write about a fault of
+/// its descriptor, which is not open, names no map, or names a map without a direct value.
 fn fd_of(insn: &Insn) -> u32 {
     insn.profile().reference.descriptor().unwrap_or(0)
 }
 
-/// Writes what the instruction's descriptor names instead of a map: `what`, which is `nothing` or `a program`.
+/// Writes that the descriptor by which `insn` loads a map, or a value of one, names no map. `what` is what it names: `nothing` if it is not
+/// open, else `a program`.
 fn write_no_map(text: &mut String, insn: &Insn, what: &str) -> Result<(), AllocError> {
     let fd = fd_of(insn);
     write!(text, "descriptor {fd} names {what}, and a map is needed")
 }
 
-/// Writes that control goes on past the last slot of the program.
+/// Writes why `FallsOff` rejects a program: control can pass from the last instruction to a slot `next`, which the program does not have.
+/// Slots count from 0, so `next` is how many the program has. The text asks for an exit or a jump instead.
 fn write_falls_off(text: &mut String, refusal: &RefusedProgram<'_>) -> Result<(), AllocError> {
     let next = refusal.program.slots();
     write!(
@@ -67,8 +73,8 @@ fn write_falls_off(text: &mut String, refusal: &RefusedProgram<'_>) -> Result<()
     )
 }
 
-/// Writes that no helper has the number which the call `insn` names, and which numbers the helpers have. The arm `_` can't occur: only a
-/// call is rejected by `UnknownHelper`.
+/// Writes that no helper has the number that the call `insn` names, and lists the numbers of the four helpers. The arm `_`, which writes
+/// nothing, can't occur: only a call is rejected for `UnknownHelper`, the reason for which the caller calls this.
 fn write_unknown_helper(text: &mut String, insn: &Insn) -> Result<(), AllocError> {
     match insn.profile().reference {
         Reference::Helper(id) => {
@@ -81,8 +87,9 @@ fn write_unknown_helper(text: &mut String, insn: &Insn) -> Result<(), AllocError
     }
 }
 
-/// Writes why the address of a direct value can't be loaded: the map is a hash map, has not exactly one element, or the offset is not in
-/// its value. The `else` of the `let` can't occur: that the descriptor names no map is another reason.
+/// Writes why `insn` can't load the address of a value directly (`NoDirectValue`): its map is a hash map, has not exactly one element, or
+/// the offset is not in its value. The `else` of the `let` can't occur: only a load of such an address, a `Reference::Value`, has this
+/// reason, and a descriptor that names no map is rejected for another reason first.
 fn write_no_value(text: &mut String, named: &[Named], insn: &Insn) -> Result<(), AllocError> {
     let fd = fd_of(insn);
     let reference = insn.profile().reference;
@@ -108,8 +115,10 @@ fn write_no_value(text: &mut String, named: &[Named], insn: &Insn) -> Result<(),
     }
 }
 
-/// Writes what is wrong with the rejected instruction `insn`. The reason is one of shape, as the caller has tested (`is_of_shape`), so it
-/// does not depend on what the registers hold. The arm `_` is for the reason `NoDirectValue`.
+/// Writes what is wrong with the rejected instruction `insn`, for example to which slot its jump leads. The reason of `refusal` is one of
+/// the nine of a program's shape: the eight that have arms of their own, and `NoDirectValue`, which is the arm `_`. None of them depends on
+/// what the registers hold. The only caller, `write_need`, has tested the reason (`is_of_shape`); any other reason would get the text for
+/// `NoDirectValue`. `AllocError`: out of memory for the text.
 pub(crate) fn write_shape_fault(
     text: &mut String,
     refusal: &RefusedProgram<'_>,

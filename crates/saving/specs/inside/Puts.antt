@@ -22,8 +22,9 @@ abbrev pub entries_after : {K : Type 0} → ℕ → List (K × ℕ) → List (K 
 entries_after p [] = []
 entries_after p (e ∷ es) = if nat_eq p e.1 then es else entries_after p es
 
--- all entries for None, else those after the entry of element p, none if no entry has that element.
--- The second component of an entry is the number of its element
+-- the entries that a save has yet to put: all entries if none was put (None); else those after the
+-- entry of element p, which was put last (Some p), and none if no entry has that element. The first
+-- component of an entry, of type K, has its key and value, the second is the number of its element
 abbrev pub rest_after : {K : Type 0} → Option ℕ → List (K × ℕ) → List (K × ℕ)
 rest_after None es = es
 rest_after (Some p) es = entries_after p es

@@ -15,7 +15,8 @@ pub record IsMapOf (k : KeptTenant) (fd handle : ℕ) : Type 0 where
   pub live : IsSome (live_at k.live handle)
   pub within : handle < most_maps
 
--- the error of a command that requires a map, by what its descriptor names; None if this is a map
+-- the error of a command that requires a map, by what its descriptor names: EBADF (`BadDescriptor`)
+-- if the descriptor is not open (None), EINVAL (`Invalid`) for a program; no error (None) for a map
 abbrev pub map_fault : Option OpenObject → Option Errno
 map_fault None = Some BadDescriptor
 map_fault (Some (object.Program l)) = Some Invalid

@@ -39,7 +39,8 @@ infixl 10 ◌>>=◌
 abbrev pub ◌>>=◌ : {A B : Type 0} → Option A → (A → Option B) → Option B
 o >>= f = option_and_then f o
 
--- `x` if the option has no value, else `f` applied to its value
+-- a choice by an option: x if it has no value (None), else f applied to its value. So a reader that
+-- has tried one form reads another (x) if the tokens do not have the first
 abbrev pub match_option : {A B : Type 0} → Option A → B → (A → B) → B
 match_option None x f = x
 match_option (Some y) x f = f y
@@ -84,24 +85,25 @@ registers =
 
 -- ---- one token
 
--- the first token, if it is a symbol, and the tokens after it; `None` if it is no symbol, or if
--- there are no tokens
+-- the bytes of the first token, if it is a symbol, and the tokens after it; `None` if it is a name
+-- or a number, or if the list is empty
 abbrev pub leading_symbol : List Token → Option (List ℕ × List Token)
 leading_symbol [] = None
 leading_symbol (name n ∷ ts) = None
 leading_symbol (number v ∷ ts) = None
 leading_symbol (symbol t ∷ ts) = Some (t, ts)
 
--- the name that the first token is, and the tokens after it; `None` for no tokens, or if the first
--- is no name
+-- the bytes of the first token, if it is a name, and the tokens after it; `None` if it is no name,
+-- or if there are no tokens
 abbrev pub leading_name : List Token → Option (List ℕ × List Token)
 leading_name [] = None
 leading_name (name n ∷ ts) = Some (n, ts)
 leading_name (number v ∷ ts) = None
 leading_name (symbol t ∷ ts) = None
 
--- the value of the first token, if it is a number, and the tokens after it; the value is `None`
--- from 2 ^ 64 on. The result is `None` if the list is empty or begins with another token
+-- the value of the first token, if it is a number, and the tokens after it; `None` if the list is
+-- empty or begins with another token, as with a sign, which is a symbol. The value is an option
+-- too: `None` if the number is 2 ^ 64 or more
 abbrev pub leading_number : List Token → Option (Option ℕ × List Token)
 leading_number [] = None
 leading_number (name n ∷ ts) = None
@@ -152,7 +154,8 @@ leading_operand wide ts =
     (option_map (λ n. (source.Number n.0, n.1)) (leading_constant ts))
     (λ r. Some (source.Reg r.0, r.1))
 
--- whether no token is left
+-- whether the list is empty: of the tokens after those that were read, that the line ends there
+-- (`at_end`); of all tokens of a line, that the line is blank (`line_of`)
 abbrev pub is_ended : List Token → Bool
 is_ended [] = true
 is_ended (t ∷ ts) = false

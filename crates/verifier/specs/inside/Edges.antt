@@ -10,14 +10,16 @@ use Rattle.transfer.specs.Effects.{effect}
 use Rattle.verifier.specs.declared.fault.VerifyFault.{VerifyFault}
 use Rattle.verifier.specs.Verdict.{reason_of}
 
--- the facts on the falling edge out of an instruction, from the result of the transfer function;
--- None if the instruction may not be run, or this edge is never taken
+-- the facts on the falling edge out of an instruction, which leads to the next one, from the result
+-- of the transfer function (`effect`). None if the instruction may not be run (Err), has no such
+-- edge, as an exit and an unconditional jump, or never takes it, as a comparison that always holds
 abbrev pub falling_of : Result Edges Reason → Option Facts
 falling_of (Err reason) = None
 falling_of (Ok edges) = edges.falling
 
--- the facts on the jumping edge out of an instruction, from the result of the transfer function;
--- None if the instruction may not be run, or this edge is never taken
+-- the facts on the jumping edge out of an instruction, from the result of the transfer function.
+-- None if the instruction is no jump, if the jump is never taken, or if the instruction may not be
+-- run: then the result is the reason (Err)
 abbrev pub jumping_of : Result Edges Reason → Option Facts
 jumping_of (Err reason) = None
 jumping_of (Ok edges) = edges.jumping

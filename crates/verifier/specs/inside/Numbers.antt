@@ -146,9 +146,11 @@ IsPut slot fresh y old new =
     IsJoinedBy fresh (entry_of slot old) y (entry_of slot new)
     × ((i : ℕ) → i ≢ slot → entry_of i new ≡ entry_of i old)
 
--- the facts y on a jump are joined into the entry of its target, which has the facts on all jumps
--- to it; without a target (None) no entry changes. `old` has the entries before this, `new` those
--- after it. `fresh` is the new number of each group of eight stack slots that the join changes
+-- the facts y on a jump are joined into the entry of its target, the slot in the first argument. An
+-- entry is the join of the facts on all jumps to a slot so far; None if there are none, and then y
+-- is the new entry. `old` has the entries before this, `new` those after it. Other entries are
+-- unchanged; without a target (None) all are. `fresh` is the new number of each group of eight
+-- stack slots that the join changes
 abbrev pub IsSent : Option ℕ → ℕ → NumberedFacts → List (Option NumberedFacts)
     → List (Option NumberedFacts) → Type 0
 IsSent None fresh y old new = new ≡ old
@@ -191,10 +193,12 @@ falls_settled site jumps_on_null n x = settled site (not jumps_on_null) (8 * n +
 abbrev pub jumps_settled : ℕ → Bool → ℕ → NumberedFacts → NumberedFacts
 jumps_settled site jumps_on_null n x = settled site jumps_on_null (8 * n + 4) x
 
--- the facts on the falling edge out of an instruction; None if control never takes this edge. The
--- flow, which the transfer function returns, is the edges out of the instruction, with what holds
--- on only one of them. x has the facts after the instruction that hold on each of its edges. After
--- a null test all groups of eight stack slots have the new number `fresh`
+-- the facts on the falling edge out of an instruction; None if control never takes this edge. x has
+-- the facts after the instruction that hold on each of its edges. The flow, from the transfer
+-- function, adds what holds on only one. After a comparison (`Compares`) the operands have the
+-- ranges `falls`; None if `falls` is None. After a null test (`Settles`) the look-up at `site` is
+-- not null if the test jumps on null (`jumps_on_null`), else null, and all groups of eight stack
+-- slots have the new number `fresh`. `Ends` and `Jumps` have no falling edge; other flows keep x
 abbrev pub on_falling_edge : Flow → ℕ → NumberedFacts → Option NumberedFacts
 on_falling_edge Ends fresh x = None
 on_falling_edge Falls fresh x = Some x
@@ -206,10 +210,12 @@ on_falling_edge (Compares dst src falls jumps) fresh x = option_map (with_ranges
 on_falling_edge (Settles site jumps_on_null) fresh x =
     Some (settled site (not jumps_on_null) fresh x)
 
--- the facts on the jumping edge out of an instruction, None if this edge is never taken. x are the
--- facts after the instruction, as far as they hold on both edges. The flow adds what holds on one
--- edge only: ranges after a comparison (`Compares`), or whether the result of a look-up is null
--- (`Settles`). `fresh` is the new number that a null test gives all groups of eight stack slots
+-- the facts on the jumping edge out of an instruction, from those after it that hold on both edges
+-- (x). None if this edge is never taken: the run ends (`Ends`), control only falls (`Falls`,
+-- `WritesSlot`, `Writes`), or a comparison can't hold (`jumps` is None). A comparison adds the
+-- ranges `jumps` of its operands, that of dst first. A null test of the look-up at `site` jumps if
+-- the result is null (`jumps_on_null` is true) or if it is not (false), and so adds that; it gives
+-- all groups of eight stack slots the new number `fresh`
 abbrev pub on_jumping_edge : Flow → ℕ → NumberedFacts → Option NumberedFacts
 on_jumping_edge Ends fresh x = None
 on_jumping_edge Falls fresh x = None
@@ -220,15 +226,18 @@ on_jumping_edge Either fresh x = Some x
 on_jumping_edge (Compares dst src falls jumps) fresh x = option_map (with_ranges x dst src) jumps
 on_jumping_edge (Settles site jumps_on_null) fresh x = Some (settled site jumps_on_null fresh x)
 
--- the stack slot that a flow names, which the instruction may have written, is one of the 64; a
--- flow that names none has nothing to satisfy
+-- the stack slot i that `WritesSlot i` names, the only one that the instruction may have changed,
+-- is a slot of the stack (i is below `stack_slots`), so it has a group, whose number can be
+-- replaced. Nothing is required of any other flow, which names no stack slot
 abbrev pub IsInStack : Flow → Type 0
 IsInStack (WritesSlot i) = i < stack_slots
 IsInStack flow = Unit {0}
 
--- the facts x after an instruction with this flow: each group of eight stack slots that the
--- instruction may have written has the new number `fresh`. A null test changes the stack only on
--- its edges, so its new numbers are given there
+-- x, the facts after an instruction with this flow, with the new number `fresh` for each group of
+-- eight stack slots that the instruction may have changed: after `WritesSlot i` the group that has
+-- stack slot i, after `Writes` all groups, since it may have changed any slot. After any other flow
+-- the result is x. A null test changes the stack only on its edges, so its new numbers are given
+-- there
 abbrev pub noted : Flow → ℕ → NumberedFacts → NumberedFacts
 noted (WritesSlot i) fresh x = group_renumbered x i fresh
 noted Writes fresh x = renumbered x fresh

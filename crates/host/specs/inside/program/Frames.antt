@@ -7,8 +7,9 @@ use Rattle.host_core.specs.State.{TenantState}
 use Rattle.host.specs.declared.program.failure.Failure.{Failure}
 use Rattle.host.specs.program.Statuses.{stream_failure}
 
--- what `serve_frames` returns, from the result of serving the stream: Ok without a value if the
--- stream was served to its end (Ok, with the number of frames), and for a fault (Err) its failure
+-- what `serve_frames` returns, from the result of `serve_new_host`. If that served the stream to
+-- its end (Ok), it is Ok without the number of frames (`count`). If a fault ended the stream (Err),
+-- it is the failure of the program for this fault
 abbrev pub stream_end : Result ℕ ServeFault → Result (Unit {0}) Failure
 stream_end (Ok count) = Ok tt
 stream_end (Err fault) = Err (stream_failure fault)

@@ -6,7 +6,8 @@ use Rattle.verifier.specs.Judgement.{refusal_text}
 use Rattle.verifier.specs.declared.refusal.Refusal.{Refusal}
 use Rattle.host.specs.program.Judging.{IsJudgement}
 
--- the line that `verify` writes for a verdict, without its line feed
+-- the line that `verify` writes for a verdict, without its line feed: `accepted` without a refusal
+-- (None), else `refused: slot S reason N`, with the slot S and the number N of its cause
 abbrev pub judgement_text : Option Refusal → Text
 judgement_text None = codes "accepted"
 judgement_text (Some refusal) = refusal_text refusal

@@ -102,11 +102,12 @@ pub record ReadsWholeInput (before after : Option (List ℕ)) (input : List ℕ)
   pub read : Consumes before after input
   pub end : IsAtEnd after
 
--- why there is no input: `TooLong`, if one byte more than allowed was read; `Read`, if a call of
--- the reader failed; or `Memory`, before anything was read. No other failure is one of reading.
--- `before` and `after` are the bytes that the reader has left before and after the reading, if they
--- are known; `failures_before` and `failures_after` are how many of the reader's calls have failed
--- before and after the reading
+-- the input could not be read, for this failure: `TooLong`, after `LONGEST_INPUT` + 1 bytes were
+-- consumed, one more than allowed; `Read`, after at most `LONGEST_INPUT` bytes, since a call of the
+-- reader failed; `Memory`, before any byte was consumed. At `TooLong` and at `Memory` no call
+-- failed. No other failure is one of reading (⊥). `before` and `after` are the bytes that the
+-- reader has left before and after the reading, None if they are not known; `failures_before` and
+-- `failures_after` are how many of the reader's calls have failed before and after the reading
 abbrev pub HasNoInput : Failure → Option (List ℕ) → Option (List ℕ) → ℕ → ℕ → Type 0
 HasNoInput TooLong before after failures_before failures_after =
     ((bytes : List ℕ) × (length bytes ≡ LONGEST_INPUT + 1) × Consumes before after bytes)

@@ -43,7 +43,7 @@ pub fn stack_output_admits()
 /// A law, for helpers that read a key or a value from a value of a map: if a state is in range (`IsInRange`: among others, its bytes are
 /// below 256), a read of n bytes within one value of a map is no fault, and gives n bytes, each below 256. The value is any that the map
 /// has had, also that of a deleted key. No facts are needed, unlike for a read of the stack: a value has no unwritten byte.
-pub fn object_read_admits()
+pub fn value_read_is_no_fault()
     ensures { ObjectReadAdmits }
 {}
 

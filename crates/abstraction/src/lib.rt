@@ -11,7 +11,7 @@
 //!   that the facts after it admit: `stack_read_admits`, `stack_write_admits`.
 //! - Bytes that a helper may read are present. Bytes that it writes, a load and a store within a value, a change of a map and
 //!   the result of a call leave what the facts after them admit: `stack_input_admits`, `stack_output_admits`,
-//!   `object_read_admits`, `object_write_admits`, `value_load_admits`, `value_store_admits`, `map_calls_keep`,
+//!   `value_read_is_no_fault`, `object_write_admits`, `value_load_admits`, `value_store_admits`, `map_calls_keep`,
 //!   `map_change_admits`, `call_admits`, `site_admits`.
 //! - After a null test of a look-up's result, the settled facts admit the state: `null_test_admits`.
 //!

@@ -16,7 +16,7 @@ use Rattle.tagged_model.specs.Helpers.{GivenMap, map_argument, argument, number_
 use Rattle.arena.specs.Memory.{Memory, base, part_start, with_bytes}
 use Rattle.arena.specs.PartLaws.{part_within}
 use Rattle.bpf_helpers.specs.inside.Below.{LawsBelow}
-use Rattle.bpf_maps.specs.Live.{LiveMaps, LiveMap, live_or, shape_at, holds_at, OnlyKeysChange}
+use Rattle.bpf_maps.specs.Live.{LiveMaps, LiveMap, live_or, shape_at, references_at, OnlyKeysChange}
 use Rattle.bpf_maps.specs.LiveLaws.{same_areas}
 use Rattle.bpf_helpers.specs.Layout.{Layout, IsWord}
 use Rattle.bpf_helpers.specs.Stands.{IsRoom, Simulates}
@@ -36,11 +36,11 @@ use Rattle.bpf_helpers.proofs.Deletes.{deletes_keep_simulation}
 use Rattle.bpf_helpers.specs.States.{CallSite, CallResult, Environment, FlatState, answers, site_in, with_result, with_held, with_memory}
 
 -- if only the keys of one map change, each map has as many holds as before
-same_holds : (old new : LiveMaps) (k : ℕ) → OnlyKeysChange k old new → (key : ℕ) → holds_at new key ≡ holds_at old key
+same_holds : (old new : LiveMaps) (k : ℕ) → OnlyKeysChange k old new → (key : ℕ) → references_at new key ≡ references_at old key
 same_holds old new k rest key =
     ⊎_elim
     (λ b.
-    let same : k ≡ key = sym (eqb-true key k b) in subst (λ (x : ℕ). holds_at new x ≡ holds_at old x) same rest.holds)
+    let same : k ≡ key = sym (eqb-true key k b) in subst (λ (x : ℕ). references_at new x ≡ references_at old x) same rest.holds)
     (λ b. ap (λ (o : Option LiveMap). (live_or o).holds) (rest.others key (eqb-false key k b)))
     (cases_Bool (eqb key k))
 

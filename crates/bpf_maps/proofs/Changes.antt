@@ -6,8 +6,8 @@ use Rattle.bpf_maps.specs.declared.stored_map.StoredMap.{StoredMap}
 use Rattle.bpf_maps.specs.declared.maps.Maps.TheInside.{Inside}
 use Rattle.bpf_maps.specs.KeyTable.{IsSound}
 use Rattle.bpf_maps.specs.BpfMap.{keys_in}
-use Rattle.bpf_maps.specs.Live.{LiveMap, LiveMaps, live_at, live_or, keys_at, holds_at, AreSound, IsLaid, SameAreas}
-use Rattle.bpf_maps.specs.Live.{SameValues, KeepsMap, KeepsOthers, areas, MapWithoutArea, without_area, held_at, one_less}
+use Rattle.bpf_maps.specs.Live.{LiveMap, LiveMaps, live_at, live_or, keys_at, references_at, AreSound, IsLaid, SameAreas}
+use Rattle.bpf_maps.specs.Live.{SameValues, KeepsMap, KeepsOthers, areas, MapWithoutArea, without_area, without_area_at, one_less}
 use Rattle.slab.specs.Slab.{get, with_value}
 use Rattle.bpf_maps.specs.InMaps.{live_of, live_maps_of, stored_in, as_live_maps, IsInItsArea, IsWellFormedMaps}
 use Rattle.bpf_maps.proofs.Slots.{some_stored, live_by, others_by, one_changed, value_stays}
@@ -188,19 +188,19 @@ module _ {a : Inside} {t : LiveMaps} {handle map key : ℕ} {old new : StoredMap
 
     -- if the map had more than one reference, one reference less is the release of a reference
     pub one_held_less : new.holds ≡ old.holds - 1
-        → 1 < old.holds → held_at (as_live_maps now) map ≡ one_less (held_at t map)
+        → 1 < old.holds → without_area_at (as_live_maps now) map ≡ one_less (without_area_at t map)
     one_held_less holds more =
         ap (option_map without_area) live_new
         ∙ (λ i. let h : MapWithoutArea = record { keys = keys_in (same i); holds = holds i } in Some h)
         ∙ sym (less_than_held live_old (lt-leb old.holds 1 more))
 
 -- a live map with at most one reference doesn't have more than one
-pub not_more : (t : LiveMaps) (key : ℕ) {l : LiveMap} → live_at t key ≡ Some l → l.holds ≤ 1 → 1 < holds_at t key → ⊥
+pub not_more : (t : LiveMaps) (key : ℕ) {l : LiveMap} → live_at t key ≡ Some l → l.holds ≤ 1 → 1 < references_at t key → ⊥
 not_more t key here last more = let held = seen_of (λ (x : LiveMap). x.holds) here in omega arith
 
 -- a map that is removed had at most one hold
 pub none_held : (t u : LiveMaps) (map : ℕ) {l : LiveMap}
     → live_at t map ≡ Some l → live_at u map ≡ None
     → l.holds ≤ 1
-    → held_at u map ≡ one_less (held_at t map)
+    → without_area_at u map ≡ one_less (without_area_at t map)
 none_held t u map {l = l} at bt last = ap (option_map without_area) bt ∙ sym (less_than_held at (le-leb l.holds 1 last))

@@ -10,7 +10,7 @@ use Rattle.bpf_maps.specs.declared.spare_maps.SpareMaps.{SpareMaps}
 use Rattle.bpf_maps.specs.declared.maps.Maps.TheInside.{Inside}
 use Rattle.bpf_maps.specs.BpfMap.{keys_in}
 use Rattle.bpf_maps.specs.Live.{LiveMap, LiveMaps, live_at, live_or, shape_at, offset, area_by, areas, without_area}
-use Rattle.bpf_maps.specs.Live.{held_at, one_less, area_of, IsLaid, AreSound, SameValues, KeepsOthers, map_without, ClosesUp}
+use Rattle.bpf_maps.specs.Live.{without_area_at, one_less, area_of, IsLaid, AreSound, SameValues, KeepsOthers, map_without, ClosesUp}
 use Rattle.bpf_maps.specs.Sum.{weight}
 use Rattle.bpf_maps.specs.InMaps.{live_of, live_maps_of, by_handle, stored_in, as_live_maps, AreKeys, closed_up, IsWellFormedMaps}
 use Rattle.bpf_maps.proofs.Slots.{at_lives, live_by, none_by, same_some}
@@ -209,13 +209,13 @@ module _ {a : Inside} {t : LiveMaps} {handle map key size : ℕ} {old gone : Sto
       ∙ ap (λ (o : Option LiveMap). option_map (map_without (live_or o)) (live_at t p)) (sym live_gone)
 
   -- if the map had at most one reference, its removal is the release of a reference
-  pub less_gone : old.holds ≤ 1 → held_at (as_live_maps new) map ≡ one_less (held_at t map)
+  pub less_gone : old.holds ≤ 1 → without_area_at (as_live_maps new) map ≡ one_less (without_area_at t map)
   less_gone last =
       none_held t (as_live_maps new) map live_gone none_now
       (subst (λ (e : StoredMap). e.holds ≤ 1) (is_gone g.taken) last)
 
   -- the removal does not change the keys and the references of another map
-  pub others_gone : (p : ℕ) → p ≢ map → held_at (as_live_maps new) p ≡ held_at t p
+  pub others_gone : (p : ℕ) → p ≢ map → without_area_at (as_live_maps new) p ≡ without_area_at t p
   others_gone p ne =
       ap (option_map without_area) (lives_close p (λ e. ne (e ∙ g.taken.under.same)))
       ∙ held_still (live_of gone) (live_at t p)

@@ -3,7 +3,7 @@ use Rattle.std.proofs.Common.{◌≡◌, ℕ, ◌<◌, List, Option, Some, None,
 use Rattle.tagged_model.specs.Table.{with_values}
 use Rattle.bpf_maps.specs.KeyTable.{KeyTable, table_of, IsSound}
 use Rattle.bpf_maps.specs.Live.{LiveMap, LiveMaps, live_at, live_or, no_live, keys_at, value_in}
-use Rattle.bpf_maps.specs.Live.{map_in, SameValues, KeepsMap, MapWithoutArea, without_area, held_at}
+use Rattle.bpf_maps.specs.Live.{map_in, SameValues, KeepsMap, MapWithoutArea, without_area, without_area_at}
 use Rattle.bpf_maps.proofs.Values.{agreeing_tables, used_in_entries}
 
 -- ---- a map without its area
@@ -21,7 +21,7 @@ pub some_held : (o : Option LiveMap) → is_some (option_map without_area o) ≡
 some_held None = refl
 some_held (Some l) = refl
 
-module _ (old new : LiveMaps) (k : ℕ) (same : held_at new k ≡ held_at old k) where
+module _ (old new : LiveMaps) (k : ℕ) (same : without_area_at new k ≡ without_area_at old k) where
   held_live : IsSome (live_at old k) → IsSome (live_at new k)
   held_live live = sym (some_held (live_at new k)) ∙ ap is_some same ∙ some_held (live_at old k) ∙ live
 
@@ -52,7 +52,7 @@ module _ (old new : LiveMaps) (bytes later : List ℕ) (k : ℕ)
   )
 
   -- a live map of which only the area moves, with values that are not changed, has the same keys and values
-  pub keeps_held : held_at new k ≡ held_at old k → KeepsMap k old bytes new later
+  pub keeps_held : without_area_at new k ≡ without_area_at old k → KeepsMap k old bytes new later
   keeps_held same live = (
     held_live old new k same live,
     kept (same_keys old new k same) live (held_live old new k same live),

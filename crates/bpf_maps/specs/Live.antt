@@ -62,8 +62,8 @@ abbrev pub shape_at : LiveMaps → ℕ → MapShape
 shape_at t k = (keys_at t k).shape
 
 -- the number of references to the map of handle k; 0 if the handle has no map
-abbrev pub holds_at : LiveMaps → ℕ → ℕ
-holds_at t k = (live_or (live_at t k)).holds
+abbrev pub references_at : LiveMaps → ℕ → ℕ
+references_at t k = (live_or (live_at t k)).holds
 
 -- the table of keys of each live map is sound: so no two of its keys have the same element
 abbrev pub AreSound : LiveMaps → Type 0
@@ -223,7 +223,7 @@ ClosesUp k old new =
 -- only the map of handle k may have changed, and only in its keys and their elements
 pub record OnlyKeysChange (k : ℕ) (old new : LiveMaps) : Type 0 where
   pub live : IsSome (live_at new k)
-  pub holds : holds_at new k ≡ holds_at old k
+  pub holds : references_at new k ≡ references_at old k
   pub shape : shape_at new k ≡ shape_at old k
   -- no two of its keys have the same element
   pub sound : IsSound (keys_at new k)
@@ -251,7 +251,7 @@ pub record IsCreated (old : LiveMaps) (shape : MapShape) (k : ℕ) (new : LiveMa
   pub was : live_at old k ≡ None
   pub live : IsSome (live_at new k)
   pub keys : keys_at new k ≡ new_keys shape
-  pub holds : holds_at new k ≡ 1
+  pub holds : references_at new k ≡ 1
   pub others : (other : ℕ) → other ≢ k → live_at new other ≡ live_at old other
   pub refused : new.refused ≡ old.refused
 
@@ -284,8 +284,8 @@ without_area l = record { keys = l.keys; holds = l.holds }
 
 -- the table of keys and the number of references of the live map of handle k; None if no live map
 -- has this handle
-abbrev pub held_at : LiveMaps → ℕ → Option MapWithoutArea
-held_at t k = option_map without_area (live_at t k)
+abbrev pub without_area_at : LiveMaps → ℕ → Option MapWithoutArea
+without_area_at t k = option_map without_area (live_at t k)
 
 -- a live map with one more reference
 abbrev pub one_more : LiveMap → LiveMap

@@ -5,7 +5,7 @@ ghost use Rattle.std.specs.Prelude.{◌≡◌, ◌≢◌, ◌+◌, ◌-◌, ◌^
 ghost use Rattle.tagged_model.specs.Table.{after_run, with_deleted};
 ghost use Rattle.tagged_model.specs.declared.fault.MapFault.TheVariants.{NoSpace};
 ghost use Rattle.bpf_maps.specs.declared.part.TheConstants.{PART};
-ghost use Rattle.bpf_maps.specs.Live.{live_at, shape_at, holds_at, map_in, SameValues, KeepsMap, KeepsMaps, KeepsOthers, create_fault};
+ghost use Rattle.bpf_maps.specs.Live.{live_at, shape_at, references_at, map_in, SameValues, KeepsMap, KeepsMaps, KeepsOthers, create_fault};
 ghost use Rattle.bpf_maps.specs.InPart.{updated_in};
 
 use crate::laws;
@@ -95,7 +95,7 @@ fn make_first(alloc: Global, shape: MapShape, part: &mut [u8]) -> Result<MapKey,
 /// and values (`others`), although areas move down in `part`, the tenant's part. The only error is `Memory`: out of memory for a hash map.
 fn make_again(maps: &mut Maps, map: MapKey, part: &mut [u8]) -> Result<MapKey, MapFault>
     requires live { IsSome (live_at maps.old map) }
-    requires last { holds_at maps.old map ≤ 1 }
+    requires last { references_at maps.old map ≤ 1 }
     requires part { length part.old ≡ PART }
     ensures room { result ≢ Err NoSpace }
     ensures lowest { IfOk result (λ made. made ≤ map) }
@@ -123,13 +123,13 @@ fn make_and_release(maps: &mut Maps, shape: MapShape, part: &mut [u8])
     }
 }
 
-/// Adds a reference to a live map and drops one: by `KeepsMaps` each map that was live still is, with the same keys and values. `holds_at`
-/// is the number of references. There is at least one before (`held`), so the dropped one is not the last, which would free the map. There
-/// are fewer than 2^32 - 1 (`few`), so one more can be counted in 32 bits. `release` needs the tenant's whole part (`part`).
+/// Adds a reference to a live map and drops one: by `KeepsMaps` each map that was live still is, with the same keys and values.
+/// `references_at` is the number of references. There is at least one before (`held`), so the dropped one is not the last, which would free
+/// the map. There are fewer than 2^32 - 1 (`few`), so one more can be counted in 32 bits. `release` needs the tenant's whole part (`part`).
 fn hold_and_release(maps: &mut Maps, map: MapKey, part: &mut [u8])
     requires live { IsSome (live_at maps.old map) }
-    requires few { holds_at maps.old map < 2 ^ 32 - 1 }
-    requires held { 1 ≤ holds_at maps.old map }
+    requires few { references_at maps.old map < 2 ^ 32 - 1 }
+    requires held { 1 ≤ references_at maps.old map }
     requires part { length part.old ≡ PART }
     ensures { KeepsMaps maps.old part.old maps.new part.new }
 {

@@ -62,13 +62,13 @@ impl Maps {
     pub(crate) fn live_hash_maps_for(&self, kind: MapKind) -> LiveHashMaps {
         match kind {
             MapKind::Array => NO_HASH_MAPS,
-            MapKind::Hash => self.live_hash_maps(),
+            MapKind::Hash => self.count_live_hash_maps(),
         }
     }
 
     /// The hash maps that are live: how many they are, and the sum of their `max_entries`. Both decide which spare maps are freed for a new
     /// hash map (`SpareMaps::hash_map`). No contract depends on these numbers.
-    fn live_hash_maps(&self) -> LiveHashMaps {
+    fn count_live_hash_maps(&self) -> LiveHashMaps {
         self.maps_are_laid();
         let mut live = NO_HASH_MAPS;
         for handle in 0..MAPS {

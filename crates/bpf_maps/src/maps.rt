@@ -10,7 +10,7 @@ ghost use Rattle.bpf_maps.specs.Limits.{most_maps, most_bytes};
 ghost use Rattle.bpf_maps.specs.KeyTable.{table_of, IsSound, Claims, Removes, GivesKey, after_run};
 ghost use Rattle.bpf_maps.specs.Elements.{elements_at, word_of};
 ghost use Rattle.bpf_maps.specs.KeyRef.{key_bytes, shown_entry};
-ghost use Rattle.bpf_maps.specs.Live.{live_at, keys_at, shape_at, holds_at, held_at, offset_at, value_in, map_in, value_address};
+ghost use Rattle.bpf_maps.specs.Live.{live_at, keys_at, shape_at, references_at, without_area_at, offset_at, value_in, map_in, value_address};
 ghost use Rattle.bpf_maps.specs.Live.{LiesInPart, IsLaid, IsPacked, ClosesUp, start_at, AreSound, SameAreas, SameValues, KeepsMap};
 ghost use Rattle.bpf_maps.specs.Live.{KeepsMaps, KeepsOthers, area_by, areas, OnlyKeysChange, create_fault, Creates, one_more, one_less};
 ghost use Rattle.bpf_maps.specs.InMaps.{live_of};
@@ -211,10 +211,10 @@ impl Maps {
     /// bits; callers know this, since each open object of a tenant refers to a map at most once.
     pub fn hold(&mut self, map: MapKey)
         requires live { IsSome (live_at self.old map) }
-        requires few { holds_at self.old map < 2 ^ 32 - 1 }
+        requires few { references_at self.old map < 2 ^ 32 - 1 }
         ensures more { live_at self.new map ≡ option_map one_more (live_at self.old map) }
         ensures live { IsSome (live_at self.new map) }
-        ensures holds { holds_at self.new map ≡ holds_at self.old map + 1 }
+        ensures holds { references_at self.new map ≡ references_at self.old map + 1 }
         ensures keys { keys_at self.new map ≡ keys_at self.old map }
         ensures shape { shape_at self.new map ≡ shape_at self.old map }
         ensures others { (other : ℕ) → other ≢ map → live_at self.new other
@@ -229,29 +229,30 @@ impl Maps {
         stored.holds += 1;
     }
 
-    /// Drops one reference to a live map (`less`); the last (`holds_at`, their number, is at most 1) frees the map, its handle and area. In
-    /// `part`, the tenant's part of `PART` bytes, the later areas then move down by the size of that area (`moved`). Other maps keep their
-    /// elements, keys and values (`others`, `values`, `maps`), as does the map if it has more references (`kept`); then no area changes.
-    /// `held_at` is a map without its area: its table of keys, and `holds_at`. The stack, the context and `refused` do not change.
+    /// Drops one reference to a live map (`less`); the last (`references_at`, their number, is at most 1) frees the map, its handle and
+    /// area. In `part`, the tenant's part of `PART` bytes, the later areas then move down by the size of that area (`moved`). Other maps
+    /// keep their elements, keys and values (`others`, `values`, `maps`), as does the map if it has more references (`kept`); then no area
+    /// changes. `without_area_at` is a map without its area: its table of keys, and `references_at`. The stack, the context and `refused`
+    /// do not change.
     pub fn release(&mut self, map: MapKey, part: &mut [u8])
         requires live { IsSome (live_at self.old map) }
         requires length { length part.old ≡ PART }
-        ensures less { held_at self.new map ≡ one_less (held_at self.old map) }
-        ensures stays { 1 < holds_at self.old map → IsSome (live_at self.new map) }
-        ensures shape { 1 < holds_at self.old map → shape_at self.new map ≡ shape_at self.old map }
-        ensures gone { holds_at self.old map ≤ 1 → live_at self.new map ≡ None }
-        ensures others { (other : ℕ) → other ≢ map → held_at self.new other
-            ≡ held_at self.old other }
+        ensures less { without_area_at self.new map ≡ one_less (without_area_at self.old map) }
+        ensures stays { 1 < references_at self.old map → IsSome (live_at self.new map) }
+        ensures shape { 1 < references_at self.old map → shape_at self.new map ≡ shape_at self.old map }
+        ensures gone { references_at self.old map ≤ 1 → live_at self.new map ≡ None }
+        ensures others { (other : ℕ) → other ≢ map → without_area_at self.new other
+            ≡ without_area_at self.old other }
         ensures refused { self.new.refused ≡ self.old.refused }
-        ensures moved { holds_at self.old map ≤ 1 → ClosesUp map self.old self.new }
-        ensures areas { 1 < holds_at self.old map → SameAreas self.old self.new }
+        ensures moved { references_at self.old map ≤ 1 → ClosesUp map self.old self.new }
+        ensures areas { 1 < references_at self.old map → SameAreas self.old self.new }
         ensures laid { IsLaid self.new }
         ensures values { SameValues self.old part.old self.new part.new }
         ensures maps { KeepsOthers map self.old part.old self.new part.new }
-        ensures kept { 1 < holds_at self.old map
+        ensures kept { 1 < references_at self.old map
             → KeepsMap map self.old part.old self.new part.new }
-        ensures room { 1 < holds_at self.old map → areas self.new ≡ areas self.old }
-        ensures freed { holds_at self.old map ≤ 1
+        ensures room { 1 < references_at self.old map → areas self.new ≡ areas self.old }
+        ensures freed { references_at self.old map ≤ 1
             → areas self.old ≡ areas self.new + area_by (shape_at self.old map) }
         ensures front { take STACK_AND_CONTEXT part.new ≡ take STACK_AND_CONTEXT part.old }
         ensures length { length part.new ≡ PART }

@@ -29,14 +29,14 @@ first_same fault_at a b h k =
     same_fault a b (omega (arith, h.line, k.line)) (cc kind)
 
 -- given the faults of its lines and its number of slots, a text has at most one fault of its own
-pub one_fault : (fault_at : ℕ → Option TextFaultKind) (slots : ℕ) (a b : TextFault)
+pub at_most_one_fault : (fault_at : ℕ → Option TextFaultKind) (slots : ℕ) (a b : TextFault)
     → IsFaultBy fault_at slots a → IsFaultBy fault_at slots b → a ≡ b
-one_fault fault_at slots a b (inl h) (inl k) = first_same fault_at a b h k
-one_fault fault_at slots a b (inl h) (inr k) =
+at_most_one_fault fault_at slots a b (inl h) (inl k) = first_same fault_at a b h k
+at_most_one_fault fault_at slots a b (inl h) (inr k) =
     absurd (let no : Some a.kind ≡ None = sym h.here ∙ k.none h.index in cc no)
-one_fault fault_at slots a b (inr h) (inl k) =
+at_most_one_fault fault_at slots a b (inr h) (inl k) =
     absurd (let no : Some b.kind ≡ None = sym k.here ∙ h.none k.index in cc no)
-one_fault fault_at slots a b (inr h) (inr k) = h.fault_is ∙ sym k.fault_is
+at_most_one_fault fault_at slots a b (inr h) (inr k) = h.fault_is ∙ sym k.fault_is
 
 -- ---- hex lines
 
@@ -55,4 +55,4 @@ pub seen : (text : List ℕ) (seen fault : TextFault)
     → IsHexFault text fault
     → (seen ≡ fault) ⊎ (seen ≡ memory_fault)
 seen text e fault (inl memory) h = inr memory
-seen text e fault (inr own) h = inl (one_fault _ (length (hex_bytes (text_lines text))) e fault own h)
+seen text e fault (inr own) h = inl (at_most_one_fault _ (length (hex_bytes (text_lines text))) e fault own h)

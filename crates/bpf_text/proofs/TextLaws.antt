@@ -27,7 +27,7 @@ use Rattle.bpf_text.specs.Printed.{printed}
 use Rattle.bpf_text.specs.Assembly.{AreRead, slots_on, label_line, line_fault, line_fault_of, fault_at, forms_from, distance, passes, IsAssembled, IsOwnFault}
 use Rattle.bpf_text.specs.Law.{OneProgram, ProgramHasNoFault, OneFault, PrintedIsAssembled}
 use Rattle.bpf_text.proofs.Assembling.{count_is}
-use Rattle.bpf_text.proofs.OneFault.{one_fault}
+use Rattle.bpf_text.proofs.OneFault.{at_most_one_fault}
 
 -- ---- one program, or one fault
 
@@ -79,7 +79,7 @@ no_fault_is reading text insns fault h own = no_own_fault reading text insns fau
 pub one_fault_is : OneReading → OneFault
 one_fault_is reading text a b h k =
     let same : h.lines ≡ k.lines = lines_same reading (text_lines text) h.lines k.lines h.read k.read in
-    one_fault (fault_at k.lines) (slots_on k.lines) a b
+    at_most_one_fault (fault_at k.lines) (slots_on k.lines) a b
     (subst (λ (ls : List (Option Line)). IsFaultBy (fault_at ls) (slots_on ls) a) same h.first)
     k.first
 

@@ -290,6 +290,6 @@ pub fn assemble(alloc: Global, text: &str) -> Result<Program, TextFault>
     // Laws, which do nothing when they run: with them the contract of `program_of` gives `only` and `faulty`.
     laws::one_program();
     laws::program_has_no_fault();
-    laws::one_fault();
+    laws::at_most_one_fault();
     program_of(alloc, text)
 }

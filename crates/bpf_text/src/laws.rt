@@ -27,7 +27,7 @@ pub fn program_has_no_fault()
 /// A law: a text has at most one fault of its own (`OneFault`): that of its first line that has a fault, or `Empty` if no line has one and
 /// the text has no slot. So a fault that `assemble` returns is the only one, unless it is `Memory`. The body calls the law that each line
 /// is read in one way, for the proof.
-pub fn one_fault()
+pub fn at_most_one_fault()
     ensures { OneFault }
 {
     text_line::laws::one_reading();

@@ -4,7 +4,7 @@
 //!
 //! - A text is assembled exactly if its lines are a program's instructions, unless memory is refused: `ok`, `only` of
 //!   `assemble`. Otherwise the fault is that of the first line that has one, the lowest kind that it has; Empty only if no line
-//!   has a fault: `fault`, `faulty` of `assemble`, `program_has_no_fault`, `one_fault`.
+//!   has a fault: `fault`, `faulty` of `assemble`, `program_has_no_fault`, `at_most_one_fault`.
 //! - A text has at most one program: `one_program`.
 //! - The text of a program is the text of each instruction, in the order of the slots, and a line feed after each:
 //!   `disassemble`. This text assembles to this program, so to no other: `program` of `disassemble`,

@@ -4,7 +4,7 @@ use Rattle.std.proofs.Common.{[], ◌∷◌, ◌++◌, take, drop, length, repli
 use Rattle.std.proofs.lemmas.List.{append-nil, take_all, drop_all, length-take-le, length-drop}
 use Rattle.std.specs.List.{list_all}
 use Rattle.std.specs.Simd.{first_chunks}
-use Rattle.bpfhost_c.specs.Contexts.{fitted, fitted_all, is_zero_after_given, have_known_words}
+use Rattle.bpfhost_c.specs.Contexts.{fitted, fitted_all, has_only_known_words, have_known_words}
 
 -- a context of ten words is as it is
 fitted_ten : (words : List ℕ) → length words ≡ 10 → fitted words ≡ words
@@ -12,7 +12,7 @@ fitted_ten words ten =
     subst (λ (count : ℕ). take (min count 10) words ++ drop (min count 10) (replicate 10 0) ≡ words) (sym ten)
     (subst (λ (front : List ℕ). front ≡ words) (sym (append-nil (take 10 words))) (take_all 10 words (omega arith)))
 
-known_ten : (words : List ℕ) → length words ≡ 10 → is_zero_after_given words ≡ true
+known_ten : (words : List ℕ) → length words ≡ 10 → has_only_known_words words ≡ true
 known_ten words ten =
     subst (λ (more : List ℕ). list_all (λ word. nat_eq word 0) more ≡ true) (sym (drop_all 10 words (omega arith))) refl
 

@@ -1,7 +1,7 @@
 -- A step of a loop over contexts.
 use Rattle.std.proofs.Common.{◌≡◌, ℕ, suc, ◌+◌, ◌-◌, ◌*◌, ◌<◌, ◌≤◌, ◌&&◌, List, [], ◌∷◌, ◌++◌, take, drop, length, refl, sym, subst, arith}
 use Rattle.std.proofs.lemmas.List.{append_assoc}
-use Rattle.bpfhost_c.specs.Contexts.{fitted, fitted_all, is_zero_after_given, have_known_words}
+use Rattle.bpfhost_c.specs.Contexts.{fitted, fitted_all, has_only_known_words, have_known_words}
 
 one_less : (count i : ℕ) → i < count → suc (count - (i + 1)) ≡ count - i
 one_less count i below = omega arith
@@ -17,11 +17,11 @@ fitted_step size count i words below =
 pub known_step : (size count i : ℕ) (words : List ℕ)
     → i < count
     → have_known_words size (count - i) words
-    ≡ (is_zero_after_given (take size words) && have_known_words size (count - (i + 1)) (drop size words))
+    ≡ (has_only_known_words (take size words) && have_known_words size (count - (i + 1)) (drop size words))
 known_step size count i words below =
     subst (λ (left : ℕ).
     have_known_words size left words
-    ≡ (is_zero_after_given (take size words) && have_known_words size (count - (i + 1)) (drop size words)))
+    ≡ (has_only_known_words (take size words) && have_known_words size (count - (i + 1)) (drop size words)))
     (one_less count i below) refl
 
 -- if the contexts that are left fit in the words that are left, so do the next one and those after it

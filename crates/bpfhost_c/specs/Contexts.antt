@@ -13,8 +13,8 @@ fitted words =
     ++ drop (min (length words) given_words) (replicate given_words 0)
 
 -- a context has only zeros after its first `given_words` words, which are those that a run is given
-abbrev pub is_zero_after_given : List ℕ → Bool
-is_zero_after_given words = list_all (λ word. nat_eq word 0) (drop given_words words)
+abbrev pub has_only_known_words : List ℕ → Bool
+has_only_known_words words = list_all (λ word. nat_eq word 0) (drop given_words words)
 
 -- for each of the first n contexts in `words`, n being the second argument, each of `size` words:
 -- the words that a run is given of it (`fitted`)
@@ -28,7 +28,7 @@ fitted_all size (suc count) words =
 abbrev pub have_known_words : ℕ → ℕ → List ℕ → Bool
 have_known_words size zero words = true
 have_known_words size (suc count) words =
-    is_zero_after_given (take size words) && have_known_words size count (drop size words)
+    has_only_known_words (take size words) && have_known_words size count (drop size words)
 
 -- the contexts of a call, each of `size` words, as a run is given them; if the last one is cut off,
 -- its words are left out, and the call has the code of an error (`contexts_code`)

@@ -6,7 +6,7 @@
 ghost use Rattle.std.specs.Prelude.{◌≡◌, ◌≢◌, ◌*◌, ◌/◌, ◌%◌, ◌≤◌, length, true, is_some, nat_eq, IfOk, IfErr, IfSome};
 ghost use Rattle.std.specs.Cow.{cow_slice_items};
 ghost use Rattle.words.specs.Context.{given_words};
-ghost use Rattle.bpfhost_c.specs.Contexts.{fitted, fitted_all, is_zero_after_given, have_known_words, contexts_of, contexts_code};
+ghost use Rattle.bpfhost_c.specs.Contexts.{fitted, fitted_all, has_only_known_words, have_known_words, contexts_of, contexts_code};
 ghost use Rattle.bpfhost_c.specs.declared.codes.TheConstants.{DONE, ERR_NO_MEMORY};
 
 use crate::codes::{ERR_NO_MEMORY, ERR_SIZE, ERR_TOO_BIG};
@@ -69,8 +69,8 @@ fn fit_all(
 
 /// Whether all words of one context from C after its first ten (`GIVEN_WORDS`) are 0; true for a context with at most ten words. A run is
 /// given only the ten: so a context with another word than 0 after them is rejected (`ERR_TOO_BIG`).
-fn is_zero_after_given(words: &[u32]) -> bool
-    ensures { result ≡ is_zero_after_given words.now }
+fn has_only_known_words(words: &[u32]) -> bool
+    ensures { result ≡ has_only_known_words words.now }
 {
     if words.len() <= GIVEN_WORDS {
         return true;
@@ -88,14 +88,14 @@ fn is_zero_after_given(words: &[u32]) -> bool
 /// words after the first `GIVEN_WORDS`, which are all that a run is given, are 0. If not, the call from C returns `ERR_TOO_BIG`. The caller
 /// counts only whole contexts, so `words` has all of them, as the precondition requires.
 #[tactic(auto, using(crate::proofs::Loops::known_step, crate::proofs::Loops::room_step))]
-fn are_known(words: &[u32], size: usize, count: usize) -> bool
+fn have_only_known_words(words: &[u32], size: usize, count: usize) -> bool
     requires { count * size ≤ length words.now }
     ensures { result ≡ have_known_words size count words.now }
 {
     let mut rest = words;
     for _ in 0..count {
         let (context, after) = rest.split_at(size);
-        if !is_zero_after_given(context) {
+        if !has_only_known_words(context) {
             return false;
         }
         rest = after;
@@ -125,7 +125,7 @@ fn copied_contexts(
         return Err(ERR_SIZE);
     }
     let count = words.len() / size;
-    if !are_known(words, size, count) {
+    if !have_only_known_words(words, size, count) {
         return Err(ERR_TOO_BIG);
     }
     match fit_all(alloc, words, size, count) {

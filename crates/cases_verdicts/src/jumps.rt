@@ -7,7 +7,7 @@ const JUMPS: usize = 2047;
 
 /// The text of a program of `MAX_SLOTS` (of `insn_set`) slots, the most that a program may have: a load, then `JUMPS` conditional jumps,
 /// each with a move after it, and in the last slot the instruction `end`. Each jump skips `ahead` slots, or all slots before the last one
-/// (`left`) if these are fewer. `verdict_of_jumps` verifies it. `AllocError`: out of memory.
+/// (`left`) if these are fewer. `verdict_of_longest` verifies it. `AllocError`: out of memory.
 pub fn jumping(alloc: Global, ahead: usize, end: &str) -> Result<String, AllocError> {
     let mut lines = String::new(alloc);
     lines.push_str("r0 = *(u32 *)(r1 + 0)")?;

@@ -46,7 +46,7 @@ impl VerdictPlayer {
     /// Verifies the program that has the instructions of `text`, in the notation of cases, and then `r0 = 0; exit`, which a case thus need
     /// not have. Returns the word `accepted` if it is accepted; `Refused`, with slot and reason, if it is rejected. `Notation`, `Digits` or
     /// `NoText` if `text` is not in this notation, `Text` if the program does not assemble, `Memory` if out of memory.
-    fn verdict_of_start(&self, text: &str) -> Result<String, CaseError> {
+    fn verdict_with_exit(&self, text: &str) -> Result<String, CaseError> {
         let whole = format!(in self.alloc; "{text}; r0 = 0; exit")?;
         self.verdict(whole.as_str())
     }
@@ -55,7 +55,7 @@ impl VerdictPlayer {
     /// (`jumping`). `text` is a number and an instruction: each jump skips this number of slots, or goes to the last slot if it would go
     /// past that; the last slot has the instruction. `Number` if the first word of `text` is no number. The other errors are those of the
     /// function `accepted`, such as `Refused`, and out of memory.
-    fn verdict_of_jumps(&self, text: &str) -> Result<String, CaseError> {
+    fn verdict_of_longest(&self, text: &str) -> Result<String, CaseError> {
         let (ahead, end) = first_word(text);
         let whole = jumping(self.alloc, ahead.parse()?, end)?;
         self.verdict(whole.as_str())
@@ -81,8 +81,8 @@ impl Player for VerdictPlayer {
         let (word, rest) = first_word(line);
         match word {
             "verify" => self.verdict(rest),
-            "start" => self.verdict_of_start(rest),
-            "jumps" => self.verdict_of_jumps(rest),
+            "start" => self.verdict_with_exit(rest),
+            "jumps" => self.verdict_of_longest(rest),
             "maps" => self.maps(rest),
             "join" => joined(self.alloc, rest),
             // Opens a descriptor, or closes all for the word `new`. `UnknownWord` for any other word.

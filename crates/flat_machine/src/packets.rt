@@ -56,7 +56,7 @@ impl<'a> Model for Packets<'a> {
 /// Whether there may be `contexts` arrays of context words for `packets` packets: 1, an array for all packets, or as many as packets, an
 /// array for each. `Packets::new` refuses any other number. Without packets, both 0 and 1 are allowed.
 #[inline(always)]
-fn fit_packets(contexts: usize, packets: usize) -> bool
+fn may_have_contexts(contexts: usize, packets: usize) -> bool
     ensures { result ≡ are_contexts contexts packets }
 {
     contexts == 1 || contexts == packets
@@ -69,7 +69,7 @@ fn fit_packets(contexts: usize, packets: usize) -> bool
 /// exactly if each length is. The length of a packet that ends before its beginning wraps: if no end has the highest bit (`reach`), such a
 /// length has this bit, and makes `lengths` too great. So the ends ascend, and only the last, in `start`, is compared with `many`.
 #[inline(always)]
-fn are_plain(many: usize, ends: &[usize]) -> bool
+fn pass_quick_test(many: usize, ends: &[usize]) -> bool
     ensures { result ≡ true → packets_fault many 0 ends.now ≡ None }
 {
     let mut lengths = 0;
@@ -86,7 +86,7 @@ fn are_plain(many: usize, ends: &[usize]) -> bool
 /// Why packets in `many` bytes are refused: the fault of the first packet that has one, by a test of each in turn; `None` if none has.
 /// `Outside` if the packet ends before it begins or after the last byte, else `TooLong` if it has more than `LONGEST_PACKET` bytes. `ends`
 /// has for each packet how many of the bytes are before its end. The first packet begins at byte 0, each other at the end of the one
-/// before. This function is cold, since the quick test `are_plain` accepts almost all batches, and only the others are tested here.
+/// before. This function is cold, since the quick test `pass_quick_test` accepts almost all batches, and only the others are tested here.
 #[cold]
 #[inline(never)]
 fn first_fault(many: usize, ends: &[usize]) -> Option<PacketFault>
@@ -107,13 +107,13 @@ fn first_fault(many: usize, ends: &[usize]) -> Option<PacketFault>
 
 /// Why packets in `many` bytes are refused: the fault of the first packet that has one, `Outside` or `TooLong`; `None` if none has. `ends`
 /// has for each packet how many of the bytes are before its end. The first packet begins at byte 0 (the `0` of the contract), each other
-/// one at the end of the one before. `first_fault` tests each packet, but only if `are_plain`, a quick test of all, is false. The quick
-/// test may be false without a fault: a packet of exactly `LONGEST_PACKET` bytes has none.
+/// one at the end of the one before. `first_fault` tests each packet, but only if `pass_quick_test`, a quick test of all, is false. The
+/// quick test may be false without a fault: a packet of exactly `LONGEST_PACKET` bytes has none.
 #[inline(always)]
 fn fault_of(many: usize, ends: &[usize]) -> Option<PacketFault>
     ensures { result ≡ packets_fault many 0 ends.now }
 {
-    if are_plain(many, ends) {
+    if pass_quick_test(many, ends) {
         None
     } else {
         first_fault(many, ends)
@@ -139,7 +139,7 @@ impl<'a> Packets<'a> {
         ensures fault { result_err result
             ≡ batch_fault (length contexts.now) (length bytes.now) ends.now }
     {
-        if !fit_packets(contexts.len(), ends.len()) {
+        if !may_have_contexts(contexts.len(), ends.len()) {
             return Err(PacketFault::Contexts);
         }
         if let Some(fault) = fault_of(bytes.len(), ends) {

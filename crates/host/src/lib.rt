@@ -55,5 +55,5 @@ pub use host_core::{
 };
 pub use program::arguments::{refuse_unread_words, run_words};
 pub use program::failure::Failure;
-pub use program::inputs::{hex_slots, maps_named, text_program, whole_input};
+pub use program::inputs::{hex_slots, maps_of_arguments, text_program, whole_input};
 pub use program::shapes::{BadShape, read_shape};

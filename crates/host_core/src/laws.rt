@@ -50,7 +50,7 @@ pub fn each_stretch_is_served_alone()
 pub fn same_frames_same_replies()
     ensures { SameFramesSameReplies }
 {
-    tenant::laws::one_alone();
+    tenant::laws::one_reply_list();
 }
 
 /// A law: two streams with the same frames get the same replies and the same bytes of output, whichever hosts serve them, if each tenant

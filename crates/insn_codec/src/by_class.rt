@@ -248,7 +248,7 @@ fn read_goto(entry: &mut Insn, slot: &RawSlot) -> Result<Option<RawSlot>, FaultK
     ensures none { IfOk result (λ second. second ≡ None) }
     ensures fault { IfErr result (IsFaultOf form.Ja (fields slot.now)) }
 {
-    check_fields(slot.has_no_register() && slot.imm == 0, slot)?;
+    check_fields(slot.has_zero_registers() && slot.imm == 0, slot)?;
     *entry = Insn::Ja {
         off: slot.offset.cast_signed(),
     };
@@ -266,7 +266,7 @@ fn read_goto_far(entry: &mut Insn, slot: &RawSlot) -> Result<Option<RawSlot>, Fa
     ensures none { IfOk result (λ second. second ≡ None) }
     ensures fault { IfErr result (IsFaultOf form.Jal (fields slot.now)) }
 {
-    check_fields(slot.has_no_register() && slot.offset == 0, slot)?;
+    check_fields(slot.has_zero_registers() && slot.offset == 0, slot)?;
     *entry = Insn::Jal {
         off: slot.imm.cast_signed(),
     };
@@ -283,7 +283,7 @@ fn read_call(entry: &mut Insn, slot: &RawSlot) -> Result<Option<RawSlot>, FaultK
     ensures none { IfOk result (λ second. second ≡ None) }
     ensures fault { IfErr result (IsFaultOf form.Call (fields slot.now)) }
 {
-    check_fields(slot.has_no_register() && slot.offset == 0, slot)?;
+    check_fields(slot.has_zero_registers() && slot.offset == 0, slot)?;
     *entry = Insn::Call {
         id: slot.imm.cast_signed(),
     };
@@ -299,7 +299,7 @@ fn read_exit(entry: &mut Insn, slot: &RawSlot) -> Result<Option<RawSlot>, FaultK
     ensures fault { IfErr result (IsFaultOf form.Exit (fields slot.now)) }
 {
     check_fields(
-        slot.has_no_register() && slot.offset == 0 && slot.imm == 0,
+        slot.has_zero_registers() && slot.offset == 0 && slot.imm == 0,
         slot,
     )?;
     *entry = Insn::Exit;

@@ -47,8 +47,8 @@ fn exit_is_decoded() {
 }
 
 /// The kind of the fault for which `decode` rejects the bytes; `None` if they begin with an instruction. By the contract, if the bytes have
-/// a fault at the front (`HasFault`), the result is its kind: so `kinds_at_front` can prove the kinds of three faults.
-fn kind_at_front(bytes: &[u8]) -> Option<FaultKind>
+/// a fault at the front (`HasFault`), the result is its kind: so `faults_at_front` can prove the kinds of three faults.
+fn fault_kind_at_front(bytes: &[u8]) -> Option<FaultKind>
     ensures { (kind : AnyKind) → HasFault bytes.now kind → result ≡ Some kind }
 {
     match decode(bytes) {
@@ -59,14 +59,14 @@ fn kind_at_front(bytes: &[u8]) -> Option<FaultKind>
 
 /// The fault of an exit with an immediate other than 0 is `Reserved`, that of a move to register 11 is `Register`, and that of the first
 /// slot of a wide load with no slot after it is `SecondSlot`.
-fn kinds_at_front() {
-    let number_in_exit = kind_at_front(&[0x95, 0, 0, 0, 1, 0, 0, 0]);
+fn faults_at_front() {
+    let number_in_exit = fault_kind_at_front(&[0x95, 0, 0, 0, 1, 0, 0, 0]);
     let is_reserved = number_in_exit == Some(FaultKind::Reserved);
     prove!(is_reserved);
-    let register_eleven = kind_at_front(&[0xb7, 0x0b, 0, 0, 0, 0, 0, 0]);
+    let register_eleven = fault_kind_at_front(&[0xb7, 0x0b, 0, 0, 0, 0, 0, 0]);
     let is_register = register_eleven == Some(FaultKind::Register);
     prove!(is_register);
-    let half_a_load = kind_at_front(&[0x18, 0, 0, 0, 0, 0, 0, 0]);
+    let half_a_load = fault_kind_at_front(&[0x18, 0, 0, 0, 0, 0, 0, 0]);
     let is_second_slot = half_a_load == Some(FaultKind::SecondSlot);
     prove!(is_second_slot);
 }

@@ -129,5 +129,5 @@ pub(crate) fn is_second_slot(src: u8, next: &RawSlot) -> bool
     ensures { result ≡ is_second src (fields next.now) }
 {
     let number = src != 1 || next.imm == 0;
-    next.opcode == 0 && next.has_no_register() && next.offset == 0 && number
+    next.opcode == 0 && next.has_zero_registers() && next.offset == 0 && number
 }

@@ -119,7 +119,11 @@ fn read_slot(entry: &mut Insn, slot: &RawSlot, rest: &[u8]) -> Result<Option<Raw
 /// instruction is written to `entry` directly: it is as large as two slots, and would be copied if it were returned.
 #[inline(always)]
 #[tactic(auto, unfolding(crate::specs::inside::FirstFault::first_fault))]
-pub(crate) fn read_from(entry: &mut Insn, first: &RawSlot, bytes: &[u8]) -> Result<bool, FaultKind>
+pub(crate) fn read_with_first(
+    entry: &mut Insn,
+    first: &RawSlot,
+    bytes: &[u8],
+) -> Result<bool, FaultKind>
     requires long { 8 ≤ length bytes.now }
     requires first { fields first.now ≡ slot_of bytes.now }
     ensures found { OnOk result (IsInsn entry.new × Begins entry.new bytes.now) }
@@ -134,7 +138,7 @@ pub(crate) fn read_from(entry: &mut Insn, first: &RawSlot, bytes: &[u8]) -> Resu
 /// Reads the instruction at the front of `bytes` into `entry`; more bytes may follow. By `found` the instruction's numbers are in their
 /// ranges (`IsInsn`), and `bytes` begin with its spelling (`Begins`). The error is the fault at the front (`fault`): `Ragged` if there are
 /// fewer than eight bytes, else the first of `Opcode`, `Reserved`, `Register` and `SecondSlot` that applies; `entry` then means nothing.
-/// Unlike `read_from`, this function reads the first slot itself.
+/// Unlike `read_with_first`, this function reads the first slot itself.
 #[tactic(auto, unfolding(crate::specs::inside::FirstFault::first_fault))]
 fn read_front(entry: &mut Insn, bytes: &[u8]) -> Result<(), FaultKind>
     ensures found { OnOk result (IsInsn entry.new × Begins entry.new bytes.now) }
@@ -143,7 +147,7 @@ fn read_front(entry: &mut Insn, bytes: &[u8]) -> Result<(), FaultKind>
     let Some(first) = RawSlot::first(bytes) else {
         return Err(FaultKind::Ragged);
     };
-    read_from(entry, &first, bytes)?;
+    read_with_first(entry, &first, bytes)?;
     Ok(())
 }
 

@@ -77,7 +77,7 @@ impl RawSlot {
     /// Whether the fields of both registers are zero, as they have to be in a slot that uses no register (RFC 9669, section 3.1). True also
     /// of a slot that uses register 0 in both fields.
     #[inline(always)]
-    pub fn has_no_register(&self) -> bool
+    pub fn has_zero_registers(&self) -> bool
         ensures { result ≡ ((fields self.now).dst == 0 && (fields self.now).src == 0) }
     {
         self.registers == 0

@@ -23,14 +23,14 @@ pub fn alu64(op: Operator, a: Range, b: Range) -> Range
 {
     match op {
         Operator::Binary(op) => binary64(op, a, b),
-        _ => any64(op, a, b),
+        _ => unary64(op, a, b),
     }
 }
 
 /// The range of the results of `op`, an operator of two operands or a move, on 64 bits, for first operands in `a` and second ones in `b`; a
 /// move reads only the second one. The range has one number if the range of each operand that `op` reads has only one, else it is that of
 /// `alu_range`. So it is what the table of ranges gives (`exact`), and includes the result of every two members (`sound`). `alu64` calls
-/// this function after one test, for most operators. It gives the others, which have one operand, to `any64`.
+/// this function after one test, for most operators. It gives the others, which have one operand, to `unary64`.
 fn binary64(op: AluOp, a: Range, b: Range) -> Range
     ensures exact { result ≡ range_of 64 (Binary op) a b }
     ensures sound { (x y : ℕ) → IsMember x a → IsMember y b
@@ -48,7 +48,7 @@ fn binary64(op: AluOp, a: Range, b: Range) -> Range
 /// that `general_range` gives. The contract holds for each operator, but `alu64` calls this function only for the operators of one operand:
 /// a sign extension, which reads only `b`, a change of sign and a byte-order conversion, which read only `a`. Those of two operands and
 /// moves go to `binary64`.
-fn any64(op: Operator, a: Range, b: Range) -> Range
+fn unary64(op: Operator, a: Range, b: Range) -> Range
     ensures exact { result ≡ range_of 64 op a b }
     ensures sound { (x y : ℕ) → IsMember x a → IsMember y b → IsMember (operate 64 op x y) result }
 {
@@ -123,7 +123,7 @@ fn are_alu_constants(op: AluOp, a: Range, b: Range) -> bool
 /// The range of the results of `op`, from the ends of its operands' ranges: for first operands in `a` and second ones in `b`, all of 64
 /// bits (`wide`) or 32, as the preconditions require; `alu32` has truncated the operands to 32 bits. A change of sign may give all numbers
 /// of that width, a byte-order conversion all numbers of as many bits as it keeps. A sign extension reads only the second operand. For
-/// constants the range may be wider than needed: if each operand that `op` reads has only one member, the callers (`any64`, `alu32`)
+/// constants the range may be wider than needed: if each operand that `op` reads has only one member, the callers (`unary64`, `alu32`)
 /// compute the result instead.
 fn general_range(wide: bool, op: Operator, a: Range, b: Range) -> Range
     requires first { a.hi < 2 ^ width wide }
@@ -134,7 +134,7 @@ fn general_range(wide: bool, op: Operator, a: Range, b: Range) -> Range
         Operator::Binary(op) => alu_range(wide, op, a, b),
         Operator::Neg => Range::full(wide),
         Operator::SignExtend { from } => sign_extend(wide, from, b),
-        Operator::End { bits, .. } => full_of(bits),
+        Operator::End { bits, .. } => all_of_kept_bits(bits),
     }
 }
 
@@ -166,7 +166,7 @@ fn alu_range(wide: bool, op: AluOp, a: Range, b: Range) -> Range
 }
 
 /// All numbers of 16, 32 or 64 bits, as many as a byte-order conversion keeps of its operand (`bits`): the range of its results.
-fn full_of(bits: KeptBits) -> Range
+fn all_of_kept_bits(bits: KeptBits) -> Range
     ensures { result ≡ full (kept_bits bits) }
 {
     match bits {

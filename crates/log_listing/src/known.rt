@@ -142,7 +142,7 @@ impl Row {
     /// bit 0 is that of the slot's lowest byte. If a byte does not follow the last byte of the `Row`, those in the `Row` are first written
     /// into `text`, as a note with the word `what`, `written` or `lost`, and the `Row` begins anew at this byte (`add_byte`). The bytes
     /// that the `Row` has at the end are left to the caller, who writes them after the last stack slot.
-    fn take_slot(
+    fn add_slot_bytes(
         &mut self,
         text: &mut String,
         what: &str,
@@ -187,7 +187,7 @@ fn write_stack_bytes(
             written(before, after)
         };
         if mask != 0 {
-            row.take_slot(text, what, index, mask)?;
+            row.add_slot_bytes(text, what, index, mask)?;
         }
     }
     row.write(text, what)

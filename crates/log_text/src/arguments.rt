@@ -65,7 +65,7 @@ fn with_forms<'a>(alloc: Global, program: Command<'a>) -> Result<Command<'a>, Al
 
 /// Adds the map arguments to `program`, which describes the command line to clap: any number of positional arguments. Each names a map and
 /// its descriptor, as `4:hash:4:16:64`: the fields are descriptor, kind, the sizes of a key and of a value in bytes, and `max_entries`.
-/// Clap does not read the fields, `maps_named` of `host` does. `AllocError`: out of memory.
+/// Clap does not read the fields, `maps_of_arguments` of `host` does. `AllocError`: out of memory.
 fn with_maps<'a>(alloc: Global, program: Command<'a>) -> Result<Command<'a>, AllocError> {
     let maps = Arg::new(alloc, "map")
         .value_name("MAP")

@@ -2,7 +2,7 @@
 
 use crate::arguments::{ProgramForm, form_of, parse_arguments, style_of};
 use clap::ArgMatches;
-use host::{Failure, hex_slots, maps_named, text_program, whole_input};
+use host::{Failure, hex_slots, maps_of_arguments, text_program, whole_input};
 use log_core::{Log, SlotsLog, log_of, log_of_slots};
 use std::alloc::{AllocError, Global};
 use std::io::{Read, Write};
@@ -20,7 +20,7 @@ struct Output {
 /// an argument describes no map, or has the descriptor of an earlier one. It is `Memory` if out of memory.
 fn maps_given(alloc: Global, matches: &ArgMatches<'_>) -> Result<Vec<Named>, Failure> {
     match matches.get_strs("map") {
-        Some(arguments) => maps_named(alloc, arguments),
+        Some(arguments) => maps_of_arguments(alloc, arguments),
         None => Ok(Vec::new(alloc)),
     }
 }

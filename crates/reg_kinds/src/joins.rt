@@ -113,7 +113,7 @@ fn holds_range(a: &Range, b: &Range) -> bool
 }
 
 /// Joins the kind `edge` into `known`. If both are ranges, or pointers into values of one map, only the bounds in `known` are written;
-/// `join_any_kinds` joins all other kinds. The function is not inlined, since its caller `join_kind`, which is inlined, has already found
+/// `join_out_of_line` joins all other kinds. The function is not inlined, since its caller `join_kind`, which is inlined, has already found
 /// the joins that change nothing.
 #[inline(never)]
 fn join_other_kind(known: &mut Kind, edge: &Kind)
@@ -122,14 +122,14 @@ fn join_other_kind(known: &mut Kind, edge: &Kind)
     match (&mut *known, edge) {
         (Kind::Scalar(range), Kind::Scalar(other)) => *range = hull(*range, *other),
         (Kind::Value(p), Kind::Value(q)) if p.map == q.map => *p = offsets_hull(*p, *q),
-        _ => join_any_kinds(known, edge),
+        _ => join_out_of_line(known, edge),
     }
 }
 
 /// Joins the kind `edge` into `known`, for any two kinds; `join_other_kind` calls it unless both are ranges, or pointers into values of one
 /// map. It is not inlined, so that `join_other_kind` need not save machine registers on the machine's stack.
 #[inline(never)]
-fn join_any_kinds(known: &mut Kind, edge: &Kind)
+fn join_out_of_line(known: &mut Kind, edge: &Kind)
     ensures { known.new ≡ kind_join known.old edge.now }
 {
     *known = known.join(*edge);
@@ -230,7 +230,7 @@ fn keep_common(mask: &mut u8, other: u8) -> bool
 /// Joins `edge`, what is known of a stack slot on another edge to the same instruction, into `known`. The join of two masks of written
 /// bytes is the mask of the bytes in both; that of two spills is a spill with the join of their kinds. If that join is `Unreadable`, or
 /// only one side is a spill, no byte counts as written (`Bytes(0)`). Returns false only if `known` is unchanged (`stays`). After a join by
-/// `join_other_slots`, which is not inlined, returns true whether `known` has changed or not.
+/// `join_spill`, which is not inlined, returns true whether `known` has changed or not.
 #[inline(always)]
 fn join_slot(known: &mut Slot, edge: &Slot) -> bool
     ensures slot { known.new ≡ slot_join known.old edge.now }
@@ -247,7 +247,7 @@ fn join_slot(known: &mut Slot, edge: &Slot) -> bool
             changes
         }
         _ => {
-            join_other_slots(known, edge);
+            join_spill(known, edge);
             true
         }
     }
@@ -258,7 +258,7 @@ fn join_slot(known: &mut Slot, edge: &Slot) -> bool
 /// of one map give the least range of offsets that includes both (`offsets_hull`), and a spill with an `edge` that is no spill gives a slot
 /// without a written byte (`Bytes(0)`). `join_any_slots`, which is not inlined, joins in all other cases.
 #[inline(never)]
-fn join_other_slots(known: &mut Slot, edge: &Slot)
+fn join_spill(known: &mut Slot, edge: &Slot)
     ensures { known.new ≡ slot_join known.old edge.now }
 {
     match (&mut *known, edge) {
@@ -271,8 +271,8 @@ fn join_other_slots(known: &mut Slot, edge: &Slot)
 }
 
 /// Joins `edge`, what is known of a stack slot on another edge, into `known`, for any two stack slots (`Slot::join`). The only caller,
-/// `join_other_slots`, joins by itself the cases that a program can force in many slots, and calls this function for the others. It is out
-/// of line, so that `join_other_slots` need not save machine registers on the machine's stack.
+/// `join_spill`, joins by itself the cases that a program can force in many slots, and calls this function for the others. It is out
+/// of line, so that `join_spill` need not save machine registers on the machine's stack.
 #[inline(never)]
 fn join_any_slots(known: &mut Slot, edge: &Slot)
     ensures { known.new ≡ slot_join known.old edge.now }

@@ -61,8 +61,8 @@ fn start_of(offset: i32, count: u32) -> Option<usize>
     }
 }
 
-/// Whether the stack slot is a spill that an access touches. `touched` is whether the access touches a byte of the slot. `touch_a_spill`
-/// needs this of the slots with bytes that a helper reads: a helper may not read any byte of a spill (`PartOfSpill`).
+/// Whether the stack slot is a spill that an access touches. `touched` is whether the access touches a byte of the slot.
+/// `bytes_touch_spill` needs this of the slots with bytes that a helper reads: a helper may not read any byte of a spill (`PartOfSpill`).
 fn is_touched_spill(slot: Slot, touched: bool) -> bool
     ensures { result ≡ is_touched_spill slot touched }
 {
@@ -85,7 +85,7 @@ fn lacks(slot: Slot, bits: u8) -> bool
 
 /// The number of the first stack slot that begins at or after the end of the `count` stack bytes from byte index `start` on; `STACK_SLOTS`
 /// if no slot does. The bytes touch neither this slot nor a higher one, so a loop over the slots that they touch ends before it.
-fn past_touched(start: usize, count: usize) -> usize
+fn end_of_touched_slots(start: usize, count: usize) -> usize
     requires { start + count ≤ stack_size }
     ensures bytes { start + count ≤ 8 * result }
     ensures slots { result ≤ stack_slots }
@@ -96,12 +96,12 @@ fn past_touched(start: usize, count: usize) -> usize
 /// Whether the `count` stack bytes from byte index `start` on touch a spill; if so, `check_read` rejects a helper's read of them. The
 /// contract is about all `stack_slots` stack slots (`any_below`). The loop leaves out those that end before the bytes or begin after them,
 /// since the bytes do not touch these. If `count` is 0, the stack slot of byte `start` counts as touched, unless this byte is its first.
-fn touch_a_spill(facts: &Facts, start: usize, count: usize) -> bool
+fn bytes_touch_spill(facts: &Facts, start: usize, count: usize) -> bool
     requires { start + count ≤ stack_size }
     ensures { result ≡ any_below stack_slots
         (λ i. is_touched_spill (slot_at facts.now i) (touches start count i)) }
 {
-    for index in start / 8..past_touched(start, count) {
+    for index in start / 8..end_of_touched_slots(start, count) {
         if is_touched_spill(facts.slot(index), touches(start, count, index)) {
             return true;
         }
@@ -117,7 +117,7 @@ fn is_any_unwritten(facts: &Facts, start: usize, count: usize) -> bool
     ensures { result ≡ any_below stack_slots
         (λ i. lacks (slot_at facts.now i) (bits_in start count i)) }
 {
-    for index in start / 8..past_touched(start, count) {
+    for index in start / 8..end_of_touched_slots(start, count) {
         if lacks(facts.slot(index), bits_in(start, count, index)) {
             return true;
         }
@@ -133,7 +133,7 @@ pub fn check_read(facts: &Facts, offset: i32, count: u32) -> Result<(), Reason>
     let Some(start) = start_of(offset, count) else {
         return Err(Reason::OutsideStack);
     };
-    if touch_a_spill(facts, start, count as usize) {
+    if bytes_touch_spill(facts, start, count as usize) {
         Err(Reason::PartOfSpill)
     } else if is_any_unwritten(facts, start, count as usize) {
         Err(Reason::UnwrittenStack)

@@ -17,7 +17,7 @@ record AreAlike (s t : TenantState) : Type 0 where
   two : HoldsItsMaps t
   alike : IsAlike s t
 
-module _ (one_alone : OneAlone) (held : MapsAreHeld) (bisimulation : AlikeIsBisimulation) where
+module _ (one_reply_list : OneAlone) (held : MapsAreHeld) (bisimulation : AlikeIsBisimulation) where
   -- the reply to a frame in the other state, and the state after it
   record FrameToo (refused : Bool) (t : TenantState) (p : Result Command BadFrame) (a : Answer) : Type 0 where
     b : Answer
@@ -127,5 +127,5 @@ module _ (one_alone : OneAlone) (held : MapsAreHeld) (bisimulation : AlikeIsBisi
         in_order MayReply may_reply frames replies s t after (record { one = one; two = two; alike = alike }) is;
     same = λ s t frames replies others after end one two alike is too.
         let (other, seen) = alone_too s t frames replies after one two alike is in
-        (one_alone (Some t) end other frames others replies too seen).0;
+        (one_reply_list (Some t) end other frames others replies too seen).0;
   }

@@ -27,7 +27,7 @@ pub fn alike_is_bisimulation()
 pub fn alike_states_reply_alike()
     ensures { AlikeStatesReplyAlike }
 {
-    tenant::laws::one_alone();
+    tenant::laws::one_reply_list();
     maps_are_held();
     alike_is_bisimulation();
 }

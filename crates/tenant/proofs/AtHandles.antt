@@ -5,7 +5,7 @@ use Rattle.std.specs.Prelude.{◌⊎◌, is_none, position, option_map}
 use Rattle.std.proofs.Math.Path.{fun_ext}
 use Rattle.std.proofs.lemmas.Bool.{cases_eq, cases_lt}
 use Rattle.std.proofs.lemmas.List.{ext_get_or, get_or_past}
-use Rattle.bpf_maps.specs.Live.{LiveMaps, LiveMap, live_or, live_at, holds_at, offset, map_in}
+use Rattle.bpf_maps.specs.Live.{LiveMaps, LiveMap, live_or, live_at, references_at, offset, map_in}
 use Rattle.bpf_maps.specs.LiveLaws.{same_lowest}
 use Rattle.bpf_maps.specs.KeyTable.{table_of}
 use Rattle.tagged_model.specs.Table.{with_values}
@@ -99,13 +99,13 @@ pub not_live : (o : Option LiveMap) → IsSome o → o ≡ None → ⊥
 not_live o some none = true≢false (sym some ∙ ap (λ (x : Option LiveMap). is_some x) none)
 
 -- a map that has a hold is live
-pub held_is_live : (t : LiveMaps) (handle : ℕ) → 1 ≤ holds_at t handle → IsSome (live_at t handle)
+pub held_is_live : (t : LiveMaps) (handle : ℕ) → 1 ≤ references_at t handle → IsSome (live_at t handle)
 held_is_live t handle some = by (live_or_not (live_at t handle))
   where
     by : IsSome (live_at t handle) ⊎ (live_at t handle ≡ None) → IsSome (live_at t handle)
     by (inl live) = live
     by (inr gone) =
-        absurd (let none : holds_at t handle ≡ 0 = ap (λ (o : Option LiveMap). (live_or o).holds) gone in omega arith)
+        absurd (let none : references_at t handle ≡ 0 = ap (λ (o : Option LiveMap). (live_or o).holds) gone in omega arith)
 
 -- a handle with a live map has the map whose values are in the bytes of the part
 pub map_there : (part : List ℕ) (t : LiveMaps) (handle : ℕ)

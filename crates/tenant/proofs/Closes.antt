@@ -9,7 +9,7 @@ use Rattle.std.proofs.Math.Bool.{true-or}
 use Rattle.std.proofs.lemmas.Bool.{eq-eqb, ltb-false}
 use Rattle.std.proofs.lemmas.List.{ext_get_or}
 use Rattle.std.proofs.lemmas.Option.{none-some, same_Some, get_or_from_slice_get}
-use Rattle.bpf_maps.specs.Live.{LiveMaps, LiveMap, live_or, live_at, holds_at}
+use Rattle.bpf_maps.specs.Live.{LiveMaps, LiveMap, live_or, live_at, references_at}
 use Rattle.fd_table.specs.Table.{first_descriptor, named, with_closed, flattened}
 use Rattle.tenant.specs.declared.object.OpenObject.{OpenObject}
 use Rattle.tenant.specs.declared.object.OpenObject.TheVariants as object
@@ -92,7 +92,7 @@ get_or-named objects handle (suc i) (m ∷ ms) =
 -- the maps that are still live are those that an open object names
 still_named : (objects : List (Option OpenObject)) (old t : LiveMaps) (part later : List ℕ)
     → LeavesHeldMaps (record { live = old; part = part }) (record { live = t; part = later })
-    → ((q : ℕ) → holds_at t q ≡ holders q objects)
+    → ((q : ℕ) → references_at t q ≡ holders q objects)
     → at_handles (map_at later t) ≡ named_from objects 0 (at_handles (map_at part old))
 still_named objects old t part later left held =
     ext_get_or None (at_handles (map_at later t)) (named_from objects 0 (at_handles (map_at part old)))
@@ -126,7 +126,7 @@ still_named objects old t part later left held =
     at_handle i (inl live) (inr (isnt, none)) =
         absurd (let some = left.held.some i live in let all = held i in omega arith)
     at_handle i (inr gone) (inl (is_named_so, some)) =
-        absurd (let none : holds_at t i ≡ 0 = ap (λ (o : Option LiveMap). (live_or o).holds) gone in
+        absurd (let none : references_at t i ≡ 0 = ap (λ (o : Option LiveMap). (live_or o).holds) gone in
         let all = held i in
         omega arith)
     at_handle i (inr gone) (inr (isnt, none)) =
@@ -195,7 +195,7 @@ pub record IsClosed (k : KeptTenant) (objects : List (Option OpenObject)) (t : L
   -- each map that is still live has the shape, keys and values of before
   pub left : LeavesHeldMaps (record { live = k.live; part = part }) (record { live = t; part = later })
   -- each map has lost as many holds as the object had of it
-  pub fewer : (q : ℕ) → holds_at t q + times_named q o ≡ holds_at k.live q
+  pub fewer : (q : ℕ) → references_at t q + times_named q o ≡ references_at k.live q
 
 -- after a descriptor is closed and the holds of its object are released the tenant is well formed
 pub closed_kept : {k : KeptTenant} {objects : List (Option OpenObject)} {t : LiveMaps}
@@ -206,7 +206,7 @@ closed_kept {k} {objects} {t} {part} {later} {fd} {o} is c =
     let (gone, there, low) = closed_at k.objects fd o c.opened in
     let n = fd - first_descriptor in
     let rest = set k.objects n None in
-    let held : (q : ℕ) → holds_at t q ≡ holders q rest = λ q.
+    let held : (q : ℕ) → references_at t q ≡ holders q rest = λ q.
     let now = c.fewer q in
     let was = is.held q in
     let sum = total-unset (times_named q) k.objects n o there in
@@ -221,7 +221,7 @@ closed_kept {k} {objects} {t} {part} {later} {fd} {o} is c =
     subst (λ (os : List (Option OpenObject)). IsWellFormedTenant (with_both k os t)) (sym (c.closed ∙ gone)) kept
   where
     still_bound : (rest : List (Option OpenObject))
-        → ((q : ℕ) → holds_at t q ≡ holders q rest)
+        → ((q : ℕ) → references_at t q ≡ holders q rest)
         → (i : ℕ) (l : LoadedProgram) → get_or rest i None ≡ Some (object.Program l)
         → get_or k.objects i None ≡ Some (object.Program l)
         → IsBound t l

@@ -6,7 +6,8 @@ use Rattle.std.proofs.Math.Bool.{or-true}
 use Rattle.std.proofs.lemmas.Option.{none-some, same_Some}
 use Rattle.bpf_maps.specs.declared.part.TheConstants.{MAPS, LARGEST_SUM}
 use Rattle.bpf_maps.specs.Live as live
-use Rattle.bpf_maps.specs.Live.{LiveMaps, LiveMap, live_or, live_at, holds_at, keys_at, map_in, areas, area_by, create_fault, Creates, IsCreated, KeepsMaps}
+use Rattle.bpf_maps.specs.Live.{LiveMaps, LiveMap, live_or, live_at, references_at, keys_at, map_in, areas, area_by}
+use Rattle.bpf_maps.specs.Live.{create_fault, Creates, IsCreated, KeepsMaps}
 use Rattle.bpf_maps.specs.KeyTable.{KeyTable}
 use Rattle.fd_table.specs.Table.{first_descriptor, lowest, with_open}
 use Rattle.tagged_model.specs.declared.fault.MapFault.{MapFault}
@@ -93,7 +94,7 @@ held_created {old} {t} {shape} {m} is room new = record {
   within =
       at_each (λ q. IsSome (live_at t q) → q < most_maps) m (λ live. room)
       (λ q other live. is.within q (was q other live));
-  some = at_each (λ q. IsSome (live_at t q) → 1 ≤ holds_at t q) m (λ live. let one = new.holds in omega arith)
+  some = at_each (λ q. IsSome (live_at t q) → 1 ≤ references_at t q) m (λ live. let one = new.holds in omega arith)
       (λ q other live.
       subst (λ (n : ℕ). 1 ≤ n)
       (sym (ap (λ (o : Option LiveMap). (live_or o).holds) (new.others q other)))
@@ -125,7 +126,7 @@ pub created_kept : {k : KeptTenant} {t : LiveMaps} {shape : MapShape} {m fd : �
 created_kept {k} {t} {shape} {m} {fd} is all low new = record {
   all = length-set {A = Option OpenObject} k.objects (fd - first_descriptor) (Some (object.Map m)) ∙ is.all;
   maps = held_created is.maps (room_within k m all new.lowest) new;
-  held = at_each (λ q. holds_at t q ≡ holders q (with_open k.objects fd (object.Map m))) m
+  held = at_each (λ q. references_at t q ≡ holders q (with_open k.objects fd (object.Map m))) m
       (new.holds
       ∙ sym (opened_sum (times_named m) k.objects fd (object.Map m) low ∙ ap₂ (λ (a b : ℕ). a + b) unnamed one_weight))
       (λ q other. held_of q other (opened_sum (times_named q) k.objects fd (object.Map m) low));
@@ -151,7 +152,7 @@ created_kept {k} {t} {shape} {m} {fd} is all low new = record {
     held_of : (q : ℕ)
         → q ≢ m
         → holders q (with_open k.objects fd (object.Map m)) ≡ holders q k.objects + times_named q (object.Map m)
-        → holds_at t q ≡ holders q (with_open k.objects fd (object.Map m))
+        → references_at t q ≡ holders q (with_open k.objects fd (object.Map m))
     held_of q other sum =
         let was = is.held q in
         let same = ap (λ (o : Option LiveMap). (live_or o).holds) (new.others q other) in

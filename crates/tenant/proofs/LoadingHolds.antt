@@ -1,7 +1,7 @@
 -- The live maps after one more hold.
 use Rattle.std.proofs.Common.{◌≡◌, ◌≢◌, ℕ, ◌+◌, List, Option, Some, None, IsSome, is_some, refl, sym, ap, ◌∙◌, arith}
 use Rattle.std.specs.Prelude.{option_map}
-use Rattle.bpf_maps.specs.Live.{LiveMaps, LiveMap, live_or, live_at, holds_at, keys_at, offset, one_more}
+use Rattle.bpf_maps.specs.Live.{LiveMaps, LiveMap, live_or, live_at, references_at, keys_at, offset, one_more}
 use Rattle.bpf_maps.specs.KeyTable.{KeyTable}
 use Rattle.tenant.specs.Kept.{AreHeld, map_at}
 use Rattle.tenant.specs.inside.Loading.{IsHeldMore}
@@ -15,7 +15,7 @@ pub record IsHeld (old new : LiveMaps) (handle : ℕ) : Type 0 where
   -- the handle has a live map
   pub live : IsSome (live_at new handle)
   -- its map has one more hold
-  pub holds : holds_at new handle ≡ holds_at old handle + 1
+  pub holds : references_at new handle ≡ references_at old handle + 1
   -- the table of keys of its map is not changed
   pub keys : keys_at new handle ≡ keys_at old handle
   -- the live map of another handle is not changed
@@ -41,9 +41,9 @@ module _ {old new : LiveMaps} {handle : ℕ} (is : AreHeld old) (there : IsSome 
       (λ q other. ap (λ (o : Option LiveMap). (live_or o).keys) (h.others q other))
 
   -- the map of this handle has one more hold, and each other map as many as before
-  pub holds_one : (q : ℕ) → holds_at new q ≡ holds_at old q + one_at handle q
+  pub holds_one : (q : ℕ) → references_at new q ≡ references_at old q + one_at handle q
   holds_one =
-      at_each (λ q. holds_at new q ≡ holds_at old q + one_at handle q) handle
+      at_each (λ q. references_at new q ≡ references_at old q + one_at handle q) handle
       (let one = here_one handle handle refl in let more = h.holds in omega arith)
       (λ q other.
       let same = ap (λ (o : Option LiveMap). (live_or o).holds) (h.others q other) in

@@ -2,7 +2,7 @@
 use Rattle.std.proofs.Common.{◌≡◌, ◌≢◌, ℕ, ◌+◌, ◌-◌, ◌≤◌, ◌<◌, Bool, true, false, List, get_or}
 use Rattle.std.proofs.Common.{Option, Some, None, sym, ap, ap₂, subst, ◌∙◌, inl, inr, arith, length-set}
 use Rattle.std.specs.Prelude.{◌==◌, ◌||◌, ◌⊎◌, if◌then◌else◌}
-use Rattle.bpf_maps.specs.Live.{LiveMaps, holds_at}
+use Rattle.bpf_maps.specs.Live.{LiveMaps, references_at}
 use Rattle.fd_table.specs.Table.{first_descriptor, lowest, with_open}
 use Rattle.tenant.specs.declared.object.OpenObject.{OpenObject}
 use Rattle.tenant.specs.declared.object.OpenObject.TheVariants as object
@@ -34,7 +34,7 @@ weight-most k is q i (object.Program l) there = (is.bound i l there).once q
 -- the number of a map's holds and of those of a new program together fits in 32 bits
 pub few_hold : {k : KeptTenant} {l : LoadedProgram}
     → IsWellFormedTenant k → IsBound k.live l
-    → (q : ℕ) → holds_at k.live q + times_listed q (map_handles l) < 4294967296
+    → (q : ℕ) → references_at k.live q + times_listed q (map_handles l) < 4294967296
 few_hold {k} {l} is bound q =
     let held = is.held q in
     let most = total-most (times_named q) k.objects (λ i o there. weight-most k is q i o there) in
@@ -54,7 +54,7 @@ same_program l m e = cc
 pub opened_kept : {k : KeptTenant} {t : LiveMaps} {fd : ℕ} {l : LoadedProgram}
     → IsWellFormedTenant k → lowest k.objects ≡ Some fd
     → IsBound k.live l → IsHeldMore k.live t
-    → ((q : ℕ) → holds_at t q ≡ holds_at k.live q + times_listed q (map_handles l))
+    → ((q : ℕ) → references_at t q ≡ references_at k.live q + times_listed q (map_handles l))
     → IsWellFormedTenant (kept_opened k t fd l)
 opened_kept {k} {t} {fd} {l} is low bound more holds = record {
   all = length-set {A = Option OpenObject} k.objects (fd - first_descriptor) (Some (object.Program l)) ∙ is.all;

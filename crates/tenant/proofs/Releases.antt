@@ -5,8 +5,8 @@ use Rattle.std.specs.Prelude.{◌==◌, ◌⊎◌, nat_le, option_map, if◌then
 use Rattle.std.proofs.lemmas.Bool.{eq-eqb, ne_eqb, cases_lt}
 use Rattle.std.proofs.lemmas.Bool.Decides.{nat_tests}
 use Rattle.bpf_maps.specs.declared.part.TheConstants.{PART}
-use Rattle.bpf_maps.specs.Live.{LiveMaps, LiveMap, live_or, live_at, holds_at, keys_at, map_in}
-use Rattle.bpf_maps.specs.Live.{MapWithoutArea, held_at, without_area, one_less, no_live, KeepsMap, KeepsOthers}
+use Rattle.bpf_maps.specs.Live.{LiveMaps, LiveMap, live_or, live_at, references_at, keys_at, map_in}
+use Rattle.bpf_maps.specs.Live.{MapWithoutArea, without_area_at, without_area, one_less, no_live, KeepsMap, KeepsOthers}
 use Rattle.bpf_maps.specs.KeyTable.{KeyTable}
 use Rattle.tenant.specs.Kept.{AreHeld}
 use Rattle.tenant.specs.inside.Leaves.{LeavesHeldMaps}
@@ -32,10 +32,10 @@ unfolding held_keys
 keys_held None = refl
 keys_held (Some l) = refl
 
-same_holds : (old new : LiveMaps) (key : ℕ) → held_at new key ≡ held_at old key → holds_at new key ≡ holds_at old key
+same_holds : (old new : LiveMaps) (key : ℕ) → without_area_at new key ≡ without_area_at old key → references_at new key ≡ references_at old key
 same_holds old new key e = sym (holds_held (live_at new key)) ∙ ap held_holds e ∙ holds_held (live_at old key)
 
-same_keys : (old new : LiveMaps) (key : ℕ) → held_at new key ≡ held_at old key → keys_at new key ≡ keys_at old key
+same_keys : (old new : LiveMaps) (key : ℕ) → without_area_at new key ≡ without_area_at old key → keys_at new key ≡ keys_at old key
 same_keys old new key e = sym (keys_held (live_at new key)) ∙ ap held_keys e ∙ keys_held (live_at old key)
 
 live_held : (o : Option LiveMap) → is_some (option_map without_area o) ≡ is_some o
@@ -43,7 +43,7 @@ live_held None = refl
 live_held (Some l) = refl
 
 was_live : (old new : LiveMaps) (handle : ℕ)
-    → held_at new handle ≡ held_at old handle → IsSome (live_at new handle)
+    → without_area_at new handle ≡ without_area_at old handle → IsSome (live_at new handle)
     → IsSome (live_at old handle)
 was_live old new handle e live =
     sym (live_held (live_at old handle))
@@ -55,17 +55,17 @@ was_live old new handle e live =
 
 pub record IsReleased (old new : LiveMaps) (part later : List ℕ) (handle : ℕ) : Type 0 where
   -- the map of the handle has one hold less, and is absent if it had no other
-  pub less : held_at new handle ≡ one_less (held_at old handle)
+  pub less : without_area_at new handle ≡ one_less (without_area_at old handle)
   -- the handle has no live map if this was the last hold
-  pub gone : holds_at old handle ≤ 1 → live_at new handle ≡ None
+  pub gone : references_at old handle ≤ 1 → live_at new handle ≡ None
   -- another map has the same keys and the same holds
-  pub others : (other : ℕ) → other ≢ handle → held_at new other ≡ held_at old other
+  pub others : (other : ℕ) → other ≢ handle → without_area_at new other ≡ without_area_at old other
   -- the flag of refused memory is not changed
   pub refused : new.refused ≡ old.refused
   -- another live map is still live, with the same keys and values
   pub maps : KeepsOthers handle old part new later
   -- the map of the handle has the same keys and values if it had more holds
-  pub kept : 1 < holds_at old handle → KeepsMap handle old part new later
+  pub kept : 1 < references_at old handle → KeepsMap handle old part new later
   -- the bytes after the release are as many as a part has
   pub whole : length later ≡ PART
 
@@ -84,11 +84,11 @@ less_one (Some h) more = by_test (nat_le h.holds 1) refl
     by_test false e = (omega arith, refl)
 
 one_fewer : (old new : LiveMaps) (key : ℕ)
-    → held_at new key ≡ one_less (held_at old key)
-    → 1 < holds_at old key
-    → (holds_at new key + 1 ≡ holds_at old key) × (keys_at new key ≡ keys_at old key)
+    → without_area_at new key ≡ one_less (without_area_at old key)
+    → 1 < references_at old key
+    → (references_at new key + 1 ≡ references_at old key) × (keys_at new key ≡ keys_at old key)
 one_fewer old new key less more =
-    let both = less_one (held_at old key) (subst (λ (n : ℕ). 1 < n) (sym (holds_held (live_at old key))) more) in (
+    let both = less_one (without_area_at old key) (subst (λ (n : ℕ). 1 < n) (sym (holds_held (live_at old key))) more) in (
       ap (λ (n : ℕ). n + 1) (sym (holds_held (live_at new key)) ∙ ap held_holds less)
           ∙ both.0
           ∙ holds_held (live_at old key),
@@ -112,20 +112,20 @@ module _ {old new : LiveMaps} {part later : List ℕ} {handle : ℕ} (is : AreHe
     (there : IsSome (live_at old handle)) (r : IsReleased old new part later handle) where
   -- the hold was the last one, or not
   abbrev Either : Type 0
-  Either = (1 < holds_at old handle) ⊎ (holds_at old handle ≤ 1)
+  Either = (1 < references_at old handle) ⊎ (references_at old handle ≤ 1)
 
   -- the map of this handle has one hold less, and each other map as many as before
-  pub holds_released : (q : ℕ) → holds_at new q + one_at handle q ≡ holds_at old q
+  pub holds_released : (q : ℕ) → references_at new q + one_at handle q ≡ references_at old q
   holds_released =
-      at_each (λ q. holds_at new q + one_at handle q ≡ holds_at old q) handle (by (cases_lt 1 (holds_at old handle)))
+      at_each (λ q. references_at new q + one_at handle q ≡ references_at old q) handle (by (cases_lt 1 (references_at old handle)))
       (λ q other.
       let same = same_holds old new q (r.others q other) in let none = none_one handle q other in omega arith)
     where
-      by : Either → holds_at new handle + one_at handle handle ≡ holds_at old handle
+      by : Either → references_at new handle + one_at handle handle ≡ references_at old handle
       by (inl more) =
           let fewer = (one_fewer old new handle r.less more).0 in let one = here_one handle handle refl in omega arith
       by (inr last) =
-          let none : holds_at new handle ≡ 0 = ap (λ (o : Option LiveMap). (live_or o).holds) (r.gone last) in
+          let none : references_at new handle ≡ 0 = ap (λ (o : Option LiveMap). (live_or o).holds) (r.gone last) in
           let some = is.some handle there in
           let one = here_one handle handle refl in
           omega arith
@@ -136,14 +136,14 @@ module _ {old new : LiveMaps} {part later : List ℕ} {handle : ℕ} (is : AreHe
       (λ q other. was_live old new q (r.others q other))
 
   -- a map that is still live had more than one hold
-  more_held : IsSome (live_at new handle) → Either → 1 < holds_at old handle
+  more_held : IsSome (live_at new handle) → Either → 1 < references_at old handle
   more_held live (inl more) = more
   more_held live (inr last) = absurd (not_live (live_at new handle) live (r.gone last))
 
-  some_hold : (q : ℕ) → IsSome (live_at new q) → 1 ≤ holds_at new q
-  some_hold = at_each (λ q. IsSome (live_at new q) → 1 ≤ holds_at new q) handle
+  some_hold : (q : ℕ) → IsSome (live_at new q) → 1 ≤ references_at new q
+  some_hold = at_each (λ q. IsSome (live_at new q) → 1 ≤ references_at new q) handle
       (λ live.
-      let more = more_held live (cases_lt 1 (holds_at old handle)) in
+      let more = more_held live (cases_lt 1 (references_at old handle)) in
       let fewer = (one_fewer old new handle r.less more).0 in
       omega arith)
       (λ q other live.
@@ -152,7 +152,7 @@ module _ {old new : LiveMaps} {part later : List ℕ} {handle : ℕ} (is : AreHe
 
   no_run : (q : ℕ) → (keys_at new q).kept ≡ []
   no_run =
-      at_each (λ q. (keys_at new q).kept ≡ []) handle (by (cases_lt 1 (holds_at old handle)))
+      at_each (λ q. (keys_at new q).kept ≡ []) handle (by (cases_lt 1 (references_at old handle)))
       (λ q other. ap (λ (p : KeyTable). p.kept) (same_keys old new q (r.others q other)) ∙ is.ended q)
     where
       by : Either → (keys_at new handle).kept ≡ []
@@ -162,7 +162,7 @@ module _ {old new : LiveMaps} {part later : List ℕ} {handle : ℕ} (is : AreHe
   same_pairs : (q : ℕ) → IsSome (live_at new q) → map_in later new q ≡ map_in part old q
   same_pairs =
       at_each (λ q. IsSome (live_at new q) → map_in later new q ≡ map_in part old q) handle
-      (λ live. (r.kept (more_held live (cases_lt 1 (holds_at old handle))) there).1)
+      (λ live. (r.kept (more_held live (cases_lt 1 (references_at old handle))) there).1)
       (λ q other live. (r.maps q other (was_live old new q (r.others q other) live)).1)
 
   -- after a release each map that is still live has the shape, keys and values of before

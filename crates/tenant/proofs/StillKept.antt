@@ -1,6 +1,6 @@
 -- The invariant after a change of the maps that does not change the open objects.
 use Rattle.std.proofs.Common.{◌≡◌, ℕ, ◌≤◌, List, [], Option, Some, IsSome, is_some, sym, ap, subst, ◌∙◌}
-use Rattle.bpf_maps.specs.Live.{LiveMaps, LiveMap, live_or, live_at, holds_at, shape_at, keys_at, OnlyKeysChange}
+use Rattle.bpf_maps.specs.Live.{LiveMaps, LiveMap, live_or, live_at, references_at, shape_at, keys_at, OnlyKeysChange}
 use Rattle.tagged_model.specs.declared.shape.MapShape.{MapShape}
 use Rattle.tenant.specs.Loaded.{LoadedProgram}
 use Rattle.tenant.specs.declared.tenant.Tenant.TheInside.{Inside}
@@ -26,7 +26,7 @@ pub record IsStill (old new : LiveMaps) : Type 0 where
   -- a map that was live before is live after the change
   pub stays : (handle : ℕ) → IsSome (live_at old handle) → IsSome (live_at new handle)
   -- each map has the same number of holds
-  pub holds : (handle : ℕ) → holds_at new handle ≡ holds_at old handle
+  pub holds : (handle : ℕ) → references_at new handle ≡ references_at old handle
   -- each map that was live has the same shape
   pub shape : (handle : ℕ) → IsSome (live_at old handle) → shape_at new handle ≡ shape_at old handle
   -- no element of a map is kept apart
@@ -74,7 +74,7 @@ keys_kept {k} {t} {m} is live rest ended = still_kept is (record {
       at_each (λ q. IsSome (live_at k.live q) → IsSome (live_at t q)) m (λ was. rest.live)
       (λ q other was. ap (λ (o : Option LiveMap). is_some o) (rest.others q other) ∙ was);
   holds =
-      at_each (λ q. holds_at t q ≡ holds_at k.live q) m rest.holds
+      at_each (λ q. references_at t q ≡ references_at k.live q) m rest.holds
       (λ q other. ap (λ (o : Option LiveMap). (live_or o).holds) (rest.others q other));
   shape =
       at_each (λ q. IsSome (live_at k.live q) → shape_at t q ≡ shape_at k.live q) m

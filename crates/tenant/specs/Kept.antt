@@ -3,7 +3,7 @@ use Rattle.std.specs.Prelude.{◌≡◌, ℕ, ◌+◌, ◌<◌, ◌≤◌, ◌==
 use Rattle.std.specs.Prelude.{length, map, Option, Some, IsSome, option_map, None, slice_index_or}
 use Rattle.std.specs.List.{range_with_len}
 use Rattle.std.specs.Map.{lookup, keys_of}
-use Rattle.bpf_maps.specs.Live.{LiveMaps, live_at, holds_at, shape_at, keys_at, map_in}
+use Rattle.bpf_maps.specs.Live.{LiveMaps, live_at, references_at, shape_at, keys_at, map_in}
 use Rattle.bpf_maps.specs.Sum.{total}
 use Rattle.fd_table.specs.Table.{most}
 use Rattle.tagged_model.specs.Named.{shapes_named}
@@ -74,7 +74,7 @@ descriptors handle objects = total (by_descriptor handle) objects
 -- apart, since no run is in progress
 pub record AreHeld (t : LiveMaps) : Type 0 where
   pub within : (handle : ℕ) → IsSome (live_at t handle) → handle < most_maps
-  pub some : (handle : ℕ) → IsSome (live_at t handle) → 1 ≤ holds_at t handle
+  pub some : (handle : ℕ) → IsSome (live_at t handle) → 1 ≤ references_at t handle
   pub ended : (handle : ℕ) → (keys_at t handle).kept ≡ []
 
 -- a program has a handle for each descriptor of a map that its instructions load, in the order of
@@ -92,7 +92,7 @@ pub record IsBound (t : LiveMaps) (l : LoadedProgram) : Type 0 where
 pub record IsWellFormedTenant (k : KeptTenant) : Type 0 where
   pub all : length k.objects ≡ most
   pub maps : AreHeld k.live
-  pub held : (handle : ℕ) → holds_at k.live handle ≡ holders handle k.objects
+  pub held : (handle : ℕ) → references_at k.live handle ≡ holders handle k.objects
   pub single : (handle : ℕ) → descriptors handle k.objects ≤ 1
   pub bound : (n : ℕ) (l : LoadedProgram)
       → object_at k n ≡ Some (object.Program l)

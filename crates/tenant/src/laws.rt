@@ -4,9 +4,9 @@ ghost use Rattle.tenant.specs.Batch.{BatchIsItsFrames, RefusedAsItsFrame, OneRes
 ghost use Rattle.tenant.specs.Laws.{OneCommandResult, OneReply, OneAlone, ClearFlagMeansNoRefusal, ClearFlagMeansAlone};
 ghost use Rattle.tenant.specs.Laws.{RefusalsAreReported, OnlyCreationsAndLoadsAreRefused, UnrefusedRepliesMeanAlone, FaultsHaveNoPayload};
 
-/// A law, from which the determinism of a tenant's machine follows (`one_reply`, `one_alone`): in a state, a command has at most one result
-/// (status, payload and next state) if memory is refused to it, and at most one if it is not. For a load it needs that slots have at most
-/// one judgement.
+/// A law, from which the determinism of a tenant's machine follows (`one_reply`, `one_reply_list`): in a state, a command has at most one
+/// result (status, payload and next state) if memory is refused to it, and at most one if it is not. For a load it needs that slots have at
+/// most one judgement.
 pub fn one_command_result()
     ensures { OneCommandResult }
 {
@@ -22,7 +22,7 @@ pub fn one_reply()
 }
 
 /// A law: if no memory is refused (`IsServedAlone`), a tenant's state and its frames determine its replies and the state after them.
-pub fn one_alone()
+pub fn one_reply_list()
     ensures { OneAlone }
 {
     one_reply();
@@ -50,7 +50,7 @@ pub fn clear_flag_means_alone()
 pub fn refusals_are_reported()
     ensures { RefusalsAreReported }
 {
-    insn_codec::laws::one_fault();
+    insn_codec::laws::at_most_one_fault();
     verifier::laws::refused_by_a_rule();
 }
 

@@ -22,7 +22,8 @@
 //!   programs: `Tenant::counts`. What a descriptor names: `Tenant::describe`; all of them, as the verifier sees them: `Tenant::targets`.
 //! - A new tenant has nothing open: `Tenant::new`.
 //! - A command to which memory is refused has one result, and so has one to which it is not; likewise a frame has one reply.
-//!   Without refusals a tenant's frames have one list of replies and lead to one state: `one_command_result`, `one_reply`, `one_alone`.
+//!   Without refusals a tenant's frames have one list of replies and lead to one state: `one_command_result`, `one_reply`,
+//!   `one_reply_list`.
 //! - A refusal of memory changes only what a creation or a load does, which then has the status -12, and changes only the
 //!   flag. Nothing else has this status or sets the flag: `refusals_are_reported`, `only_creations_and_loads_are_refused`.
 //! - If none of a tenant's replies has the status -12, they are those of its machine without refusals, whatever its flag was:

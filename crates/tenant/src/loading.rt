@@ -1,7 +1,7 @@
 //! PROG_LOAD.
 
 ghost use Rattle.std.specs.Prelude.{◌≡◌, ◌≤◌, ◌+◌, ◌*◌, ◌<◌, ◌^◌, ℕ, Bool, false, List, IfOk, IfErr, Ok, Err, Some, length, is_none, map};
-ghost use Rattle.bpf_maps.specs.Live.{holds_at};
+ghost use Rattle.bpf_maps.specs.Live.{references_at};
 ghost use Rattle.fd_table.specs.Table.{first_descriptor, most, named, lowest};
 ghost use Rattle.verifier.specs.Judgement.{Judges};
 ghost use Rattle.verifier.specs.Maps.{maps_of, objects_at};
@@ -26,15 +26,15 @@ const SOCKET_FILTER: u32 = 1;
 
 /// Adds one reference to the map of each handle in `held`, the handles of a program that is opened. Their maps are live (`there`). Before
 /// and after, each live map has a reference, and no element is kept apart (`AreHeld`); shapes, keys and values are unchanged
-/// (`IsHeldMore`). `holds_at` is the number of a map's references, `times_listed` how often `held` has a handle; their sum fits in 32 bits
-/// (`few`): a map has few references, since at most `MOST` objects (`fd_table`) are open, and each names a map at most once.
+/// (`IsHeldMore`). `references_at` is the number of a map's references, `times_listed` how often `held` has a handle; their sum fits in 32
+/// bits (`few`): a map has few references, since at most `MOST` objects (`fd_table`) are open, and each names a map at most once.
 fn hold_all(maps: &mut Maps, held: &[MapKey])
     requires live { AreHeld maps.old }
     requires there { AreLive maps.old held.now }
-    requires few { (handle : ℕ) → holds_at maps.old handle + times_listed handle held.now < 2 ^ 32 }
+    requires few { (handle : ℕ) → references_at maps.old handle + times_listed handle held.now < 2 ^ 32 }
     ensures held { IsHeldMore maps.old maps.new }
-    ensures holds { (handle : ℕ) → holds_at maps.new handle
-        ≡ holds_at maps.old handle + times_listed handle held.now }
+    ensures holds { (handle : ℕ) → references_at maps.new handle
+        ≡ references_at maps.old handle + times_listed handle held.now }
 {
     for map in held {
         maps.hold(*map);

@@ -3,7 +3,7 @@
 ghost use Rattle.std.specs.Prelude.{◌≡◌, ◌≢◌, ◌+◌, ◌<◌, ◌≤◌, ℕ, Bool, false, List, is_none, length, IfOk, IfErr, Some, IsSome};
 ghost use Rattle.words.specs.Bytes.{written_at};
 ghost use Rattle.bpf_maps.specs.declared.part.TheConstants.{PART};
-ghost use Rattle.bpf_maps.specs.Live.{live_at, holds_at};
+ghost use Rattle.bpf_maps.specs.Live.{live_at, references_at};
 ghost use Rattle.tagged_model.specs.Cells.{and_then};
 ghost use Rattle.fd_table.specs.Table.{first_descriptor, most, named, lowest, with_open};
 ghost use Rattle.tenant.specs.declared.errno.Errno.TheVariants.{BadAddress};
@@ -72,19 +72,19 @@ pub(crate) fn open(objects: &mut FdTable<OpenObject>, object: OpenObject) -> u32
     }
 }
 
-/// Drops one reference to the map of each handle in `held`, the handles of the maps of a program that was closed. `holds_at` is how many
-/// references a map has, and `times_listed` how often its handle is in `held`. The clause `held` requires that the maps still count these
-/// references, so no count falls below 0. `live` requires that each live map has a reference, and that no element is kept apart. A map
-/// without references left is freed, and the areas after its own move down in `part`, the tenant's part of `PART` bytes (`whole`). The
+/// Drops one reference to the map of each handle in `held`, the handles of the maps of a program that was closed. `references_at` is how
+/// many references a map has, and `times_listed` how often its handle is in `held`. The clause `held` requires that the maps still count
+/// these references, so no count falls below 0. `live` requires that each live map has a reference, and that no element is kept apart. A
+/// map without references left is freed, and the areas after its own move down in `part`, the tenant's part of `PART` bytes (`whole`). The
 /// other maps keep their shapes, keys and values (`left`). Each map loses as many references as its handle is listed (`holds`).
 fn release_all(maps: &mut Maps, held: &[MapKey], part: &mut [u8])
     requires live { AreHeld maps.old }
-    requires held { (handle : ℕ) → times_listed handle held.now ≤ holds_at maps.old handle }
+    requires held { (handle : ℕ) → times_listed handle held.now ≤ references_at maps.old handle }
     requires whole { length part.old ≡ PART }
     ensures left { LeavesHeldMaps (record { live = maps.old; part = part.old })
         (record { live = maps.new; part = part.new }) }
-    ensures holds { (handle : ℕ) → holds_at maps.new handle + times_listed handle held.now
-        ≡ holds_at maps.old handle }
+    ensures holds { (handle : ℕ) → references_at maps.new handle + times_listed handle held.now
+        ≡ references_at maps.old handle }
 {
     for map in held {
         maps.release(*map, part);

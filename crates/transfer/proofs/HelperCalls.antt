@@ -40,7 +40,7 @@ use Rattle.abstraction.specs.Laws.{MapCallsKeep, KeepsShapeAndObjects, Describes
 use Rattle.transfer.specs.Arithmetic.{check_readable}
 use Rattle.tagged_model.specs.Named.{Shapes}
 use Rattle.transfer.specs.declared.calls.ShapedMap.{ShapedMap}
-use Rattle.transfer.specs.Calls.{shaped, argument_map, check_room, input_kind, output_facts, number_range, lengths_end}
+use Rattle.transfer.specs.Calls.{shaped, argument_map, check_in_value, input_kind, output_facts, number_range, lengths_end}
 use Rattle.transfer.specs.Calls.{length_range, context_kind, readable_two, readable_four, any_number, call_facts}
 use Rattle.transfer.specs.Sound.{CallIsAdmitted, CallsAreSound}
 use Rattle.transfer.proofs.Rooms.{owned, room_here}
@@ -183,10 +183,10 @@ module _ (laws : Laws) {witness : Witness} {shapes : Shapes} {f : Facts} {s : Ru
   value_found : (p : ValuePointer) (n number : ℕ) (x : ℤ) (o : Option MapShape)
       → shapes p.map ≡ o → p.lo ≤ℤ x
       → x ≤ℤ p.hi → number < witness.objects p.map
-      → Agree (AreRead n) (check_room p (pos 0) n o) (object_bytes s p.map number x n)
+      → Agree (AreRead n) (check_in_value p (pos 0) n o) (object_bytes s p.map number x n)
   value_found p n number x None e from to lt = tt
   value_found p n number x (Some shape) e from to lt =
-      by_law (AreRead n) (check_room p (pos 0) n (Some shape)) (object_bytes s p.map number x n)
+      by_law (AreRead n) (check_in_value p (pos 0) n (Some shape)) (object_bytes s p.map number x n)
       (λ _ ok.
       let room = room_here p n x shape from to ok in
       let h =
@@ -202,7 +202,7 @@ module _ (laws : Laws) {witness : Witness} {shapes : Shapes} {f : Facts} {s : Ru
       (λ _ ok. let h = laws.stack_input witness f s x n still.proper still.admits ok in (h.0, h.1, (h.2, h.3))))
   input_agrees n r (kind.Value p) _ h =
       let v = h.2 in
-      at_argument (AreRead n) (check_room p (pos 0) n (shapes p.map)) s r (λ p. input s p n) h.0
+      at_argument (AreRead n) (check_in_value p (pos 0) n (shapes p.map)) s r (λ p. input s p n) h.0
       (Pointer (object.Value p.map v.0) v.1) h.1 v.2
       (value_found p n v.0 v.1 (shapes p.map) refl v.3 v.4 v.5)
   input_agrees n r k _ h = tt
@@ -288,13 +288,13 @@ module _ (laws : Laws) {witness : Witness} {shapes : Shapes} {f : Facts} {s : Ru
       → shapes p.map ≡ o → p.lo ≤ℤ x
       → x ≤ℤ p.hi → number < witness.objects p.map
       → AreBytes bs → IsMember (length bs) r
-      → Agree (IsFilled bs) (and_then_ok (check_room p (pos 0) r.hi o) (λ _. Ok f)) (object_written s p.map number x bs)
+      → Agree (IsFilled bs) (and_then_ok (check_in_value p (pos 0) r.hi o) (λ _. Ok f)) (object_written s p.map number x bs)
   value_filled_agrees p r number x bs None e from to lt small m = tt
   value_filled_agrees p r number x bs (Some shape) e from to lt small m =
       by_law (IsFilled bs)
-      (and_then_ok (check_room p (pos 0) r.hi (Some shape)) (λ _. Ok f))
+      (and_then_ok (check_in_value p (pos 0) r.hi (Some shape)) (λ _. Ok f))
       (object_written s p.map number x bs)
-      (λ g ok. let c = given_room (check_room p (pos 0) r.hi (Some shape)) g ok in
+      (λ g ok. let c = given_room (check_in_value p (pos 0) r.hi (Some shape)) g ok in
       let room = room_here p r.hi x shape from to c.0 in
       let high = room.high in let most = m.to in
       let h =
@@ -319,7 +319,7 @@ module _ (laws : Laws) {witness : Witness} {shapes : Shapes} {f : Facts} {s : Ru
   output_agrees n r (kind.Value p) bs _ h small m =
       let v = h.2 in
       at_argument (IsFilled bs)
-      (and_then_ok (check_room p (pos 0) r.hi (shapes p.map)) (λ _. Ok f))
+      (and_then_ok (check_in_value p (pos 0) r.hi (shapes p.map)) (λ _. Ok f))
       s n (λ p. output s p bs) h.0 (Pointer (object.Value p.map v.0) v.1)
       h.1 v.2
       (value_filled_agrees p r v.0 v.1 bs (shapes p.map) refl v.3 v.4 v.5 small m)

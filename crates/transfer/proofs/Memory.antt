@@ -37,7 +37,7 @@ use Rattle.tagged_model.specs.Step.{changed}
 use Rattle.abstraction.specs.Laws.{StackReadAdmits, StackWriteAdmits, ValueLoadAdmits, ValueStoreAdmits}
 use Rattle.transfer.specs.Effects.{is_word, context_read, load_kind, stored_outside, store_facts}
 use Rattle.transfer.specs.Effects.{number_or, stack_changed, is_known_multiple, value_changed, atomic_facts}
-use Rattle.transfer.specs.Calls.{check_room, any_number}
+use Rattle.transfer.specs.Calls.{check_in_value, any_number}
 use Rattle.transfer.specs.Sound.{IsKindAt, AreWellFormedAt}
 use Rattle.transfer.proofs.Parts.{Here, SomeIs, Agree, Gives, by_law, ok_is, refused, IsKindOf, IsReadable, IsKnown, still_of}
 use Rattle.transfer.proofs.Rooms.{owned, room_at}
@@ -183,12 +183,12 @@ module _ {here : Here} {f : Facts} {s : RunState} (known : IsKnown here f s) whe
       → here.shapes p.map ≡ o → p.lo ≤ℤ x
       → x ≤ℤ p.hi → number < here.witness.objects p.map
       → Gives here
-      (and_then_ok (check_room p off (bytes_of size) o) (λ _. Ok (loaded size signed)))
+      (and_then_ok (check_in_value p off (bytes_of size) o) (λ _. Ok (loaded size signed)))
       (number_from size signed (object_bytes s p.map number (x +ℤ off) (bytes_of size)))
   value_load_agrees law size signed off p number x None e from to lt = tt
   value_load_agrees law size signed off p number x (Some shape) e from to lt =
-      by_law (IsKindOf here) (and_then_ok (check_room p off (bytes_of size) (Some shape)) (λ _. Ok (loaded size signed))) _
-      (λ k ok. let c = given_ok (check_room p off (bytes_of size) (Some shape)) (loaded size signed) k ok in
+      by_law (IsKindOf here) (and_then_ok (check_in_value p off (bytes_of size) (Some shape)) (λ _. Ok (loaded size signed))) _
+      (λ k ok. let c = given_ok (check_in_value p off (bytes_of size) (Some shape)) (loaded size signed) k ok in
       let room = room_at p off (bytes_of size) x shape from to c.0 in
       let h =
       law here.witness s p.map number shape (x +ℤ off) size signed known.proper
@@ -261,12 +261,12 @@ module _ {here : Here} {f : Facts} {s : RunState} (known : IsKnown here f s) whe
       → here.shapes p.map ≡ o → p.lo ≤ℤ x
       → x ≤ℤ p.hi → number < here.witness.objects p.map
       → Agree (IsStored here s)
-      (and_then_ok (check_room p off (bytes_of size) o) (λ _. Ok f))
+      (and_then_ok (check_in_value p off (bytes_of size) o) (λ _. Ok f))
       (object_stored s size p.map number (x +ℤ off) (Scalar n))
   value_store_agrees law size off p number x n None e from to lt = tt
   value_store_agrees law size off p number x n (Some shape) e from to lt =
-      by_law (IsStored here s) (and_then_ok (check_room p off (bytes_of size) (Some shape)) (λ _. Ok f)) _
-      (λ g ok. let c = given_ok (check_room p off (bytes_of size) (Some shape)) f g ok in
+      by_law (IsStored here s) (and_then_ok (check_in_value p off (bytes_of size) (Some shape)) (λ _. Ok f)) _
+      (λ g ok. let c = given_ok (check_in_value p off (bytes_of size) (Some shape)) f g ok in
       let room = room_at p off (bytes_of size) x shape from to c.0 in
       let still = still_of known in
       let h =
@@ -288,18 +288,18 @@ module _ {here : Here} {f : Facts} {s : RunState} (known : IsKnown here f s) whe
       → p.lo ≤ℤ x → x ≤ℤ p.hi
       → number < here.witness.objects p.map
       → Agree (IsStored here s)
-      (and_then_ok (check_room p off (bytes_of size) (here.shapes p.map)) (λ _. stored_outside f l))
+      (and_then_ok (check_in_value p off (bytes_of size) (here.shapes p.map)) (λ _. stored_outside f l))
       (object_stored s size p.map number (x +ℤ off) v)
   outside_agrees law size off p number x kind.Unreadable v is r from to lt = absurd r
   outside_agrees law size off p number x (kind.Scalar range) v is r from to lt =
       by_number here range v
       (λ v.
       Agree (IsStored here s)
-      (and_then_ok (check_room p off (bytes_of size) (here.shapes p.map)) (λ _. Ok f))
+      (and_then_ok (check_in_value p off (bytes_of size) (here.shapes p.map)) (λ _. Ok f))
       (object_stored s size p.map number (x +ℤ off) v))
       is.is
       (λ n _. value_store_agrees law size off p number x n (here.shapes p.map) refl from to lt)
-  outside_agrees law size off p number x l v is r from to lt = never (check_room p off (bytes_of size) (here.shapes p.map))
+  outside_agrees law size off p number x l v is r from to lt = never (check_in_value p off (bytes_of size) (here.shapes p.map))
     where
       never : (a : Result (Unit {0}) Reason)
           → Agree (IsStored here s) (and_then_ok a (λ _. Err PointerStored))
@@ -380,7 +380,7 @@ module _ {here : Here} {f : Facts} {s : RunState} (known : IsKnown here f s) whe
         (number_from size false (object_bytes s p.map number (x +ℤ off) (bytes_of size)))
         (made_from (object_stored s size p.map number (x +ℤ off)))
         else None)
-    value_changed_agrees off p number x o e from to lt = by (check_room p off (bytes_of size) o) refl
+    value_changed_agrees off p number x o e from to lt = by (check_in_value p off (bytes_of size) o) refl
       where
         put : Tagged → Option RunState
         put = object_stored s size p.map number (x +ℤ off)
@@ -388,7 +388,7 @@ module _ {here : Here} {f : Facts} {s : RunState} (known : IsKnown here f s) whe
         found : Option Tagged
         found = number_from size false (object_bytes s p.map number (x +ℤ off) (bytes_of size))
 
-        in_room : check_room p off (bytes_of size) o ≡ Ok tt
+        in_room : check_in_value p off (bytes_of size) o ≡ Ok tt
             → (old : Option Tagged) → Agree (IsKindOf here) (Ok (loaded size false)) old
             → Agree (IsStored here s) (Ok f) (and_then old (made_from put))
         in_room r None is = absurd is
@@ -407,7 +407,7 @@ module _ {here : Here} {f : Facts} {s : RunState} (known : IsKnown here f s) whe
             subst (λ y. is_multiple (y +ℤ off) (bytes_of size) ≡ true) there multiple
 
         by : (r : Result (Unit {0}) Reason)
-            → check_room p off (bytes_of size) o ≡ r
+            → check_in_value p off (bytes_of size) o ≡ r
             → Agree (IsStored here s)
             (and_then_ok r (λ _. if is_known_multiple p off size then Ok f else Err UnalignedAtomic))
             (if is_multiple (x +ℤ off) (bytes_of size) then and_then found (made_from put) else None)

@@ -11,7 +11,7 @@ use Rattle.tagged_model.specs.Named.{Shapes}
 use Rattle.tagged_model.specs.State.{RunState}
 use Rattle.abstraction.specs.Admits.{Witness, objects_of}
 use Rattle.abstraction.specs.Laws.{IsObject, Describes}
-use Rattle.transfer.specs.Calls.{check_room}
+use Rattle.transfer.specs.Calls.{check_in_value}
 use Rattle.transfer.proofs.Parts.{refused}
 
 -- an object to which a pointer points
@@ -36,7 +36,7 @@ pub record HasAllRows (n : ℕ) (y : ℤ) (shape : MapShape) : Type 0 where
 -- if n bytes from each offset of the pointer lie in a value, so do n bytes from this one
 pub room_at : (p : ValuePointer) (off : ℤ) (n : ℕ) (x : ℤ) (shape : MapShape)
     → p.lo ≤ℤ x → x ≤ℤ p.hi
-    → check_room p off n (Some shape) ≡ Ok tt
+    → check_in_value p off n (Some shape) ≡ Ok tt
     → HasAllRows n (x +ℤ off) shape
 room_at p off n x shape from to e =
     let c = passed (int_le (pos 0) (p.lo +ℤ off) && int_le ((p.hi +ℤ off) +ℤ pos n) (pos shape.value_size)) e in
@@ -54,7 +54,7 @@ room_at p off n x shape from to e =
 -- if n bytes from each offset of a pointer lie in its value, so do n bytes from an offset between its ends
 pub room_here : (p : ValuePointer) (n : ℕ) (x : ℤ) (shape : MapShape)
     → p.lo ≤ℤ x → x ≤ℤ p.hi
-    → check_room p (pos 0) n (Some shape) ≡ Ok tt
+    → check_in_value p (pos 0) n (Some shape) ≡ Ok tt
     → HasAllRows n x shape
 room_here p n x shape from to e =
     let back : x +ℤ pos 0 ≡ x = omega (arith, ints) in

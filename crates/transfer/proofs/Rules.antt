@@ -39,7 +39,7 @@ use Rattle.transfer.specs.Branches.{Edges, falls, pointer_edges, branch_edges}
 use Rattle.transfer.specs.Effects.{source_kind, first_operand_kind, assigns, is_word, context_read, load_kind, store_facts, number_or}
 use Rattle.transfer.specs.Effects.{is_known_multiple, atomic_facts, map_of, value_of, known, exits_with, access_edges, wide_kind, effect_of, effect}
 use Rattle.transfer.specs.Reasons.{IsSafetyReason, IsReasonFor, IsReasonOf, TransferReasons}
-use Rattle.transfer.specs.Calls.{shaped, argument_map, check_room, input_kind, output_facts, number_range, lengths_end}
+use Rattle.transfer.specs.Calls.{shaped, argument_map, check_in_value, input_kind, output_facts, number_range, lengths_end}
 use Rattle.transfer.specs.Calls.{length_range, context_kind, readable_two, readable_four, any_number, call_facts}
 use Rattle.words.specs.Stack.{bytes_of, is_double, is_in_stack, byte_index, is_aligned, touches}
 use Rattle.reg_kinds.specs.declared.kind.ValuePointer.{ValuePointer}
@@ -140,7 +140,7 @@ read_rule : (f : Facts) (offset : ℤ) (size : AccessSize) (signed : Bool) → B
 read_rule f offset size signed =
     then_rule _ _ (touched_rule offset size) (λ t. read_slot_rule (slot_at f t.0) t.1 size signed)
 
-room_rule : (p : ValuePointer) (off : ℤ) (n : ℕ) (o : Option MapShape) → ByRule (check_room p off n o)
+room_rule : (p : ValuePointer) (off : ℤ) (n : ℕ) (o : Option MapShape) → ByRule (check_in_value p off n o)
 room_rule p off n None = tt
 room_rule p off n (Some shape) =
     cond_both (int_le (pos 0) (p.lo +ℤ off) && int_le ((p.hi +ℤ off) +ℤ pos n) (pos shape.value_size))

@@ -49,7 +49,7 @@ use Rattle.transfer.specs.Arithmetic.{is_maybe_value, of_scalars, of_scalar, sum
 use Rattle.transfer.specs.Branches.{Edges, falls, with_source, with_pair, is_same, number_edges, null_edges, pointer_edges, branch_edges}
 use Rattle.transfer.specs.Effects.{source_kind, first_operand_kind, assigns, is_word, context_read, load_kind, store_facts, number_or}
 use Rattle.transfer.specs.Effects.{is_known_multiple, atomic_facts, map_of, value_of, known, exits_with, access_edges, wide_kind, effect_of, effect}
-use Rattle.transfer.specs.Calls.{argument_map, check_room, input_kind, output_facts, number_range, length_range}
+use Rattle.transfer.specs.Calls.{argument_map, check_in_value, input_kind, output_facts, number_range, length_range}
 use Rattle.transfer.specs.Calls.{context_kind, readable_two, readable_four, any_number, call_facts}
 use Rattle.transfer.specs.Sound.{IsKindAt, AreWellFormedAt, AreWellFormedOn, TransferKeepsWellFormed}
 use Rattle.transfer.specs.FactLaws.{facts_of_later_slots}
@@ -153,7 +153,7 @@ module _ (bound : ℕ) (shapes : Shapes) (at : ℕ) (lt : at < bound) where
   load_words f size signed off (kind.Stack x) h = read_words bound f (x +ℤ off) size signed h
   load_words f size signed off kind.Ctx h = context_words off size signed
   load_words f size signed off (kind.Value p) h =
-      past _ (check_room p off (bytes_of size) (shapes p.map)) _ (λ _. loaded_words bound size signed)
+      past _ (check_in_value p off (bytes_of size) (shapes p.map)) _ (λ _. loaded_words bound size signed)
   load_words f size signed off k h = tt
 
   store_words : (f : Facts) (size : AccessSize) (off : ℤ) (k v : Kind)
@@ -161,7 +161,7 @@ module _ (bound : ℕ) (shapes : Shapes) (at : ℕ) (lt : at < bound) where
       → OkIs (AreWellFormedAt bound) (store_facts shapes f size off k v)
   store_words f size off (kind.Stack x) v h g = written_words bound f (x +ℤ off) size v h g
   store_words f size off (kind.Value p) v h g =
-      past _ (check_room p off (bytes_of size) (shapes p.map)) _
+      past _ (check_in_value p off (bytes_of size) (shapes p.map)) _
       (λ _. cond_both (is_pointer v) (Err PointerStored) (Ok f) (OkIs (AreWellFormedAt bound)) (λ _. tt) (λ _. h))
   store_words f size off k v h g = tt
 
@@ -174,7 +174,7 @@ module _ (bound : ℕ) (shapes : Shapes) (at : ℕ) (lt : at < bound) where
       past _ (number_or PartOfSpill k) _ (λ _. written_words bound f (x +ℤ off) size any_number h number_words_any)))
   changed_words f size off (kind.Value p) v h =
       past _ (number_or PointerArithmetic v) _
-      (λ _. past _ (check_room p off (bytes_of size) (shapes p.map)) _
+      (λ _. past _ (check_in_value p off (bytes_of size) (shapes p.map)) _
       (λ _.
       cond_both (is_known_multiple p off size) (Ok f) (Err UnalignedAtomic)
       (OkIs (AreWellFormedAt bound)) (λ _. h) (λ _. tt)))
@@ -185,7 +185,7 @@ module _ (bound : ℕ) (shapes : Shapes) (at : ℕ) (lt : at < bound) where
   output_words : (f : Facts) (r : Range) (k : Kind)
       → AreWellFormedAt bound f → OkIs (AreWellFormedAt bound) (output_facts shapes f r k)
   output_words f r (kind.Stack x) h = filled_words bound f x r.lo r.hi h
-  output_words f r (kind.Value p) h = past _ (check_room p (pos 0) r.hi (shapes p.map)) _ (λ _. h)
+  output_words f r (kind.Value p) h = past _ (check_in_value p (pos 0) r.hi (shapes p.map)) _ (λ _. h)
   output_words f r k h = tt
 
   two_words : (f : Facts) (go : Kind → Kind → Result Facts Reason)

@@ -33,9 +33,9 @@ argument_map shapes k = Err HelperArgument
 
 -- Ok if the n bytes that start `off` bytes from a pointer lie in its value, for each offset that it
 -- may have; else OutsideValue, also if its descriptor has no shape (None)
-abbrev pub check_room : ValuePointer → ℤ → ℕ → Option MapShape → Result (Unit {0}) Reason
-check_room p off n None = Err OutsideValue
-check_room p off n (Some shape) =
+abbrev pub check_in_value : ValuePointer → ℤ → ℕ → Option MapShape → Result (Unit {0}) Reason
+check_in_value p off n None = Err OutsideValue
+check_in_value p off n (Some shape) =
     if int_le (pos 0) (p.lo +ℤ off) && int_le ((p.hi +ℤ off) +ℤ pos n) (pos shape.value_size)
     then Ok tt
     else Err OutsideValue
@@ -43,7 +43,7 @@ check_room p off n (Some shape) =
 -- Ok if a helper may read n bytes at an argument of this kind; or the first reason against it
 abbrev pub input_kind : Shapes → Facts → ℕ → Kind → Result (Unit {0}) Reason
 input_kind shapes f n (kind.Stack x) = stack_input f x n
-input_kind shapes f n (kind.Value p) = check_room p (pos 0) n (shapes p.map)
+input_kind shapes f n (kind.Value p) = check_in_value p (pos 0) n (shapes p.map)
 input_kind shapes f n (kind.MaybeValue m site) = Err MaybeNull
 input_kind shapes f n k = Err HelperArgument
 
@@ -52,7 +52,7 @@ input_kind shapes f n k = Err HelperArgument
 abbrev pub output_facts : Shapes → Facts → Range → Kind → Result Facts Reason
 output_facts shapes f r (kind.Stack x) = stack_filled f x r.lo r.hi
 output_facts shapes f r (kind.Value p) =
-    and_then_ok (check_room p (pos 0) r.hi (shapes p.map)) (λ _. Ok f)
+    and_then_ok (check_in_value p (pos 0) r.hi (shapes p.map)) (λ _. Ok f)
 output_facts shapes f r (kind.MaybeValue m site) = Err MaybeNull
 output_facts shapes f r k = Err HelperArgument
 

@@ -37,7 +37,7 @@ use Rattle.insn_set.specs.Atomic.{access_size}
 use Rattle.tagged_model.specs.State.{context_words, is_multiple}
 use Rattle.transfer.specs.Arithmetic.{check_readable, arithmetic_kind, of_scalar}
 use Rattle.transfer.specs.Branches.{Edges, falls, ends, branch_edges}
-use Rattle.transfer.specs.Calls.{check_room, any_number, call_facts}
+use Rattle.transfer.specs.Calls.{check_in_value, any_number, call_facts}
 
 -- ---- operands
 
@@ -79,7 +79,7 @@ abbrev pub load_kind : Shapes → Facts → AccessSize → Bool → ℤ → Kind
 load_kind shapes f size signed off (kind.Stack x) = stack_read f (x +ℤ off) size signed
 load_kind shapes f size signed off kind.Ctx = context_read off size signed
 load_kind shapes f size signed off (kind.Value p) =
-    and_then_ok (check_room p off (bytes_of size) (shapes p.map)) (λ _. Ok (loaded size signed))
+    and_then_ok (check_in_value p off (bytes_of size) (shapes p.map)) (λ _. Ok (loaded size signed))
 load_kind shapes f size signed off (kind.MaybeValue m site) = Err MaybeNull
 load_kind shapes f size signed off k = Err NotPointer
 
@@ -94,7 +94,7 @@ abbrev pub store_facts : Shapes → Facts → AccessSize → ℤ → Kind → Ki
 store_facts shapes f size off (kind.Stack x) v = stack_write f (x +ℤ off) size v
 store_facts shapes f size off kind.Ctx v = Err ContextAccess
 store_facts shapes f size off (kind.Value p) v =
-    and_then_ok (check_room p off (bytes_of size) (shapes p.map)) (λ _. stored_outside f v)
+    and_then_ok (check_in_value p off (bytes_of size) (shapes p.map)) (λ _. stored_outside f v)
 store_facts shapes f size off (kind.MaybeValue m site) v = Err MaybeNull
 store_facts shapes f size off k v = Err NotPointer
 
@@ -123,7 +123,7 @@ is_known_multiple p off size = int_eq p.lo p.hi && is_multiple (p.lo +ℤ off) (
 abbrev pub value_changed : Facts → ValuePointer → ℤ → AccessSize → Option MapShape
     → Result Facts Reason
 value_changed f p off size o =
-    and_then_ok (check_room p off (bytes_of size) o)
+    and_then_ok (check_in_value p off (bytes_of size) o)
     (λ _. if is_known_multiple p off size then Ok f else Err UnalignedAtomic)
 
 -- the facts after an atomic operation `off` bytes from an address, or the first reason against it.

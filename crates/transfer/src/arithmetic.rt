@@ -46,7 +46,7 @@ fn distance(range: Range) -> Option<(i64, i64)>
 
 /// A pointer's offset after a sum has moved it by `by` bytes, backwards if `by` is negative; `None` if the offset is then farther than
 /// `FARTHEST_OFFSET` (2^29 bytes) from 0, in either direction. `moved`: an offset that is returned is the exact sum.
-fn moved_forwards(offset: i32, by: i64) -> Option<i32>
+fn offset_after_sum(offset: i32, by: i64) -> Option<i32>
     ensures value { result ≡ moved_offset Forwards offset by }
     ensures moved { IfSome result (λ to. to ≡ offset +ℤ by) }
 {
@@ -61,7 +61,7 @@ fn moved_forwards(offset: i32, by: i64) -> Option<i32>
 /// The offset of a pointer that a difference moves backwards: `offset` minus `by`, in bytes. `None` if it is then farther than
 /// `FARTHEST_OFFSET` from 0, in either direction. `value`: the result is that of the definition (`moved_offset`). `moved`: a result is the
 /// exact difference, so two offsets that `value_by` moves keep their order.
-fn moved_backwards(offset: i32, by: i64) -> Option<i32>
+fn offset_after_difference(offset: i32, by: i64) -> Option<i32>
     ensures value { result ≡ moved_offset Backwards offset by }
     ensures moved { IfSome result (λ to. to ≡ offset -ℤ by) }
 {
@@ -83,8 +83,8 @@ fn stack_moved(way: Direction, offset: i32, range: Range) -> Result<Kind, Reason
         return Err(Reason::OffsetTooLarge);
     };
     let to = match way {
-        Direction::Forwards => moved_forwards(offset, by),
-        Direction::Backwards => moved_backwards(offset, by),
+        Direction::Forwards => offset_after_sum(offset, by),
+        Direction::Backwards => offset_after_difference(offset, by),
     };
     match to {
         Some(offset) => Ok(Kind::Stack(offset)),
@@ -107,13 +107,13 @@ fn value_by(
     match way {
         Direction::Forwards => Some(ValuePointer::new(
             pointer.map,
-            moved_forwards(pointer.lo, least)?,
-            moved_forwards(pointer.hi, greatest)?,
+            offset_after_sum(pointer.lo, least)?,
+            offset_after_sum(pointer.hi, greatest)?,
         )),
         Direction::Backwards => Some(ValuePointer::new(
             pointer.map,
-            moved_backwards(pointer.lo, greatest)?,
-            moved_backwards(pointer.hi, least)?,
+            offset_after_difference(pointer.lo, greatest)?,
+            offset_after_difference(pointer.hi, least)?,
         )),
     }
 }

@@ -3,7 +3,7 @@
 ghost use Rattle.std.specs.Prelude.{◌≡◌, ◌<◌, ◌+ℤ◌, pos, int_le, ◌&&◌, if◌then◌else◌, IfOk, IfErr, OnErr, OnOk, Ok, Err};
 ghost use Rattle.tagged_model.specs.Named.{shapes_named};
 ghost use Rattle.reg_kinds.specs.declared.reason.Reason.TheVariants.{OutsideValue};
-ghost use Rattle.transfer.specs.Calls.{argument_map, check_room, input_kind, output_facts, number_range};
+ghost use Rattle.transfer.specs.Calls.{argument_map, check_in_value, input_kind, output_facts, number_range};
 ghost use Rattle.transfer.specs.Calls.{lengths_end, length_range, context_kind, any_number, call_facts};
 
 use crate::arithmetic::check_readable;
@@ -38,7 +38,7 @@ fn argument_map(named: &[Named], kind: Kind) -> Result<ShapedMap, Reason>
 
 /// The offset in a value, in bytes, of an access that is `by` bytes from a pointer with `offset`: their sum. Each of the three may be
 /// negative. The sum can't overflow in 64 bits.
-pub(crate) fn moved_by(offset: i32, by: i16) -> i64
+pub(crate) fn offset_of_access(offset: i32, by: i16) -> i64
     ensures { result ≡ offset +ℤ by }
 {
     i64::from(offset) + i64::from(by)
@@ -63,19 +63,19 @@ fn room_in(low: i64, last: i64, count: u32, size: u32) -> Result<(), Reason>
 /// `offset` is negative. The pointer's own offset may be any from `pointer.lo` to `pointer.hi`, and for each of them all the bytes have to
 /// lie in the value. `OutsideValue` if they don't, or if the pointer's descriptor names no map in `named`, a list of descriptors and their
 /// objects.
-pub(crate) fn check_room(
+pub(crate) fn check_in_value(
     named: &[Named],
     pointer: ValuePointer,
     offset: i16,
     count: u32,
 ) -> Result<(), Reason>
-    ensures { result ≡ check_room pointer offset count (shapes_named named.now pointer.map) }
+    ensures { result ≡ check_in_value pointer offset count (shapes_named named.now pointer.map) }
 {
     let Some(shape) = shape_of(named, pointer.map) else {
         return Err(Reason::OutsideValue);
     };
-    let low = moved_by(pointer.lo, offset);
-    let last = moved_by(pointer.hi, offset);
+    let low = offset_of_access(pointer.lo, offset);
+    let last = offset_of_access(pointer.hi, offset);
     room_in(low, last, count, shape.value_size)
 }
 
@@ -89,7 +89,7 @@ fn check_input(named: &[Named], facts: &Facts, count: u32, kind: Kind) -> Result
 {
     match kind {
         Kind::Stack(offset) => check_read(facts, offset, count),
-        Kind::Value(pointer) => check_room(named, pointer, 0, count),
+        Kind::Value(pointer) => check_in_value(named, pointer, 0, count),
         Kind::MaybeValue { .. } => Err(Reason::MaybeNull),
         _ => Err(Reason::HelperArgument),
     }
@@ -99,7 +99,7 @@ fn check_input(named: &[Named], facts: &Facts, count: u32, kind: Kind) -> Result
 /// `length.lo` bytes count as written, and a spill that the first `length.hi` bytes touch is lost; in the value of a map no fact changes.
 /// `check_length` has bounded the length, so it fits in 32 bits. The errors, after which no fact has changed (`stays`): `OutsideStack` or
 /// `OutsideValue` if `length.hi` bytes don't all lie in the stack or in the value, or `named`, the open descriptors, has no map for the
-/// value's descriptor (`check_room`); `MaybeNull` for the result of a look-up that may be null; `HelperArgument` for any other kind.
+/// value's descriptor (`check_in_value`); `MaybeNull` for the result of a look-up that may be null; `HelperArgument` for any other kind.
 fn output(facts: &mut Facts, named: &[Named], length: Range, kind: Kind) -> Result<(), Reason>
     requires { length.hi < lengths_end }
     ensures ok { OnOk result (output_facts (shapes_named named.now) facts.old length kind
@@ -110,7 +110,7 @@ fn output(facts: &mut Facts, named: &[Named], length: Range, kind: Kind) -> Resu
 {
     match kind {
         Kind::Stack(offset) => fill_stack(facts, offset, length.lo as u32, length.hi as u32),
-        Kind::Value(pointer) => check_room(named, pointer, 0, length.hi as u32),
+        Kind::Value(pointer) => check_in_value(named, pointer, 0, length.hi as u32),
         Kind::MaybeValue { .. } => Err(Reason::MaybeNull),
         _ => Err(Reason::HelperArgument),
     }

@@ -23,7 +23,7 @@ ghost use Rattle.transfer.specs.declared.branches.Flow.TheVariants.{Falls};
 
 use crate::arithmetic::{arithmetic, check_readable, of_scalar, result_range};
 use crate::branches::{Flow, branch};
-use crate::calls::{call, check_room, moved_by};
+use crate::calls::{call, check_in_value, offset_of_access};
 use insn_set::{AtomicSize, Insn, Load, Movsx, Operand, Reg};
 use interval::Range;
 use reg_kinds::{Facts, Kind, Reason, ValuePointer, loaded, read_stack, write_stack};
@@ -36,7 +36,7 @@ const CONTEXT_SIZE: i16 = 4 * CONTEXT_WORDS as i16;
 /// The constant operand of an instruction, its immediate `imm`, as a machine word. An instruction of 64 bits (`wide`) sign-extends the
 /// constant; one of 32 bits (not `wide`) takes it modulo 2^32, so that the upper half of the word is zero. In both cases the word is the
 /// constant modulo 2^64 or 2^32, its width (`unsigned`).
-fn constant_word(wide: bool, imm: i32) -> u64
+fn immediate_word(wide: bool, imm: i32) -> u64
     ensures { result ≡ unsigned (width wide) imm }
 {
     if wide {
@@ -55,7 +55,7 @@ fn source(facts: &Facts, wide: bool, src: &Operand) -> Kind
 {
     match src {
         Operand::Reg(reg) => facts.kind(*reg),
-        Operand::Imm(imm) => Kind::Scalar(Range::constant(constant_word(wide, *imm))),
+        Operand::Imm(imm) => Kind::Scalar(Range::constant(immediate_word(wide, *imm))),
     }
 }
 
@@ -124,7 +124,7 @@ fn load(
         }
         Kind::Ctx => context_read(offset, size, signed),
         Kind::Value(pointer) => {
-            check_room(named, pointer, offset, u32::from(size.bytes()))?;
+            check_in_value(named, pointer, offset, u32::from(size.bytes()))?;
             Ok(loaded(size, signed))
         }
         Kind::MaybeValue { .. } => Err(Reason::MaybeNull),
@@ -181,7 +181,7 @@ fn store(
         }
         Kind::Ctx => Err(Reason::ContextAccess),
         Kind::Value(pointer) => {
-            check_room(named, pointer, offset, u32::from(size.bytes()))?;
+            check_in_value(named, pointer, offset, u32::from(size.bytes()))?;
             check_stored_in_map(value)?;
             Ok(None)
         }
@@ -231,7 +231,7 @@ fn is_multiple(offset: i64, size: AccessSize) -> bool
 fn is_known_multiple(pointer: ValuePointer, offset: i16, size: AccessSize) -> bool
     ensures { result ≡ is_known_multiple pointer offset size }
 {
-    pointer.lo == pointer.hi && is_multiple(moved_by(pointer.lo, offset), size)
+    pointer.lo == pointer.hi && is_multiple(offset_of_access(pointer.lo, offset), size)
 }
 
 /// Updates the facts for an atomic operation with an operand of the kind `value`, `offset` bytes from an address of the kind `base`.
@@ -269,7 +269,7 @@ fn change(
         Kind::Ctx => Err(Reason::ContextAccess),
         Kind::Value(pointer) => {
             number_or(Reason::PointerArithmetic, value)?;
-            check_room(named, pointer, offset, u32::from(access.bytes()))?;
+            check_in_value(named, pointer, offset, u32::from(access.bytes()))?;
             if is_known_multiple(pointer, offset, access) {
                 Ok(None)
             } else {
@@ -361,7 +361,7 @@ fn operand_ranges(facts: &Facts, wide: bool, dst: Reg, src: &Operand) -> Option<
             Kind::Scalar(b) => Some((a, b)),
             _ => None,
         },
-        Operand::Imm(imm) => Some((a, Range::constant(constant_word(wide, *imm)))),
+        Operand::Imm(imm) => Some((a, Range::constant(immediate_word(wide, *imm)))),
     }
 }
 

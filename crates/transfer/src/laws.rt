@@ -68,7 +68,7 @@ pub fn calls_are_sound()
 {
     abstraction::laws::stack_input_admits();
     abstraction::laws::stack_output_admits();
-    abstraction::laws::object_read_admits();
+    abstraction::laws::value_read_is_no_fault();
     abstraction::laws::object_write_admits();
     abstraction::laws::map_calls_keep();
     abstraction::laws::map_change_admits();

@@ -26,7 +26,7 @@ use Rattle.tagged_model.specs.Named.{Shapes, target_of, shape_in, shapes_named}
 use Rattle.transfer.specs.Branches.{Edges}
 use Rattle.transfer.specs.Effects.{effect}
 use Rattle.transfer.specs.Reasons.{IsUnknownHelper, IsUnshapedMap, IsNoValue, IsReasonOf, TransferReasons}
-use Rattle.verifier.specs.Shape.{is_unknown_helper, is_map, is_not_open, is_not_map, lacks_direct_value, structure_fault}
+use Rattle.verifier.specs.Shape.{names_unknown_helper, is_map, is_not_open, is_not_map, lacks_direct_value, structure_fault}
 use Rattle.verifier.specs.Before.{facts_before}
 use Rattle.verifier.specs.Maps.{without, distinct, maps_of, is_among, objects_at, shapes_of}
 use Rattle.verifier.specs.Verdict.{reason_of, safety_fault, HasNoFault}
@@ -186,7 +186,7 @@ module _ (law : TransferReasons) (shapes : Shapes) (code : List Insn) (slot : �
   safety_seen h = facts_seen (facts_before shapes code slot) h
 
 -- a function that is called is known
-none_unknown : (r : Reference) → is_unknown_helper r ≡ false → IsUnknownHelper r → ⊥
+none_unknown : (r : Reference) → names_unknown_helper r ≡ false → IsUnknownHelper r → ⊥
 none_unknown names.Nothing h none = none
 none_unknown (names.Helper id) h none = true≢false (sym (ap (λ o. not (is_some o)) none) ∙ h)
 none_unknown (names.Map fd) h none = none

@@ -30,7 +30,7 @@ use Rattle.verifier.specs.inside.Arriving.{Brings, brought_to}
 use Rattle.verifier.specs.inside.Edges.{falling_of, jumping_of, falling_from, jumping_from}
 use Rattle.verifier.specs.inside.Numbers.{facts_on, entry_of, number_of, included_in, group_renumbered, IsInStack}
 use Rattle.verifier.specs.inside.Numbers.{IsNumberedSlot, IsJoinedBy, IsJoinedIf, IsTaken, IsSentIf, with_ranges}
-use Rattle.verifier.specs.inside.Numbers.{on_falling_edge, on_jumping_edge, noted, IsPast, IsPastIf, IsNumbered, IsNumberedIf, AreNumbered}
+use Rattle.verifier.specs.inside.Numbers.{on_falling_edge, on_jumping_edge, writes_renumbered, IsPast, IsPastIf, IsNumbered, IsNumberedIf, AreNumbered}
 use Rattle.verifier.proofs.Numbers.{joined_none, on_none, raised_if, with_held, slot_more, slot_same, slot_fresh, Stacks}
 use Rattle.verifier.proofs.Numbers.{with_stack, stack_on, numbered_more, numbered_more_if, numbered_same, numbered_fresh, right_join}
 
@@ -103,7 +103,7 @@ jumping_facts (Compares dst src falls jumps) fresh x = ranged_facts x dst src ju
 jumping_facts (Settles site true) fresh x = refl
 jumping_facts (Settles site false) fresh x = refl
 
-noted_facts : (flow : Flow) (fresh : ℕ) (x : NumberedFacts) → (noted flow fresh x).facts ≡ x.facts
+noted_facts : (flow : Flow) (fresh : ℕ) (x : NumberedFacts) → (writes_renumbered flow fresh x).facts ≡ x.facts
 noted_facts Ends fresh x = refl
 noted_facts Falls fresh x = refl
 noted_facts (WritesSlot i) fresh x = refl
@@ -179,7 +179,7 @@ module _ (stacks : Stacks) (n m : ℕ) (lt : n < m) (some : 0 < n) where
 
   noted_numbered : (flow : Flow) (x : NumberedFacts) (g : Facts)
       → IsNumbered stacks n x → KeepsStack flow x.facts g
-      → IsNumbered (with_stack stacks n (slot_at g)) m (noted flow n (left_with x g))
+      → IsNumbered (with_stack stacks n (slot_at g)) m (writes_renumbered flow n (left_with x g))
   noted_numbered (WritesSlot at) x g h keeps =
       record {
         groups = length-set x.numbers (group_of at) n ∙ h.groups;
@@ -354,7 +354,7 @@ module _ (absorb : SlotsAbsorb) (shapes : Shapes) (slot : ℕ) (insn : Insn) whe
       let l4 : n4 < n5 = omega arith in
       let l5 : n5 < n9 = omega arith in
       let target = jump_target insn slot in
-      let y : NumberedFacts = noted p.flow n2 (left_with x p.facts) in
+      let y : NumberedFacts = writes_renumbered p.flow n2 (left_with x p.facts) in
       let s1 : Stacks = with_stack stacks n2 (slot_at p.facts) in
       let jumping : Option NumberedFacts = on_jumping_edge p.flow n3 y in
       let s2 : Stacks = with_stack s1 n3 (stack_on jumping) in

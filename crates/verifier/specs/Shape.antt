@@ -61,15 +61,15 @@ is_reachable code i = reached_from code i i
 
 -- an instruction names a helper by a number that no helper here has: one other than 1, 2, 3 and 26
 -- (`known_helpers`). False if it names a map, a byte of a map's value, or nothing
-abbrev pub is_unknown_helper : Reference → Bool
-is_unknown_helper names.Nothing = false
-is_unknown_helper (names.Helper id) = not (is_some (helper_of id))
-is_unknown_helper (names.Map fd) = false
-is_unknown_helper (names.Value fd off) = false
+abbrev pub names_unknown_helper : Reference → Bool
+names_unknown_helper names.Nothing = false
+names_unknown_helper (names.Helper id) = not (is_some (helper_of id))
+names_unknown_helper (names.Map fd) = false
+names_unknown_helper (names.Value fd off) = false
 
 -- the instruction calls an unknown helper
 abbrev pub calls_unknown : Insn → Bool
-calls_unknown i = is_unknown_helper (profile i).reference
+calls_unknown i = names_unknown_helper (profile i).reference
 
 -- whether the object that an open descriptor names is a map, of any shape; false for a program
 abbrev pub is_map : Target → Bool

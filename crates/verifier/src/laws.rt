@@ -44,7 +44,7 @@ pub fn one_judgement()
     ensures { OneJudgement }
 {
     insn_codec::laws::one_program();
-    insn_codec::laws::one_fault();
+    insn_codec::laws::at_most_one_fault();
     one_refusal();
     accepted_is_not_refused();
 }

@@ -3,7 +3,7 @@
 ghost use Rattle.std.specs.Prelude.{◌≡◌, ◌<◌};
 ghost use Rattle.words.specs.Stack.{stack_slots};
 ghost use Rattle.reg_kinds.specs.Join.{stack_groups};
-ghost use Rattle.verifier.specs.inside.Numbers.{IsInStack, IsJoin, IsGroupJoin, at_entry, noted, group_renumbered, renumbered};
+ghost use Rattle.verifier.specs.inside.Numbers.{IsInStack, IsJoin, IsGroupJoin, at_entry, writes_renumbered, group_renumbered, renumbered};
 
 use reg_kinds::laws::facts_have_all_slots;
 use reg_kinds::{Facts, GROUP_SLOTS, STACK_GROUPS, StackGroup, join_group, join_registers};
@@ -62,12 +62,12 @@ impl NumberedFacts {
     /// groups with one index and one number have to be equal in all facts of a pass; also 0 in `includes`, as no group has been joined into
     /// it since. No clause requires that `fresh` is new: the only caller passes 8 * n + 3 for the instruction at slot n, which no other
     /// change of a group gives. For `WritesSlot` this is the group of that stack slot, one of the 64 (`IsInStack`); for `Writes` these are
-    /// all groups. Other flows change nothing (`noted`); a null test changes the stack only on its edges, for which `leave_null_test` gives
-    /// new numbers.
+    /// all groups. Other flows change nothing (`writes_renumbered`); a null test changes the stack only on its edges, for which
+    /// `leave_null_test` gives new numbers.
     #[inline(always)]
     pub(crate) fn renumber_written(&mut self, flow: &Flow, fresh: usize)
         requires { IsInStack flow.now }
-        ensures { self.new ≡ noted flow.now fresh self.old }
+        ensures { self.new ≡ writes_renumbered flow.now fresh self.old }
     {
         match flow {
             Flow::WritesSlot(slot) => self.renumber_group(*slot, fresh),

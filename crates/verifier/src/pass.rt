@@ -316,7 +316,7 @@ impl Pass {
     /// not, after the watcher got the facts (`SeesFault`), or out of memory, before or after that (`StopsWatching`). `named` has the
     /// program's maps. By `room` the new numbers of groups of stack slots, at most `8 * slot + 6`, don't overflow.
     #[inline(always)]
-    fn pass_instruction<W: Watcher>(
+    fn run_past_if_reached<W: Watcher>(
         &mut self,
         named: &[Named],
         insn: &Insn,
@@ -351,11 +351,11 @@ impl Pass {
     }
 
     /// Takes the pass past `insn`, the instruction at `slot`. First the facts on jumps to `slot` are joined into `falling`, which has the
-    /// facts on the falling edge to `slot`. Then `pass_instruction` passes the joined facts (`arriving_at`) to the watcher (`seen`), leaves
-    /// the facts on the falling edge out of `insn` in `falling`, and joins those on the jumping edge into the facts that `entries` has for
-    /// the jump's target, a slot of the program (`lands`); those of no other later slot change (`sent`). Without joined facts no run
-    /// reaches `insn`, and nothing is done. If there is no error, `insn` may be run with the joined facts (`ok`). The error is why it may
-    /// not, or out of memory; by `refused` the watcher has the joined facts then too, but perhaps not if out of memory. `named` has the
+    /// facts on the falling edge to `slot`. Then `run_past_if_reached` passes the joined facts (`arriving_at`) to the watcher (`seen`),
+    /// leaves the facts on the falling edge out of `insn` in `falling`, and joins those on the jumping edge into the facts that `entries`
+    /// has for the jump's target, a slot of the program (`lands`); those of no other later slot change (`sent`). Without joined facts no
+    /// run reaches `insn`, and nothing is done. If there is no error, `insn` may be run with the joined facts (`ok`). The error is why it
+    /// may not, or out of memory; by `refused` the watcher has the joined facts then too, but perhaps not if out of memory. `named` has the
     /// program's maps. The proof needs `absorb` and `numbered`, which holds again for the next slot: by them, a join of `NumberedFacts`
     /// leaves out only joins of stack slots that would change nothing.
     fn step<W: Watcher>(
@@ -386,7 +386,7 @@ impl Pass {
             (W.seen watcher.old) (W.seen watcher.new) e) }
     {
         self.entries.join_at(slot, &mut self.falling, 8 * slot + 2)?;
-        self.pass_instruction(named, insn, slot, watcher)
+        self.run_past_if_reached(named, insn, slot, watcher)
     }
 }
 

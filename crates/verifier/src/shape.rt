@@ -8,7 +8,7 @@ ghost use Rattle.insn_set.specs.Profile.{profile};
 ghost use Rattle.insn_set.specs.Program.{slot_count};
 ghost use Rattle.insn_set.specs.Flow.{falls_to, jumps_to, falls, jumps, descriptor, descriptor_by};
 ghost use Rattle.verifier.specs.Cost.{IsCostOf};
-ghost use Rattle.verifier.specs.Shape.{is_reachable, is_number, is_unknown_helper, is_not_open, is_not_map, lacks_direct_value};
+ghost use Rattle.verifier.specs.Shape.{is_reachable, is_number, names_unknown_helper, is_not_open, is_not_map, lacks_direct_value};
 ghost use Rattle.verifier.specs.Shape.{leads_outside, leads_backward, first_reason, shape_reason, structure_fault};
 ghost use Rattle.verifier.specs.inside.Jumps.{JumpsLand};
 ghost use Rattle.verifier.specs.inside.Longest.{AreFew, IsAdded, IsSimple, LeadTo};
@@ -36,8 +36,8 @@ fn writes_frame_pointer(written: Option<Reg>) -> bool
 
 /// Whether an instruction calls a helper, and there is none with this number (`known_helper`). `reference` is what the instruction names;
 /// only a call names a helper. `shape_fault_of` needs this for the fault `UnknownHelper`.
-fn is_unknown_helper(reference: Reference) -> bool
-    ensures { result ≡ is_unknown_helper reference }
+fn names_unknown_helper(reference: Reference) -> bool
+    ensures { result ≡ names_unknown_helper reference }
 {
     match reference {
         Reference::Helper(id) => known_helper(id).is_none(),
@@ -150,7 +150,7 @@ fn shape_fault_of(
         Some(Reason::FallsOff)
     } else if !is_reached {
         Some(Reason::Unreachable)
-    } else if is_unknown_helper(row.reference) {
+    } else if names_unknown_helper(row.reference) {
         Some(Reason::UnknownHelper)
     } else if writes_frame_pointer(row.written) {
         Some(Reason::FramePointerWritten)

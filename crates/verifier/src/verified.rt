@@ -162,7 +162,7 @@ pub fn verify_slots(
     ensures slot { IfOk result (λ verdict. IfErr verdict (λ refusal.
         8 * refusal.slot ≤ length slots.now)) }
 {
-    insn_codec::laws::one_fault();
+    insn_codec::laws::at_most_one_fault();
     let program = match read_program(alloc, slots) {
         Ok(program) => program,
         Err(fault) if fault.kind == FaultKind::Memory => return Err(AllocError),

@@ -35,7 +35,7 @@ pub fn whole_input<I: Read + Drop>(alloc: Global, input: I) -> Result<Vec<u8>, F
 ///
 /// `MapArgument` with the number, from 1, of the first argument that names no map, or a map at the descriptor of an earlier map;
 /// `Memory` if out of memory.
-pub fn maps_named(alloc: Global, arguments: &[&str]) -> Result<Vec<Named>, Failure>
+pub fn maps_of_arguments(alloc: Global, arguments: &[&str]) -> Result<Vec<Named>, Failure>
     ensures { IfOk result (λ maps. AreMapArguments (texts arguments.now) maps.items) }
 {
     named_maps(alloc, arguments)

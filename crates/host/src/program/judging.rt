@@ -7,7 +7,7 @@
 
 ghost use Rattle.std.specs.Prelude.{◌≡◌, ◌∷◌, ◌++◌, ◌<◌, ◌-◌, ◌^◌, [], Option, IfErr, IfOk, string_bytes};
 ghost use Rattle.host.specs.program.Judging.{IsJudgement};
-ghost use Rattle.host.specs.inside.program.Judgements.{judgement_status, judgement_text, IsJudgedLine, IsJudgementLine};
+ghost use Rattle.host.specs.inside.program.Judgements.{judgement_status, judgement_text, IsLineOfAnyVerdict, IsJudgementLine};
 ghost use Rattle.host.specs.inside.program.Outcomes.{Fails, FailsOnly, Gives};
 ghost use Rattle.host.specs.inside.program.Rewriting.{streams, IsUnreadable, WritesWholeOutput, StopsRewriting};
 ghost use Rattle.host.specs.declared.program.failure.Failure.{Failure as AnyFailure};
@@ -67,7 +67,7 @@ pub(crate) fn verdict_status(refusal: Option<Refusal>) -> u8
 /// line of this verdict is written whole, and no call failed; `streams` is what contracts see of reader and writer. `fault` has the
 /// failures. `TooLong` if the input has more than `LONGEST_INPUT` bytes, `Read` if a call of the reader failed, `Line` if the input is not
 /// UTF-8, a line has a fault or no line has a slot, `Memory` if out of memory; then nothing is written. `Write` if a call of the writer
-/// failed; then a front of the line of a verdict on this input (`IsJudgedLine`) may be written.
+/// failed; then a front of the line of a verdict on this input (`IsLineOfAnyVerdict`) may be written.
 pub(crate) fn judge<S: Source, O: Sink>(
     alloc: Global,
     maps: &[Named],
@@ -79,7 +79,7 @@ pub(crate) fn judge<S: Source, O: Sink>(
     ensures done { IfOk result (λ refusal. WritesWholeOutput (IsJudgementLine maps.now refusal)
         (streams S.remaining S.failures O.contents O.failures reader.old writer.old)
         (streams S.remaining S.failures O.contents O.failures reader.new writer.new)) }
-    ensures fault { IfErr result (λ failure. StopsRewriting (IsJudgedLine maps.now) IsUnreadable
+    ensures fault { IfErr result (λ failure. StopsRewriting (IsLineOfAnyVerdict maps.now) IsUnreadable
         (streams S.remaining S.failures O.contents O.failures reader.old writer.old)
         (streams S.remaining S.failures O.contents O.failures reader.new writer.new)
         failure) }

@@ -98,7 +98,7 @@ fn arguments_of(helper: Helper) -> &'static [Argument] {
 
 /// Whether the helper with the number `id` has an argument in the register with the number `register`. By this `unreadable_argument` finds
 /// which unreadable register a rejected call reads. False if no helper has the number: such a call is a fault of the program's shape.
-pub(crate) fn has_argument(id: i32, register: u8) -> bool {
+pub(crate) fn helper_reads(id: i32, register: u8) -> bool {
     match known_helper(id) {
         Some(helper) => arguments_of(helper)
             .iter()

@@ -1,7 +1,7 @@
 //! Registers that are unreadable or may be null, results and comparisons. `AllocError`: out of memory for the text.
 
 use crate::needs::RefusedProgram;
-use crate::needs::calls::has_argument;
+use crate::needs::calls::helper_reads;
 use crate::ways::{Wanted, write_way};
 use insn_codec::{Insn, Operand, Reference, Reg};
 use log_facts::write_kind;
@@ -59,7 +59,7 @@ fn unreadable_of(facts: &Facts, first: Option<u8>, second: Option<u8>) -> Option
 /// rejected call. `None` if each argument is readable, or if no helper has this number, which is a fault of the shape.
 fn unreadable_argument(facts: &Facts, id: i32) -> Option<u8> {
     for register in 1..=5 {
-        if has_argument(id, register) && kind_of(facts, register) == Kind::Unreadable {
+        if helper_reads(id, register) && kind_of(facts, register) == Kind::Unreadable {
             return Some(register);
         }
     }

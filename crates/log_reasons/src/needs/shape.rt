@@ -9,7 +9,7 @@ use tagged_model::{MapKind, Named, shape_of};
 
 /// The target slot of `insn`, a jump at `slot`, for the text of why the jump is refused. It is signed, as it may lie outside the program,
 /// also below slot 0. The sums never saturate: a slot is at most `MAX_SLOTS`, and a distance, counted from the next slot, has 32 bits.
-fn far_target(insn: &Insn, slot: usize) -> i64 {
+fn signed_target(insn: &Insn, slot: usize) -> i64 {
     let from = i64::try_from(slot).unwrap_or(i64::MAX);
     from.saturating_add(1)
         .saturating_add(i64::from(insn.profile().successors.offset()))
@@ -24,7 +24,7 @@ fn write_wrong_target(
     insn: &Insn,
 ) -> Result<(), AllocError> {
     let (target, slots) = (
-        far_target(insn, refusal.fault.slot),
+        signed_target(insn, refusal.fault.slot),
         refusal.program.slots(),
     );
     if target < 0 || target >= slots as i64 {
@@ -46,7 +46,7 @@ fn write_backward(
     refusal: &RefusedProgram<'_>,
     insn: &Insn,
 ) -> Result<(), AllocError> {
-    let target = far_target(insn, refusal.fault.slot);
+    let target = signed_target(insn, refusal.fault.slot);
     write!(text, "it leads to slot {target}, and jumps go forward only")
 }
 

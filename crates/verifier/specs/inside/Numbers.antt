@@ -238,10 +238,10 @@ IsInStack flow = Unit {0}
 -- stack slot i, after `Writes` all groups, since it may have changed any slot. After any other flow
 -- the result is x. A null test changes the stack only on its edges, so its new numbers are given
 -- there
-abbrev pub noted : Flow → ℕ → NumberedFacts → NumberedFacts
-noted (WritesSlot i) fresh x = group_renumbered x i fresh
-noted Writes fresh x = renumbered x fresh
-noted flow fresh x = x
+abbrev pub writes_renumbered : Flow → ℕ → NumberedFacts → NumberedFacts
+writes_renumbered (WritesSlot i) fresh x = group_renumbered x i fresh
+writes_renumbered Writes fresh x = renumbered x fresh
+writes_renumbered flow fresh x = x
 
 -- the instruction at slot n may be run with the facts `old`; it has this flow, and these are the
 -- facts after it. `new` are the facts on its falling edge; those on its jumping edge are joined
@@ -255,11 +255,11 @@ pub record IsPast (shapes : Shapes) (n : ℕ) (insn : Insn) (old : NumberedFacts
   pub stack : KeepsStack flow old.facts facts
   pub falls : new
       ≡ on_falling_edge flow (8 * n + 5)
-      (noted flow (8 * n + 3)
+      (writes_renumbered flow (8 * n + 3)
       (record { facts = facts; numbers = old.numbers; includes = old.includes }))
   pub sent : IsSentIf (jump_target insn n) (8 * n + 6)
       (on_jumping_edge flow (8 * n + 4)
-      (noted flow (8 * n + 3)
+      (writes_renumbered flow (8 * n + 3)
       (record {
         facts = facts;
         numbers = old.numbers;

@@ -1,5 +1,5 @@
 use Rattle.std.proofs.Common.{◌≡◌, ◌≢◌, ℕ, ◌<◌, subst, sym, ◌∙◌, arith}
-use Rattle.bpf_maps.specs.Live.{holds_at, KeepsMap}
+use Rattle.bpf_maps.specs.Live.{references_at, KeepsMap}
 use Rattle.bpf_maps.proofs.Slots.{same_or_other}
 use Rattle.bpf_maps.proofs.Called.{keeps, others_stay}
 use Rattle.bpf_maps.proofs.contract_clients.hold_and_release.Goals as goal
@@ -10,7 +10,7 @@ returns c = λ k live.
     let part = c.args.part.now in
     let held = c.hold.new.self in
     let along = c.live_maps_refine_values.ensures in
-    let more : 1 < holds_at held c.args.map =
+    let more : 1 < references_at held c.args.map =
     let holds = c.hold.ensures.holds in let some = c.requires.held in omega arith in
     let one : KeepsMap c.args.map old part c.release.new.self c.release.new.part = λ was.
     let (still, same) =

@@ -8,5 +8,5 @@ returns-clause-only c =
 
 pub returns-clause-faulty : goal.returns-clause-faulty
 returns-clause-faulty c =
-    faulty_is c.program_has_no_fault.ensures c.one_fault.ensures c.args.text.now c.program_of.result
+    faulty_is c.program_has_no_fault.ensures c.at_most_one_fault.ensures c.args.text.now c.program_of.result
     c.program_of.ensures.ok c.program_of.ensures.fault

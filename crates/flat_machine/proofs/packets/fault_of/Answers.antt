@@ -1,5 +1,5 @@
 use Rattle.std.proofs.Common.{sym}
 use Rattle.flat_machine.proofs.packets.fault_of.Goals as goal
 
-pub returns-then-are_plain : goal.returns-then-are_plain
-returns-then-are_plain c = sym (c.are_plain.ensures c.if-are_plain.true)
+pub returns-then-pass_quick_test : goal.returns-then-pass_quick_test
+returns-then-pass_quick_test c = sym (c.pass_quick_test.ensures c.if-pass_quick_test.true)

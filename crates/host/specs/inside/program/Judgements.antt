@@ -18,8 +18,8 @@ IsJudgementLine maps refusal input output =
     IsJudgement maps input refusal × (output ≡ judgement_text refusal ++ 10 ∷ [])
 
 -- the output is the line of a verdict on the input, accepted or rejected, with its line feed
-abbrev pub IsJudgedLine : List Named → List ℕ → List ℕ → Type 0
-IsJudgedLine maps input output =
+abbrev pub IsLineOfAnyVerdict : List Named → List ℕ → List ℕ → Type 0
+IsLineOfAnyVerdict maps input output =
     (refusal : Option Refusal) × IsJudgementLine maps refusal input output
 
 -- the exit status of `verify` when it has written a verdict: 0 if the program is accepted (None), 1

@@ -2,4 +2,4 @@ use Rattle.host_core.proofs.ServedAlone.{same_frames_same_replies}
 use Rattle.host_core.proofs.laws.same_frames_same_replies.Goals as goal
 
 pub returns : goal.returns
-returns c = same_frames_same_replies c.one_alone.ensures
+returns c = same_frames_same_replies c.one_reply_list.ensures

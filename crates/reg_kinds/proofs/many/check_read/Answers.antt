@@ -8,7 +8,7 @@ returns-then-is_any_unwritten c =
     input_is c.args.facts.now c.args.offset _ c.args.count c.in-Some.start _ _
     (to_z-of_z {w = w32} {z = c.args.offset} c.ranges.offset)
     (sym c.start_of.ensures.value ∙ c.in-Some.is)
-    (sym c.if-touch_a_spill.false ∙ c.touch_a_spill.ensures)
+    (sym c.if-bytes_touch_spill.false ∙ c.bytes_touch_spill.ensures)
     (sym c.if-is_any_unwritten.true ∙ c.is_any_unwritten.ensures)
 
 pub returns-else-is_any_unwritten : goal.returns-else-is_any_unwritten
@@ -16,5 +16,5 @@ returns-else-is_any_unwritten c =
     input_is c.args.facts.now c.args.offset _ c.args.count c.in-Some.start _ _
     (to_z-of_z {w = w32} {z = c.args.offset} c.ranges.offset)
     (sym c.start_of.ensures.value ∙ c.in-Some.is)
-    (sym c.if-touch_a_spill.false ∙ c.touch_a_spill.ensures)
+    (sym c.if-bytes_touch_spill.false ∙ c.bytes_touch_spill.ensures)
     (sym c.if-is_any_unwritten.false ∙ c.is_any_unwritten.ensures)

@@ -19,5 +19,5 @@ returns c =
     (λ below. c.loop-index.invariant i below)
     (λ past.
     lacks_apart c.args.facts.now c.args.start c.args.count i
-    (inr (omega (arith, past, c.past_touched-index-end.ensures.bytes))))
+    (inr (omega (arith, past, c.end_of_touched_slots-index-end.ensures.bytes))))
     (cases_lt i c.loop-index.index)))

@@ -2,4 +2,4 @@ use Rattle.tenant.proofs.Memory.{refusals_are_reported}
 use Rattle.tenant.proofs.laws.refusals_are_reported.Goals as goal
 
 pub returns : goal.returns
-returns c = refusals_are_reported (record { slots = c.one_fault.ensures.no_memory; rules = c.refused_by_a_rule.ensures })
+returns c = refusals_are_reported (record { slots = c.at_most_one_fault.ensures.no_memory; rules = c.refused_by_a_rule.ensures })

@@ -1,5 +1,5 @@
 use Rattle.std.proofs.Common.{◌≡◌, ℕ, ◌+◌, take}
-use Rattle.bpf_maps.specs.Live.{holds_at}
+use Rattle.bpf_maps.specs.Live.{references_at}
 use Rattle.tenant.specs.Kept.{times_listed}
 use Rattle.tenant.specs.inside.Loading.{IsHeldMore}
 use Rattle.tenant.proofs.loading.hold_all.Given as goal
@@ -8,5 +8,5 @@ abbrev pub invariant-loop-map : goal.invariant-loop-map
 invariant-loop-map l = record {
   held : IsHeldMore l.initial.maps l.maps;
   holds : (handle : ℕ)
-      → holds_at l.maps handle ≡ holds_at l.initial.maps handle + times_listed handle (take l.map-index l.held);
+      → references_at l.maps handle ≡ references_at l.initial.maps handle + times_listed handle (take l.map-index l.held);
 }

@@ -1,5 +1,5 @@
 use Rattle.std.proofs.Common.{◌≡◌, ℕ, ◌+◌, take}
-use Rattle.bpf_maps.specs.Live.{holds_at}
+use Rattle.bpf_maps.specs.Live.{references_at}
 use Rattle.tenant.specs.Kept.{times_listed}
 use Rattle.tenant.specs.inside.Leaves.{LeavesHeldMaps}
 use Rattle.tenant.proofs.tenant.release_all.Given as goal
@@ -9,5 +9,5 @@ invariant-loop-map l = record {
   left : LeavesHeldMaps (record { live = l.initial.maps; part = l.initial.part })
       (record { live = l.maps; part = l.part });
   holds : (handle : ℕ)
-      → holds_at l.maps handle + times_listed handle (take l.map-index l.held) ≡ holds_at l.initial.maps handle;
+      → references_at l.maps handle + times_listed handle (take l.map-index l.held) ≡ references_at l.initial.maps handle;
 }

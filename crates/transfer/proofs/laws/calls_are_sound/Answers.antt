@@ -5,7 +5,7 @@ pub returns : goal.returns
 returns c = calls_are_sound (record {
   stack_input = c.stack_input_admits.ensures;
   stack_output = c.stack_output_admits.ensures;
-  object_read = c.object_read_admits.ensures;
+  object_read = c.value_read_is_no_fault.ensures;
   object_write = c.object_write_admits.ensures;
   map_calls = c.map_calls_keep.ensures;
   map_change = c.map_change_admits.ensures;

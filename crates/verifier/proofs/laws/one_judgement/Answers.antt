@@ -3,5 +3,5 @@ use Rattle.verifier.proofs.laws.one_judgement.Goals as goal
 
 pub returns : goal.returns
 returns c =
-    one_judgement_is c.one_program.ensures c.one_fault.ensures.same c.one_fault.ensures.none
+    one_judgement_is c.one_program.ensures c.at_most_one_fault.ensures.same c.at_most_one_fault.ensures.none
     c.one_refusal.ensures c.accepted_is_not_refused.ensures

@@ -14,7 +14,7 @@ invariant_of-result c =
 
 pub returns-in-Err-judge-clause-memory : goal.returns-in-Err-judge-clause-memory
 returns-in-Err-judge-clause-memory c =
-    may_be_program c.one_fault.ensures.none c.args.slots.now c.in-Ok.program c.in-Ok.ensures.found.0
+    may_be_program c.at_most_one_fault.ensures.none c.args.slots.now c.in-Ok.program c.in-Ok.ensures.found.0
     c.in-Ok.ensures.found.1
 
 pub returns-clause-slot : goal.returns-clause-slot

@@ -1,6 +1,6 @@
 use Rattle.std.proofs.Common.{◌≡◌, ◌+◌, ◌-◌, ◌<◌, ◌≤◌, ◌++◌, take, drop, refl, ap, is_some, option_map, ◌∙◌, arith, append_assoc}
 use Rattle.bpf_maps.specs.declared.part.TheConstants.{STACK_AND_CONTEXT}
-use Rattle.bpf_maps.specs.Live.{holds_at, without_area, area_by, area_of}
+use Rattle.bpf_maps.specs.Live.{references_at, without_area, area_by, area_of}
 use Rattle.bpf_maps.specs.InMaps.{live_of}
 use Rattle.bpf_maps.specs.declared.stored_map.StoredMap.{StoredMap}
 use Rattle.bpf_maps.proofs.ByHandle.{has_key}
@@ -41,7 +41,7 @@ module _ (c : goal.After-self-1) where
   }
 
   -- in this case the map had more than one reference
-  not_last : holds_at c.args.self.now c.args.map ≤ 1 → ⊥
+  not_last : references_at c.args.self.now c.args.map ≤ 1 → ⊥
   not_last last =
       let held = seen_of (λ l. l.holds) (live_old change) in
       let more = c.if-stored-gt-LAST.true in
@@ -168,7 +168,7 @@ module _ (c : goal.After-keep) where
   moved = c.copy_within.ensures.after ∙ append_assoc (take c.remove-gone.result.start c.args.part.now) _ _
 
   -- in this case the map had no second reference
-  no_more : 1 < holds_at c.args.self.now c.args.map → ⊥
+  no_more : 1 < references_at c.args.self.now c.args.map → ⊥
   no_more more = not_more c.args.self.now c.args.map (live_under goes.taken.under) c.if-stored-gt-LAST.false more
 
 pub invariant_of-self-2 : goal.invariant_of-self-2

@@ -5,7 +5,7 @@ use Rattle.flat_machine.proofs.packets.Packets.new.Goals as goal
 
 no_fault : (c : goal.In_default) → batch_fault (length c.args.contexts.now) (length c.args.bytes.now) c.args.ends.now ≡ None
 no_fault c =
-    fault_by (length c.args.contexts.now) (length c.args.bytes.now) c.args.ends.now true (sym c.fit_packets.ensures ∙ c.if-not-fit_packets.false)
+    fault_by (length c.args.contexts.now) (length c.args.bytes.now) c.args.ends.now true (sym c.may_have_contexts.ensures ∙ c.if-not-may_have_contexts.false)
     ∙ sym c.fault_of.ensures
     ∙ c.in_default.is
 

@@ -1,5 +1,5 @@
 use Rattle.std.proofs.Common.{◌≡◌, ◌⊎◌, refl, subst, rules, string_bytes, inl, inr}
-use Rattle.host.specs.inside.program.Judgements.{IsJudgedLine, IsJudgementLine}
+use Rattle.host.specs.inside.program.Judgements.{IsLineOfAnyVerdict, IsJudgementLine}
 use Rattle.host.specs.inside.program.Rewriting.{IsUnreadable}
 use Rattle.host.specs.declared.program.failure.Failure.TheVariants.{Memory}
 use Rattle.host.proofs.Results.{passed_on}
@@ -26,7 +26,7 @@ returns-clause-fault g c =
     let line :
     IsJudgementLine c.args.maps.now c.in_ok-refusal.refusal c.in_ok-input.input.items (string_bytes c.in_ok-line.line) =
     search rules in
-    let made : IsJudgedLine c.args.maps.now c.in_ok-input.input.items (string_bytes c.in_ok-line.line) = (
+    let made : IsLineOfAnyVerdict c.args.maps.now c.in_ok-input.input.items (string_bytes c.in_ok-line.line) = (
       c.in_ok-refusal.refusal,
       line,
     ) in

@@ -1,5 +1,5 @@
 use Rattle.std.proofs.Common.{◌≡◌, ℕ, ◌+◌, ◌≤◌, List, Option, Some, None, sym, ap, subst, ◌∙◌}
-use Rattle.bpf_maps.specs.Live.{holds_at}
+use Rattle.bpf_maps.specs.Live.{references_at}
 use Rattle.fd_table.specs.Table.{named}
 use Rattle.tenant.specs.declared.errno.Errno.TheVariants.{BadDescriptor}
 use Rattle.tenant.specs.declared.object.OpenObject.{OpenObject}
@@ -96,7 +96,7 @@ module _ (c : goal.After-drop-program-inside-in-Program-4) where
     closed = c.close.ensures.closed;
     left = c.release_all.ensures.left;
     fewer = λ q.
-        ap (λ (ps : List ℕ). holds_at c.release_all.new.maps q + times_listed q ps) (sym c.maps.ensures)
+        ap (λ (ps : List ℕ). references_at c.release_all.new.maps q + times_listed q ps) (sym c.maps.ensures)
         ∙ c.release_all.ensures.holds q;
   }
 

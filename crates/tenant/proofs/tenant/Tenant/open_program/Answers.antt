@@ -2,7 +2,7 @@ use Rattle.std.proofs.Common.{◌≡◌, ℕ, ◌+◌, ◌<◌, List, Option, sy
 use Rattle.tenant.specs.declared.object.OpenObject.{OpenObject}
 use Rattle.tenant.specs.Kept.{KeptTenant, IsWellFormedTenant, IsBound, times_listed, state_in}
 use Rattle.tenant.specs.Loaded.{map_handles}
-use Rattle.bpf_maps.specs.Live.{holds_at}
+use Rattle.bpf_maps.specs.Live.{references_at}
 use Rattle.tenant.specs.inside.Loading.{AreLive, with_program}
 use Rattle.tenant.proofs.LoadingKept.{few_hold, opened_kept, state_opened}
 use Rattle.tenant.proofs.StillKept.{kept_in, with_both}
@@ -13,7 +13,7 @@ hold_all-requires-clause-few c = λ handle.
     let k = kept_in c.self.inside in
     let bound : IsBound k.live c.args.program =
     subst (λ (k : KeptTenant). IsBound k.live c.args.program) (sym c.self.view_is) c.requires.bound in
-    subst (λ (ps : List ℕ). holds_at k.live handle + times_listed handle ps < 4294967296)
+    subst (λ (ps : List ℕ). references_at k.live handle + times_listed handle ps < 4294967296)
     (sym c.maps.ensures) (few_hold c.self.invariant bound handle)
 
 pub invariant_of-self : goal.invariant_of-self
@@ -22,8 +22,8 @@ invariant_of-self c =
     let l = c.args.program in
     let t = c.hold_all.new.maps in
     let bound : IsBound k.live l = subst (λ (k : KeptTenant). IsBound k.live l) (sym c.self.view_is) c.requires.bound in
-    let holds : (q : ℕ) → holds_at t q ≡ holds_at k.live q + times_listed q (map_handles l) =
-    λ q. c.hold_all.ensures.holds q ∙ ap (λ (ps : List ℕ). holds_at k.live q + times_listed q ps) c.maps.ensures in
+    let holds : (q : ℕ) → references_at t q ≡ references_at k.live q + times_listed q (map_handles l) =
+    λ q. c.hold_all.ensures.holds q ∙ ap (λ (ps : List ℕ). references_at k.live q + times_listed q ps) c.maps.ensures in
     subst (λ (os : List (Option OpenObject)). IsWellFormedTenant (with_both k os t)) (sym c.open.ensures.opened)
     (opened_kept c.self.invariant c.open.ensures.lowest bound c.hold_all.ensures.held holds)
 

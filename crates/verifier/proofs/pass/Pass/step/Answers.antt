@@ -10,27 +10,27 @@ use Rattle.verifier.proofs.pass.Pass.step.Goals as goal
 
 pub returns-clause-falling : goal.returns-clause-falling
 returns-clause-falling g c =
-    on_ok_weaker c.pass_instruction.result
+    on_ok_weaker c.run_past_if_reached.result
     (λ past.
     (stepped c.requires.absorb (shapes_named c.args.named.now) c.args.slot c.args.insn.now _ _ _ _ _
     _ c.requires.numbered c.in_ok-join_at.ensures past).falls)
-    c.pass_instruction.ensures.past
+    c.run_past_if_reached.ensures.past
 
 pub returns-clause-sent : goal.returns-clause-sent
 returns-clause-sent g c =
-    on_ok_weaker c.pass_instruction.result
+    on_ok_weaker c.run_past_if_reached.result
     (λ past.
     (stepped c.requires.absorb (shapes_named c.args.named.now) c.args.slot c.args.insn.now _ _ _ _ _
     _ c.requires.numbered c.in_ok-join_at.ensures past).sent)
-    c.pass_instruction.ensures.past
+    c.run_past_if_reached.ensures.past
 
 pub returns-clause-numbered : goal.returns-clause-numbered
 returns-clause-numbered g c =
-    on_ok_weaker c.pass_instruction.result
+    on_ok_weaker c.run_past_if_reached.result
     (λ past.
     (stepped c.requires.absorb (shapes_named c.args.named.now) c.args.slot c.args.insn.now _ _ _ _ _
     _ c.requires.numbered c.in_ok-join_at.ensures past).numbered)
-    c.pass_instruction.ensures.past
+    c.run_past_if_reached.ensures.past
 
 pub returns-clause-ok : goal.returns-clause-ok
 returns-clause-ok g c =
@@ -38,10 +38,10 @@ returns-clause-ok g c =
     (arrived c.requires.absorb (shapes_named c.args.named.now) c.args.slot c.args.insn.now
     c.requires.numbered.stacks _ _ _ _ c.requires.numbered.in_hand
     c.requires.numbered.ahead c.in_ok-join_at.ensures).facts in
-    on_ok_weaker c.pass_instruction.result
+    on_ok_weaker c.run_past_if_reached.result
     (λ may.
     subst (λ (known : Option Facts). MayRun (shapes_named c.args.named.now) c.args.slot c.args.insn.now known) here may)
-    c.pass_instruction.ensures.ok
+    c.run_past_if_reached.ensures.ok
 
 pub returns-clause-seen : goal.returns-clause-seen
 returns-clause-seen g c =
@@ -49,13 +49,13 @@ returns-clause-seen g c =
     (arrived c.requires.absorb (shapes_named c.args.named.now) c.args.slot c.args.insn.now
     c.requires.numbered.stacks _ _ _ _ c.requires.numbered.in_hand
     c.requires.numbered.ahead c.in_ok-join_at.ensures).facts in
-    on_ok_weaker c.pass_instruction.result
+    on_ok_weaker c.run_past_if_reached.result
     (λ seen.
     subst (λ (known : Option Facts).
-    g.W.Watcher.seen c.pass_instruction.new.watcher
+    g.W.Watcher.seen c.run_past_if_reached.new.watcher
     ≡ with_more (g.W.Watcher.seen c.args.watcher.now) (known_at c.args.slot known))
     here seen)
-    c.pass_instruction.ensures.seen
+    c.run_past_if_reached.ensures.seen
 
 pub returns-clause-refused : goal.returns-clause-refused
 returns-clause-refused g c =
@@ -64,11 +64,11 @@ returns-clause-refused g c =
     c.requires.numbered.stacks _ _ _ _ c.requires.numbered.in_hand
     c.requires.numbered.ahead c.in_ok-join_at.ensures).facts in
     let seen = g.W.Watcher.seen c.args.watcher.now in
-    let more = g.W.Watcher.seen c.pass_instruction.new.watcher in
+    let more = g.W.Watcher.seen c.run_past_if_reached.new.watcher in
     subst (λ (known : Option Facts).
-    IfErr c.pass_instruction.result
+    IfErr c.run_past_if_reached.result
     (λ e.
     StopsWatching seen more c.args.slot known e
     ⊎ SeesFault (shapes_named c.args.named.now) c.args.slot c.args.insn.now known seen more e))
     here
-    c.pass_instruction.ensures.refused
+    c.run_past_if_reached.ensures.refused

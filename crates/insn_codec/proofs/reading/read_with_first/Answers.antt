@@ -1,7 +1,7 @@
 -- The slots that were read are those that the instruction is spelled by.
 use Rattle.std.proofs.Common.{arith}
 use Rattle.insn_codec.proofs.Slots.{begins_read}
-use Rattle.insn_codec.proofs.reading.read_from.Goals as goal
+use Rattle.insn_codec.proofs.reading.read_with_first.Goals as goal
 
 pub returns-clause-found : goal.returns-clause-found
 returns-clause-found c =

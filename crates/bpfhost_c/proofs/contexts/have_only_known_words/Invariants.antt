@@ -1,6 +1,6 @@
 use Rattle.std.proofs.Common.{◌≡◌, ◌*◌, ◌≤◌, length, ◌-◌}
 use Rattle.bpfhost_c.specs.Contexts.{have_known_words}
-use Rattle.bpfhost_c.proofs.contexts.are_known.Given as goal
+use Rattle.bpfhost_c.proofs.contexts.have_only_known_words.Given as goal
 
 abbrev pub invariant-loop : goal.invariant-loop
 invariant-loop l =

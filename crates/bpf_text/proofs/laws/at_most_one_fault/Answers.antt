@@ -1,5 +1,5 @@
 use Rattle.bpf_text.proofs.TextLaws.{one_fault_is}
-use Rattle.bpf_text.proofs.laws.one_fault.Goals as goal
+use Rattle.bpf_text.proofs.laws.at_most_one_fault.Goals as goal
 
 pub returns : goal.returns
 returns c = one_fault_is c.one_reading.ensures

@@ -1,7 +1,7 @@
 use Rattle.std.proofs.Common.{sym, inl, inr, ⊎_elim, arith, below_more}
 use Rattle.std.proofs.lemmas.Bool.{cases_lt}
 use Rattle.reg_kinds.proofs.SlotTests.{none_below, one_below, spill_apart}
-use Rattle.reg_kinds.proofs.many.touch_a_spill.Goals as goal
+use Rattle.reg_kinds.proofs.many.bytes_touch_spill.Goals as goal
 
 pub loop-index-init : goal.loop-index-init
 loop-index-init c = λ i lt. spill_apart c.args.facts.now c.args.start c.args.count i (inl (omega (arith, lt)))
@@ -19,5 +19,5 @@ returns c =
     (λ below. c.loop-index.invariant i below)
     (λ past.
     spill_apart c.args.facts.now c.args.start c.args.count i
-    (inr (omega (arith, past, c.past_touched-index-end.ensures.bytes))))
+    (inr (omega (arith, past, c.end_of_touched_slots-index-end.ensures.bytes))))
     (cases_lt i c.loop-index.index)))

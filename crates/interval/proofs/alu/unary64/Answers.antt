@@ -1,6 +1,6 @@
 use Rattle.std.proofs.Common.{sym, arith, ◌∙◌}
 use Rattle.interval.proofs.Exact.{wide_constants, wide_spread}
-use Rattle.interval.proofs.alu.any64.Goals as goal
+use Rattle.interval.proofs.alu.unary64.Goals as goal
 
 pub returns-then-are_constants : goal.returns-then-are_constants
 returns-then-are_constants c =

@@ -2,7 +2,7 @@ use Rattle.std.proofs.Common.{◌≡◌, ℕ, ◌<◌, false}
 use Rattle.reg_kinds.specs.Kinds.{slot_at}
 use Rattle.words.specs.Stack.{touches}
 use Rattle.reg_kinds.specs.Many.{is_touched_spill}
-use Rattle.reg_kinds.proofs.many.touch_a_spill.Given as goal
+use Rattle.reg_kinds.proofs.many.bytes_touch_spill.Given as goal
 
 abbrev pub invariant-loop-index : goal.invariant-loop-index
 invariant-loop-index l =

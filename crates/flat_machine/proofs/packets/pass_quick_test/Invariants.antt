@@ -1,7 +1,7 @@
 -- If the packets so far are in order, the packets of the other ends have the fault that all have.
 use Rattle.std.proofs.Common.{◌≡◌, ◌≤◌, ◌<◌, ◌^◌, drop}
 use Rattle.flat_machine.specs.Packets.{longest_packet, packets_fault}
-use Rattle.flat_machine.proofs.packets.are_plain.Given as goal
+use Rattle.flat_machine.proofs.packets.pass_quick_test.Given as goal
 
 abbrev pub invariant-loop-end : goal.invariant-loop-end
 invariant-loop-end l = record {

@@ -4,7 +4,7 @@ use Rattle.std.proofs.lemmas.List.{at_drop_more, at_drop_all}
 use Rattle.std.proofs.lemmas.Nat.{le_or_l, le_or_r}
 use Rattle.flat_machine.specs.Packets.{packets_fault}
 use Rattle.flat_machine.proofs.PacketEnds.{fits_more}
-use Rattle.flat_machine.proofs.packets.are_plain.Goals as goal
+use Rattle.flat_machine.proofs.packets.pass_quick_test.Goals as goal
 
 -- a length without the highest bit is not negative
 in_order : (start end : ℕ) → start < 2 ^ 63 → end < 2 ^ 63 → (end + (18446744073709551616 - start)) % 18446744073709551616 < 65536 → start ≤ end

@@ -1,6 +1,6 @@
 use Rattle.std.proofs.Common.{◌≡◌, drop, nat_eq}
 use Rattle.std.specs.List.{list_all}
-use Rattle.bpfhost_c.proofs.contexts.is_zero_after_given.Given as goal
+use Rattle.bpfhost_c.proofs.contexts.has_only_known_words.Given as goal
 
 abbrev pub invariant-loop-word : goal.invariant-loop-word
 invariant-loop-word l =

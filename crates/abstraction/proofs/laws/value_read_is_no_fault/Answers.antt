@@ -1,5 +1,5 @@
 use Rattle.abstraction.proofs.Objects.{object_read}
-use Rattle.abstraction.proofs.laws.object_read_admits.Goals as goal
+use Rattle.abstraction.proofs.laws.value_read_is_no_fault.Goals as goal
 
 pub returns : goal.returns
 returns c = λ s m number shape y n proper object. object_read s m number shape proper object y n

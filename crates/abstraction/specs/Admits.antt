@@ -67,8 +67,9 @@ HasKind witness k o = (v : Tagged) × (o ≡ Some v) × IsOfKind witness k v
 
 -- ---- stack slots
 
--- the value is a map or a pointer. A cell, the content of a stack slot, keeps only such a value
--- whole (`holds`). False for a number (Scalar), also for null: a store puts a number there as bytes
+-- the value is one that a cell, the content of a stack slot, keeps whole (`holds`), not as bytes.
+-- False (⊥) for each number, also for null, which is 0, since a store puts a number into a cell as
+-- bytes. True for each map, and for each pointer, whatever its object o and its offset x
 abbrev pub IsKeptWhole : Tagged → Type 0
 IsKeptWhole (Scalar n) = ⊥
 IsKeptWhole (Map m) = Unit {0}

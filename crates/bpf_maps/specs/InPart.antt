@@ -54,8 +54,10 @@ ValuesAreWritten =
 
 -- ---- a map changes, and its area does not
 
--- the map t after an update of a key to a value, by the verdict on this update: unchanged if it is
--- refused, with the value at the key if the map has the key, else with the key at the end
+-- the map t after an update of `key` to `value`, by the verdict on this update. Refused, for any
+-- `fault`: t is unchanged. Present, if t has the key, with the value `old`: `value` replaces `old`,
+-- and the key keeps its position. New, if t does not have the key: key and value are added after
+-- all others
 abbrev pub updated : map.Verdict (List ℕ)
     → map.Table (List ℕ)
     → List ℕ

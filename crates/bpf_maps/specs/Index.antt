@@ -7,25 +7,29 @@ use Rattle.bpf_maps.specs.declared.key_index.KeyIndex.{KeyIndex}
 use Rattle.bpf_maps.specs.declared.key_index.KeyIndex.TheVariants.{Words, Middle, Long}
 use Rattle.bpf_maps.specs.declared.hash_map.HashMap.TheInside.{Inside}
 
--- the keys of an index, each as its bytes with its element, in the order in which they were added.
--- By their size, an index stores keys as numbers (Words), or in arrays of `LONGEST_MIDDLE` bytes
--- (Middle) or of `LONGEST_LONG` (Long)
+-- the keys of the index of a hash map, each as its bytes with the number of its element, in the
+-- order in which they were added. An index is of one of three types, by the size of the map's keys:
+-- it stores them as numbers (Words), in arrays of `LONGEST_MIDDLE` bytes (Middle), or in arrays of
+-- `LONGEST_LONG` (Long). In contracts each type has `entries`, in which a key is its bytes, however
+-- it is stored
 abbrev pub entries_of : KeyIndex → List (List ℕ × ℕ)
 entries_of (Words keys) = keys.entries
 entries_of (Middle keys) = keys.entries
 entries_of (Long keys) = keys.entries
 
--- the bound of an index map, the `max_entries` of its map (`IsWellFormedHash`): each element in it
--- is less than this number. Each kind of index has it: `Words`, for keys of at most `LONGEST_WORD`
--- bytes, `Middle`, for those of at most `LONGEST_MIDDLE`, and `Long`, for longer ones
+-- the bound of the index of a hash map: the index has an element for each key, and each element is
+-- less than this number, the `max_entries` of the map (`bound` of `IsWellFormedHash`). All three
+-- kinds of index have it in a field: `Words`, for keys of at most `LONGEST_WORD` bytes, `Middle`,
+-- for longer ones of at most `LONGEST_MIDDLE`, and `Long`, for keys that are longer still
 abbrev pub bound_of : KeyIndex → ℕ
 bound_of (Words keys) = keys.bound
 bound_of (Middle keys) = keys.bound
 bound_of (Long keys) = keys.bound
 
--- keys of `size` bytes can be in the index, which each look-up, insertion and removal of a key
--- requires. Words has keys of one size, at most `LONGEST_WORD` bytes, Middle keys of at most
--- `LONGEST_MIDDLE` bytes, and Long of at most `LONGEST_LONG`, which is `LONGEST_KEY`
+-- the index can have keys of `size` bytes. Each look-up, insertion and removal of a key requires
+-- this of the key's length. In Words all keys have one size, that of the index (`keys.size`), at
+-- most `LONGEST_WORD` bytes. A key in Middle has at most `LONGEST_MIDDLE` bytes, and one in Long at
+-- most `LONGEST_LONG`, which is `LONGEST_KEY`, the length of the longest key of any map
 abbrev pub TakesKeys : KeyIndex → ℕ → Type 0
 TakesKeys (Words keys) size = size ≡ keys.size
 TakesKeys (Middle keys) size = size ≤ 64

@@ -4,7 +4,8 @@ use Rattle.bpf_maps.specs.declared.key_ref.KeyRef.{KeyRef}
 use Rattle.bpf_maps.specs.declared.key_ref.KeyRef.TheVariants.{Short, Lent}
 
 -- the bytes of a key that a map returns. A key of at most `LONGEST_WORD` bytes is returned by value
--- (Short), a longer one is borrowed from the map (Lent); `now` gives the borrowed bytes
+-- (Short), and contracts see it as its bytes. A longer one is returned as a reference to its bytes
+-- in the map (Lent), which are `bytes.now`
 abbrev pub key_bytes : KeyRef → List ℕ
 key_bytes (Short bytes) = bytes
 key_bytes (Lent bytes) = bytes.now

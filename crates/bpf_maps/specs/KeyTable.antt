@@ -61,11 +61,12 @@ pub record IsFree (t : KeyTable) (p : ℕ) : Type 0 where
 abbrev pub with_entry : KeyTable → List ℕ → ℕ → KeyTable
 with_entry t key p = record { shape = t.shape; entries = with_key key p t.entries; kept = t.kept }
 
--- what the claim of an element for `key` may return (`answer`), and the table before it (`old`) and
--- after it (`new`), by the verdict on the update of the key, the first argument. `Refused`: it
--- returns the fault. `Present`: it returns p, the key's element. Both change nothing. `New`: it
--- returns an element p that is not in use, and the key is added with p; this claim can't fail,
--- since the verdict on a full map is `Refused`
+-- the claim of an element for `key`, the first step of an update, may return `answer` and change
+-- the table from `old` to `new`. The first argument is the verdict on the update. `Refused`: the
+-- claim returns the fault, and the table is unchanged. `Present`: it returns p, the element that
+-- the key has, and the table is unchanged. `New`: it returns any element p that is not in use, and
+-- the key is added at the end, with p; the claim can't fail then (⊥), since the verdict for an
+-- absent key of a full map is `Refused`
 abbrev pub Claims : Verdict ℕ → List ℕ → KeyTable → Result ℕ MapFault → KeyTable → Type 0
 Claims (Refused fault) key old answer new = (answer ≡ Err fault) × (new ≡ old)
 Claims (Present p) key old answer new = (answer ≡ Ok p) × (new ≡ old)
@@ -80,10 +81,12 @@ with_kept t key p = record {
   kept = t.kept ++ p ∷ [];
 }
 
--- the deletion of `key` from the table `old` has the result `answer`, and `new` is the table after
--- it. The first argument is what `removal` returns for the key. If this is a fault (an absent key,
--- or an array), it is the result, and the table is unchanged. If it is the key's element p, the
--- result is no fault, the key is removed, and p is kept apart
+-- a deletion of `key` (BPF_MAP_DELETE_ELEM) from the table `old` returns `answer`, and `new` is the
+-- table after it. The first argument is what `removal` returns for the key. `Err fault`: there is
+-- nothing to delete, since the key is absent or the map is an array; the deletion returns this
+-- fault, and the table is unchanged. `Ok p`: p is the element of the key; the deletion returns Ok
+-- without a value (`tt`), and the table no longer has the key, but p is kept apart until the run
+-- ends (`with_kept`)
 abbrev pub Removes : Result ℕ MapFault
     → List ℕ
     → KeyTable

@@ -55,9 +55,11 @@ record IsWithout {A : Type 0} (k : ℕ) (xs : List (Option A)) : Type 0 where
   fewer : total (λ x. 1) slots + 1 ≡ total (λ x. 1) xs
   others : (j : ℕ) → j ≢ k → get_or slots j None ≡ get_or xs j None
 
--- if the list xs has Some at index k, this gives a list (`slots` of `IsWithout`) that has None at
--- k, equals xs at each other index, and so has one Some less. For the induction of
--- `enough_present`, which removes one of the n indices with Some in each step
+-- if the list xs has Some at index k (the argument `some`), this gives a list (`slots` of
+-- `IsWithout`) that has None at k, equals xs at each other index, and so has one Some less. The
+-- first two equations are for lists that can't have Some at k: an empty one, and for k = 0 one that
+-- begins with None. For the induction of `enough_present`, which removes one of the n indices with
+-- Some in each step
 without_option_at : {A : Type 0} (k : ℕ) (xs : List (Option A))
     → IsSome (get_or xs k None)
     → IsWithout k xs
@@ -87,8 +89,10 @@ without_option_at (suc k) (x ∷ xs) some =
     later rest zero h = refl
     later rest (suc j) h = rest.others j (λ e. h (omega arith))
 
--- if `at` gives n different indices for 0 to n - 1, and a list of options has Some at each of them,
--- at least n of its options are Some: `total` adds 1 for each Some. For `few_handles`
+-- if a list xs of options has Some at n different indices, at least n of its options are Some:
+-- `total` adds 1 for each Some. The indices are `at 0` to `at (n - 1)`; xs has Some at each
+-- (`used`), and no two are equal (`apart`). By induction on n: xs with None at index `at m` has one
+-- Some less, and Some at the m other indices. For `few_handles`
 enough_present : {A : Type 0} (n : ℕ) (at : ℕ → ℕ) (xs : List (Option A))
     → ((i : ℕ) → i < n → IsSome (get_or xs (at i) None))
     → ((i j : ℕ) → i < n → j < n → at i ≡ at j → i ≡ j)
@@ -108,8 +112,9 @@ enough_present (suc m) at xs used apart =
     (λ i j lt less e. apart i j (omega arith) (omega arith) e) in
     omega arith
 
--- the number of Some in a list of options (`total` adds 1 for each) is at most the list's length.
--- For `few_handles`
+-- the number of Some in a list xs of options is at most the length of xs: `total (λ x. 1) xs` is
+-- this number, since it adds 1 for each Some and 0 for each None. `rest` is the law for the list
+-- without its first option. `few_handles` uses it: a tenant has no more live maps than handles
 most_present : {A : Type 0} (xs : List (Option A)) → total (λ x. 1) xs ≤ length xs
 unfolding total
 most_present [] = omega arith
@@ -125,7 +130,9 @@ few_handles n handle tenant live apart =
     let few = enough_present n handle tenant.maps live apart in
     let most = most_present tenant.maps in omega arith
 
--- if the list xs has Some at index k, k is less than the length of xs. For `live_within`
+-- if the list xs has Some at index k, k is less than the length of xs. An empty list has no Some,
+-- since `get_or` gives None past the end; else k is 0, or the law is used for k - 1 and the list
+-- without its first item. For `live_within`, with a tenant's maps by handle as xs
 some_within : {A : Type 0} (k : ℕ) (xs : List (Option A))
     → IsSome (get_or xs k None)
     → k < length xs
@@ -139,8 +146,10 @@ live_within k tenant live = some_within k tenant.maps live
 
 -- ---- the lowest free handle
 
--- if two lists of options have equal lengths, and None at equal indices, the first index with None,
--- or the length if no index has None (`position_or_len`), is equal in both. For `same_lowest`
+-- if two lists of options have equal lengths (`long`), and at each index both have Some, of any
+-- values, or both have None (`same`), the first index with None, or the length if no index has None
+-- (`position_or_len`), is equal in both. In four equations only one list is empty, or only one
+-- begins with None: these contradict `long` or `same`. For `same_lowest`
 same_first_none : {A B : Type 0} (xs : List (Option A)) (ys : List (Option B))
     → length xs ≡ length ys
     → ((k : ℕ) → is_some (get_or xs k None) ≡ is_some (get_or ys k None))
@@ -170,9 +179,10 @@ pub same_free_handle : (old new : LiveMaps)
     → free_handle new ≡ free_handle old
 same_free_handle old new long same = same_lowest new.maps old.maps long same
 
--- the first index with None in a list of options (`position_or_len`) is at most k, if the list has
--- None at index k. k is less than the length, since `get_or` is None past the end too. For
--- `some_handle_free`: if some handle is free, there is a lowest free one
+-- if a list of options has None at index k (`free`), the first index with None (`position_or_len`)
+-- is at most k. That k is less than the length has to be required (`within`), since `get_or` is
+-- None past the end too. An empty list contradicts `within`; Some at index k, here zero,
+-- contradicts `free`. For `some_handle_free`: if some handle is free, there is a lowest free one
 front_most : {A : Type 0} (k : ℕ) (xs : List (Option A))
     → k < length xs
     → get_or xs k None ≡ None

@@ -18,10 +18,12 @@ use Rattle.bpf_text.specs.Lines.{text_lines}
 
 -- ---- slots and labels of lines; `None` is a line that has none of the forms
 
--- the number of slots of a line's instruction (`code`): 2 for a wide load, 1 for any other. 0 for a
--- line without an instruction: a blank one, one that defines a label, and one that has none of the
--- forms of the grammar (None). n is the name of a label, which does not matter. The sum over the
--- lines before a line is the slot of its instruction or its label
+-- the number of slots that a line of a program's text adds to the program: for an instruction
+-- (`code`) 2 if its form is a wide load, else 1. It is 0 for a line without an instruction: one
+-- that is blank, one that defines a label (`label`), and one that has none of the forms of the
+-- grammar (None). n is the name of a label, the one that is defined or the one to which the
+-- instruction jumps, and makes no difference. The sum over the lines before a line is the slot of
+-- its instruction or its label
 abbrev pub line_slots : Option Line → ℕ
 line_slots None = 0
 line_slots (Some blank) = 0

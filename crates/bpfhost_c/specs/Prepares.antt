@@ -24,9 +24,10 @@ use Rattle.bpfhost_c.specs.declared.session.Session.{Session}
 
 -- ---- the objects that descriptors are to name
 
--- the object of a descriptor that is to name a new map, from what `asked_shape` gives for the map's
--- fields: a map of the shape (Ok); None for the error with which MAP_CREATE would reject the fields
--- (Err). For such a descriptor no program is prepared (`prepare_code`)
+-- the object of a descriptor that is to name a new map, if a map can be created with the fields
+-- given for it. The argument is what `asked_shape` returns for these fields. Ok: the object is a
+-- map of this shape. Err, with the error by which MAP_CREATE rejects the fields: there is no object
+-- (None), and no program is prepared for this descriptor (`prepare_code`)
 abbrev pub map_of : Result MapShape Errno → Option Target
 map_of (Ok shape) = Some (target.Map shape)
 map_of (Err errno) = None

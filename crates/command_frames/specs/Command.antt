@@ -44,9 +44,11 @@ context_length = given_words * word_length
 abbrev pub before_packet : ℕ
 before_packet = word_length + context_length
 
--- the length in bytes of a command's last field, if the field may have different lengths: a key, a
--- key and a value (`bytes` of an update), slots, or a packet; 0 for a command that has only
--- numbers. For a parsed command it is at most `longest_frame`, as its execution requires
+-- the length in bytes of a command's last field, if its length depends on the frame: of the key, of
+-- the key and the value together (`bytes` of MAP_UPDATE), of the slots, or of the packet. It is 0
+-- for MAP_CREATE and `close`, which have only numbers. A parsed command is in a frame of at most
+-- `longest_frame` bytes, so this length is at most that too, as `reply_to_command` of `saving`
+-- requires
 abbrev pub tail_length : Command → ℕ
 tail_length (map_create kind key value max flags) = 0
 tail_length (map_lookup fd key) = length key

@@ -6,7 +6,9 @@ use Rattle.byteorder.specs.Endian.{little_bytes}
 use Rattle.command_frames.specs.Command.{Command, map_create, map_lookup, map_update, map_delete, map_next_key, prog_load, prog_test_run, close}
 use Rattle.words.specs.Context.{given_words}
 
--- the number of a command, which the head of its frame has in two bytes; the fields don't matter
+-- the number of a command, which the head of its frame has in two bytes, after the tenant; the
+-- fields of the command make no difference. It is the number in linux/bpf.h (bpf_cmd) for each
+-- command but `close`. To close a descriptor is no command of bpf(2), so 256 is this project's own
 abbrev pub command_code : Command → ℕ
 command_code (map_create kind key value max flags) = 0
 command_code (map_lookup fd key) = 1
@@ -17,12 +19,14 @@ command_code (prog_load kind slots) = 5
 command_code (prog_test_run fd words packet) = 10
 command_code (close fd) = 256
 
--- the bytes of a command's frame after the head. Numbers are little-endian, of four bytes each, but
--- the flags of an update have eight. `fd` is a descriptor, `kind` the type of a map or of a
--- program. For a new map, `key` and `value` are the sizes of a key and of a value in bytes, and
--- `max` the most entries; elsewhere `key` is the bytes of a key. For an update, `bytes` are the key
--- and then the value. For a test run, `words` are the context words without the first, which is the
--- packet's length
+-- the bytes of a command's frame after the head, which has the tenant and the command's number.
+-- Each number has four bytes, little-endian, except the flags of an update, which have eight. `fd`
+-- is a descriptor, `kind` the type of a map or of a program. For a new map, `key` and `value` are
+-- the sizes of a key and of a value in bytes, and `max` is the maximum number of entries. For a
+-- look-up, a delete and a next key, `key` is the bytes of a key; for an update, `bytes` are those
+-- of the key and then those of the value. `slots` are the bytes of a program. For a test run,
+-- `words` are the context words without the first, which is the packet's length, and `packet` is
+-- the packet's bytes
 abbrev pub body_of : Command → List ℕ
 body_of (map_create kind key value max flags) =
     little_bytes 4 kind
@@ -41,10 +45,12 @@ body_of (close fd) = little_bytes 4 fd
 abbrev pub frame_of : ℕ → Command → List ℕ
 frame_of tenant c = little_bytes 2 tenant ++ (little_bytes 2 (command_code c) ++ body_of c)
 
--- the numbers of a command fit into their fields in its frame, eight bytes for the flags of an
--- update, and four for any other number; a test run has `given_words` words of context, all but the
--- first one, which is the packet's length. Nothing is required of keys, values, slots and packets.
--- The law that a command is parsed again from its frame requires this
+-- each number of a command fits into its field in the command's frame: the flags of an update into
+-- eight bytes, and any other number, such as a descriptor `fd` or each context word of a test run
+-- (`words`), into four. A test run has `given_words` such words, since its frame has exactly that
+-- many: the words of a context without its first, the packet's length. Nothing is required of keys,
+-- values, slots and packets, which are lists of bytes. The law that a command is parsed again from
+-- its frame (`parsed_again`) requires this
 abbrev pub FitsFields : Command → Type 0
 FitsFields (map_create kind key value max flags) =
     (kind < 2 ^ 32) × (key < 2 ^ 32) × (value < 2 ^ 32) × (max < 2 ^ 32) × (flags < 2 ^ 32)

@@ -6,9 +6,10 @@ use Rattle.command_frames.specs.declared.command.Command.{Command as CodeCommand
 use Rattle.command_frames.specs.declared.command.Command.TheVariants as code
 use Rattle.command_frames.specs.Command.{Command, map_create, map_lookup, map_update, map_delete, map_next_key, prog_load, prog_test_run, close}
 
--- the `Command` by which contracts see a command of the code, which borrows its byte fields: a
--- borrowed slice (a key, a key and its value, slots, a packet) becomes the list of its bytes
--- (`now`); numbers and context words are unchanged
+-- the `Command` of the specifications that a command of the code (`CodeCommand`) represents, and by
+-- which contracts describe it. Both have equal fields, but the code borrows its byte fields: such a
+-- slice (a key; `rest`, a key and then its value; the bytes of slots; a packet) becomes the list of
+-- its bytes (`now`). Numbers and the context words of a test run (`words`) are unchanged
 abbrev pub shown_command : CodeCommand → Command
 shown_command (code.MapCreate kind key_size value_size max_entries flags) =
     map_create kind key_size value_size max_entries flags

@@ -11,21 +11,23 @@ Takes remaining old new bytes = Consumes (remaining old) (remaining new) bytes
 
 -- ---- how many calls failed
 
--- what a read with this result adds to the number of failed reads: 1 for an error; 0 for a number n
--- of bytes read, also if n is 0
+-- by how much a read with this result increases the number of failed calls of its reader: 1 if the
+-- result is an error, 0 if n bytes were read. A read of 0 bytes is no failure: the input has ended,
+-- or the buffer is empty
 abbrev pub read_failures : {E : Type 0} → Result ℕ E → ℕ
 read_failures (Ok n) = 0
 read_failures (Err e) = 1
 
--- what a write that is given `bytes` adds to the number of failed writes, if this is its result: an
--- error, or the number n of bytes taken. It adds 1 for an error, and for n = 0 if `bytes` is not
--- empty, since both end a stream; else 0, also for n = 0 if `bytes` is empty
+-- what a write adds to the number of failed writes, 1 if it counts as failed, else 0: `bytes` is
+-- what it is given to write, and its result the number n of bytes written (Ok), or an error (Err).
+-- It counts as failed if it writes no byte although `bytes` is not empty, and if it returns an
+-- error, since both end a stream; if `bytes` is empty, n = 0 is no failure
 abbrev pub write_failures : {E : Type 0} → Result ℕ E → List ℕ → ℕ
 write_failures (Ok n) bytes = if n == 0 && not (length bytes == 0) then 1 else 0
 write_failures (Err e) bytes = 1
 
--- what a flush with this result adds to the number of failed calls of its writer: 1 if the result
--- is an error, else 0
+-- the number that a flush adds to the count of its writer's failed calls, by the flush's result: 0
+-- if it succeeded (Ok, with any value), 1 if it failed (Err, with any error)
 abbrev pub flush_failures : {E T : Type 0} → Result T E → ℕ
 flush_failures (Ok x) = 0
 flush_failures (Err e) = 1

@@ -10,8 +10,9 @@ use Rattle.insn_set.specs.declared.profile.Reference.TheVariants as names
 use Rattle.insn_set.specs.Profile.{profile}
 use Rattle.insn_set.specs.Spelling.{slots}
 
--- the number of the slot to which a jump leads, from the integer that its own slot and its distance
--- give; None if that is negative. Whether the program has this slot is not tested here
+-- the slot that an integer names: for a jump, the sum of the jump's slot, 1, and the jump's
+-- distance. `pos n` is n, so it names slot n. Whether the program has this slot is not tested here.
+-- The integer `negsuc n` is -(n + 1), which is below slot 0 and names no slot: None
 abbrev pub slot_of_integer : ℤ → Option ℕ
 slot_of_integer (pos n) = Some n
 slot_of_integer (negsuc n) = None
@@ -22,8 +23,10 @@ slot_of_integer (negsuc n) = None
 abbrev pub falls_to : Insn → ℕ → ℕ
 falls_to i at = at + length (slots i)
 
--- the distance to a jump's target, in slots from the next instruction, by an instruction's
--- successors; 0 if it is no jump (`Next`, or `Nothing`, after which the program ends)
+-- the distance of an instruction's jump, in slots from the next instruction to the target, by the
+-- instruction's successors: `off` for a jump without a condition (`Jump`) and for one with a
+-- condition (`NextOrJump`). For an instruction that does not jump it is 0, which means nothing: one
+-- that only the next instruction follows (`Next`), and the exit (`Nothing`)
 abbrev pub offset_by : Successors → ℤ
 offset_by Next = pos 0
 offset_by (Jump off) = off
@@ -39,8 +42,10 @@ jump_offset i = offset_by (profile i).successors
 abbrev pub jumps_to : Insn → ℕ → Option ℕ
 jumps_to i at = slot_of_integer (pos (at + 1) +ℤ jump_offset i)
 
--- whether control may pass to the next instruction, by an instruction's successors: false for those
--- of a jump without a condition (`Jump`) and of an exit (`Nothing`)
+-- whether control may pass from an instruction to the next one, by the successors of the
+-- instruction: true if the next one is the only successor (`Next`), and for a conditional jump
+-- (`NextOrJump`); false for a jump without a condition (`Jump`) and for an exit (`Nothing`). The
+-- distance `off` of a jump makes no difference
 abbrev pub falls_by : Successors → Bool
 falls_by Next = true
 falls_by (Jump off) = false
@@ -51,9 +56,10 @@ falls_by Nothing = false
 abbrev pub falls : Insn → Bool
 falls i = falls_by (profile i).successors
 
--- whether control may pass to a jump's target, by an instruction's successors: true for a jump
--- without a condition (`Jump`) or with one (`NextOrJump`); false if only the next instruction
--- follows (`Next`), and for the exit (`Nothing`)
+-- whether control may pass from an instruction with these successors to the target of a jump: true
+-- for a jump without a condition (`Jump`) or with one (`NextOrJump`), at any distance `off`; false
+-- for an instruction after which control passes only to the next one (`Next`), and for the exit
+-- (`Nothing`). For an instruction: `jumps`
 abbrev pub jumps_by : Successors → Bool
 jumps_by Next = false
 jumps_by (Jump off) = true
@@ -82,8 +88,10 @@ jump_target i at = target_by (profile i).successors at
 abbrev pub written_register : Insn → Option ℕ
 written_register i = (profile i).written
 
--- the descriptor in what an instruction names (`Reference`): that of a map, or of the map in whose
--- first value it names a byte; None for a helper, and for nothing. For an instruction: `descriptor`
+-- the descriptor in a reference, that is, in what an instruction names outside its registers.
+-- `Nothing` and a helper (`Helper`, with its number id) have none: the result is None. A map
+-- (`Map`) has its own, and a byte of a map's first value (`Value`) has that of the map, next to the
+-- byte's offset
 abbrev pub descriptor_by : Reference → Option ℕ
 descriptor_by names.Nothing = None
 descriptor_by (names.Helper id) = None

@@ -29,7 +29,8 @@ row first second written successors reference slots =
       slots = slots;
     }
 
--- the register of an operand; None for a constant
+-- the register r of an operand; None if the operand is a constant (`Imm`). For the second operand
+-- of an operation or a comparison, and for the value that a store writes
 abbrev pub register_of : Operand → Option ℕ
 register_of (Imm n) = None
 register_of (Reg r) = Some r
@@ -40,35 +41,40 @@ abbrev pub first_operand : AluOp → ℕ → Option ℕ
 first_operand Mov dst = None
 first_operand op dst = Some dst
 
--- what a wide load names, by the value that it loads: nothing for a number; for a map, its
--- descriptor; for the address of a byte in a map's first value, the map's descriptor and the byte's
--- offset
+-- what a wide load names, by what it loads into its register. A number n names nothing. A map is
+-- named by its descriptor `fd`. The address of a byte in the first value of a map names this map,
+-- by its descriptor `fd`, and the byte, by its offset `off` in the value
 abbrev pub reference_of : WideValue → Reference
 reference_of (immediate n) = names.Nothing
 reference_of (map_ref fd) = names.Map fd
 reference_of (value_ref fd off) = names.Value fd off
 
--- the source register of an access: that of a store of a register, or of an atomic operation; None
--- for a load and for a store of a constant
+-- the source register of an access, whose value a store (`stores`) writes to memory, and an atomic
+-- operation (`changes`) combines with the bytes in memory. None for a load (`loads`), and for a
+-- store of a constant: `register_of` is None if the operand src is one. In the row of the access
+-- the source register is the second that is read
 abbrev pub stored_register : Access → Option ℕ
 stored_register (loads size signed dst) = None
 stored_register (stores size src) = register_of src
 stored_register (changes size op src) = Some src
 
--- the register into which an access loads; None for a store and for an atomic operation. Atomic
--- operations that fetch, and so would load into a register, are no instructions here
+-- the register that an access writes: for a load (`loads`) its destination dst; None for a store
+-- (`stores`) and for an atomic operation (`changes`), which write only to memory. Atomic operations
+-- that fetch the old value, and so would write a register, are no instructions here
 abbrev pub loaded_register : Access → Option ℕ
 loaded_register (loads size signed dst) = Some dst
 loaded_register (stores size src) = None
 loaded_register (changes size op src) = None
 
--- the row of an instruction, by its group (`View`): the registers that it reads as its first and
--- its second operand, the register that it writes, its successors, what it names, the number of its
--- slots. A move does not read its destination. An operator of one operand reads its source as the
--- first. The first operand of an access is its base, the second the register that is stored. An
--- exit reads register 0, the result; the row of a call has neither the arguments that it reads nor
--- the registers that it changes. An atomic operation writes no register: an `Insn` has no atomic
--- operation that fetches the old value
+-- the row of an instruction, by its group (`View`). `row` gets the registers that it reads as its
+-- first and its second operand, the register that it writes, its successors, what it names, and the
+-- number of its slots. An operator of two operands (`binary`) reads its destination dst as the
+-- first, but a move does not read it. An operator of one operand (`unary`) reads its source as the
+-- first. An access reads its base register as the first operand, and as the second the register
+-- that a store or an atomic operation has as its source. Of accesses only a load writes a register:
+-- an `Insn` has no atomic operation that fetches the old value. The row of a call has only the
+-- helper's number, neither the registers of the arguments that it reads nor those that it changes.
+-- An exit reads register 0, the result
 abbrev pub profile_of : View → Profile
 profile_of (binary wide op dst src) =
     row (first_operand op dst) (register_of src) (Some dst) to.Next names.Nothing 1

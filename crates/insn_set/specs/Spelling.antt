@@ -17,20 +17,25 @@ use Rattle.words.specs.Operate.{extended_bits, kept_bits}
 
 -- ---- the second operand, section 4: the source bit, and the field that it selects
 
--- the source bit of an operand, in the opcode of arithmetic and of a conditional jump: 0 for a
--- constant, 1 for a register. The class of a store is 2 plus this bit: ST or STX (section 3.3)
+-- the source bit that an instruction has for its source operand: 0 for a constant n, 1 for a
+-- register r. It is a bit of the opcode of arithmetic and of a conditional jump (section 4). The
+-- opcode of a store has no such bit, but its class is 2 plus this number: 2 is ST, 3 is STX
+-- (section 3.3)
 abbrev pub source_bit : Operand → ℕ
 source_bit (Imm n) = 0
 source_bit (Reg r) = 1
 
--- the source field of a slot with this operand: the number of the register, or 0 for a constant
--- (section 3.1)
+-- the source field of an instruction's first slot, by this operand, the second of arithmetic or of
+-- a conditional jump, or what a store stores: 0 if the operand is a constant (`Imm n`), which is in
+-- the immediate field, or the number r of the register (`Reg r`) (section 3.1)
 abbrev pub src_field : Operand → ℕ
 src_field (Imm n) = 0
 src_field (Reg r) = r
 
--- the immediate field of a slot with this operand: the 32 bits of the constant, in two's complement
--- (`imm_bits`); 0 for a register, whose number is in the source field (section 3.1)
+-- the immediate field of the slot of an operation, a conditional jump or a store, by its operand:
+-- the second one, or what the store writes. For a constant n it is the 32 bits of n in two's
+-- complement, as an unsigned number (`imm_bits`). For a register r it is 0, since r is in the
+-- source field (section 3.1)
 abbrev pub imm_field : Operand → ℕ
 imm_field (Imm n) = imm_bits n
 imm_field (Reg r) = 0
@@ -38,14 +43,16 @@ imm_field (Reg r) = 0
 -- ---- the grammar: one case for each form, section 4 (arithmetic, jumps) and section 5 (loads,
 -- stores, atomic operations)
 
--- an instruction's first slot: opcode, destination, source, offset and immediate; a field that is
--- not used is 0. `opcode` makes an opcode of a code, a source bit and a class: code 11 is a move, 8
--- a negation or, in class 5, a call, 9 the exit, and 0 a jump without a condition, whose distance
--- is in the offset in class 5 and in the immediate in class 6. `memory_opcode` makes one of a mode,
--- a size and a class: mode 3 is MEM, 6 ATOMIC. A sign extension has its number of bits in the
--- offset, a byte-order conversion in the immediate, an atomic operation its operator there. In a
--- wide load (0x18) the source field is 0 for a number, 1 for a map, and 2 for the address of a byte
--- in a map's first value; the immediate is the low half of the number, or the map's descriptor
+-- an instruction's first slot, by the arguments of `slot`: opcode, destination, source, offset and
+-- immediate; a field that is not used is 0. `opcode` makes an opcode from a code, a source bit and
+-- a class. Code 11 is a move, also one with sign extension, which has its number of bits in the
+-- offset; 8 is a negation or, in class 5, a call; 9 is the exit; 0 is a jump without a condition,
+-- whose distance is in the offset in class 5, in the immediate in class 6. A signed division or
+-- remainder has 1 in the offset. A byte-order conversion has its number of bits in the immediate.
+-- `memory_opcode` makes an opcode from a mode (3 is MEM, 6 is ATOMIC), a size and a class. An
+-- atomic operation has its operator in the immediate. A wide load (0x18) has source 0 for a number,
+-- whose low half is the immediate; 1 for a map, 2 for the address of a byte in a map's first value,
+-- both with the map's descriptor as immediate
 abbrev pub first : Insn → SlotFields
 first (Alu wide op dst src) =
     slot (opcode (alu_number op) (source_bit src) (alu_class wide)) dst (src_field src)
@@ -71,8 +78,10 @@ first (Const dst value) = slot 0x18 dst 0 0 (value % 2 ^ 32)
 first (MapFd dst fd) = slot 0x18 dst 1 0 (imm_bits fd)
 first (MapValue dst fd off) = slot 0x18 dst 2 0 (imm_bits fd)
 
--- an instruction's second slot, which only wide loads have (section 5.4): its immediate is the high
--- 32 bits of a number, 0 for a map, the offset in a value; its other fields are 0
+-- an instruction's second slot, in a list of one, if the instruction is a wide load (section 5.4).
+-- The immediate is the high 32 bits of a number `value`; 0 for a map; for the address of a byte in
+-- a map's first value, the byte's offset `off`. The other fields are 0. The list is empty for any
+-- other instruction (`_`), which has one slot
 abbrev pub second : Insn → List SlotFields
 second (Const dst value) = slot 0 0 0 0 (value / 2 ^ 32) ∷ []
 second (MapFd dst fd) = slot 0 0 0 0 0 ∷ []

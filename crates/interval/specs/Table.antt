@@ -129,9 +129,11 @@ abbrev pub are_alu_constants : AluOp → Range → Range → Bool
 are_alu_constants Mov a b = is_constant b
 are_alu_constants op a b = is_constant a && is_constant b
 
--- whether each operand that the operator reads is one number, so that the result is one too. a is
--- the range of the destination, b that of the source. A move and a sign extension read only the
--- source, a change of sign and a byte-order conversion only the destination, all others both
+-- whether the range of each operand that the operator reads has only one member; then the range of
+-- the result has one member too (`result_range`). a is the range of the destination, b that of the
+-- source. An operator of two operands (Binary) reads both, except a move, which reads only the
+-- source (`are_alu_constants`). A change of sign (Neg) and a byte-order conversion (End) read only
+-- the destination, a sign extension only the source
 abbrev pub are_constants : Operator → Range → Range → Bool
 are_constants (Binary op) a b = are_alu_constants op a b
 are_constants Neg a b = is_constant a

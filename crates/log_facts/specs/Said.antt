@@ -27,10 +27,11 @@ cost_line cost =
 abbrev pub refusal_line : VerifyFault → List ℕ
 refusal_line fault = refusal_text (refusal_of_program fault) ++ 10 ∷ []
 
--- the text `new` is the text `old` and then the verdict. For an accepted program (Ok) the verdict
--- is the line of the cost and the line `accepted`. For a rejected one (Err) it is the line of the
--- refusal, with the slot and the number of the reason, and then `more`: the reason in words, which
--- may be any text here
+-- the text `new` is the text `old` and, after it, the verdict that is the first argument. For an
+-- accepted program (Ok) this is the line `cost: instructions I, calls C` and the line `accepted`.
+-- For a rejected one (Err) it is the line `refused: slot S reason N`, with the slot and the number
+-- of the reason, and then a text `more`. Of `more` nothing is required; the log writes the reason
+-- in words there
 abbrev pub AddsVerdict : Result Cost VerifyFault → List ℕ → List ℕ → Type 0
 AddsVerdict (Ok cost) old new = new ≡ old ++ cost_line cost ++ accepted_line
 AddsVerdict (Err fault) old new = (more : List ℕ) × (new ≡ old ++ refusal_line fault ++ more)

@@ -7,8 +7,9 @@ use Rattle.std.proofs.lemmas.Bool.{cases_lt}
 use Rattle.std.proofs.lemmas.Nat.{pow-add, pow_pos}
 use Rattle.reg_kinds.specs.Many.{bits_in}
 
--- (x - 1) times y, and y once more, is x times y, if x is above 0 (of natural numbers, 0 - 1 is 0).
--- `ones_small` has powers of 2 for both: (2 ^ a - 1) * 2 ^ b is the mask of `a` bits from bit b on
+-- (x - 1) * y + y is x * y, for natural numbers x and y with x above 0 (`h`). For x = 0, which `h`
+-- excludes, the left side is y, since 0 - 1 is 0. In `ones_small`, x is 2 ^ a and y is 2 ^ b, and
+-- then (x - 1) * y is the mask of `a` bits from bit b on
 less_one : (x y : ℕ) → 0 < x → (x - 1) * y + y ≡ x * y
 less_one zero y h = absurd (omega arith)
 less_one (suc x) y h =

@@ -10,10 +10,12 @@ use Rattle.reg_kinds.specs.declared.facts.Facts.{Facts}
 use Rattle.reg_kinds.specs.Pointers.{offsets_hull}
 use Rattle.reg_kinds.specs.Kinds.{kind_at, slot_at, facts_of}
 
--- the join of kinds: what is known of a value that has one kind or the other. Two ranges, and two
--- ranges of offsets into values of one map, give their hull, the least range that includes both.
--- Else the join is the kind, if both are the same (of a `MaybeValue`: its map m and the slot s of
--- its look-up); otherwise it is Unreadable
+-- the join of two kinds: what is known of a value that has the one or the other. Of two numbers it
+-- has the hull of their ranges, the least range that includes both; of two pointers into values of
+-- one map (`Value`), the hull of their ranges of offsets. Of two maps, two pointers into the stack,
+-- two pointers to the context, or two results of look-ups before their null test (`MaybeValue`), it
+-- is their kind if both are the same: the same map, the same offset, or the same map and slot of
+-- the look-up. Any other two kinds have the join Unreadable: nothing is known
 abbrev pub kind_join : Kind → Kind → Kind
 kind_join (Scalar a) (Scalar b) = Scalar (hull a b)
 kind_join (MapRef m) (MapRef n) = if m == n then MapRef m else Unreadable
@@ -30,9 +32,11 @@ abbrev pub spilled : Kind → Slot
 spilled Unreadable = Bytes 0
 spilled k = Spill k
 
--- the join of what is known of a stack slot on two edges: of two masks of written bytes (`Bytes`),
--- the bytes that are written in both; of two spills (whole pointers or maps), a spill with the join
--- of their kinds, or no written byte if that is Unreadable; of a mask and a spill, no written byte
+-- the join of what is known of one stack slot on two edges that merge. `Bytes x` and `Bytes y` are
+-- masks of the written bytes; the join has the bytes that are written on both edges. `Spill j` and
+-- `Spill k`: on each edge the slot holds a pointer or a map of this kind, all eight bytes of it.
+-- The join is a spill with the join of the kinds; if that is Unreadable, no byte counts as written
+-- (`spilled`). A mask and a spill, in either order: no byte counts as written
 abbrev pub slot_join : Slot → Slot → Slot
 slot_join (Bytes x) (Bytes y) = Bytes (bit_and x y)
 slot_join (Spill j) (Spill k) = spilled (kind_join j k)

@@ -24,15 +24,18 @@ unfoldable pub any_below : ℕ → (ℕ → Bool) → Bool
 any_below zero test = false
 any_below (suc n) test = test n || any_below n test
 
--- whether a stack slot is a spill, and an access touches a byte of the slot (`touched`). A helper
--- may not read such bytes (`stack_input`), since a spill, a pointer or a map, is kept whole
+-- whether a stack slot is a spill, and an access touches one of its eight bytes (`touched`). False
+-- for a slot of bytes (`Bytes`), whatever its mask. If it is true of a slot, a helper may not read
+-- there (`stack_input`): a spill keeps a pointer or a map (of kind k) whole, and no single byte of
+-- that can be read
 abbrev pub is_touched_spill : Slot → Bool → Bool
 is_touched_spill (Bytes mask) touched = false
 is_touched_spill (Spill k) touched = touched
 
--- whether one of the bytes of a stack slot that a helper reads, those of the mask `bits`, may be
--- unwritten: it is not in `mask`, the bytes that are known to be written. False for a spill: all
--- its bytes are written, and `stack_input` rejects a read that touches a spill as PartOfSpill
+-- whether at least one of the bytes of a stack slot that a helper reads may be unwritten: `bits` is
+-- the mask of these bytes, and `mask` that of the bytes of the slot that are known to be written
+-- (`Bytes`). False for a spill: all its bytes are written, and `stack_input` has rejected any read
+-- that touches a spill before, as PartOfSpill
 abbrev pub lacks : Slot → ℕ → Bool
 lacks (Bytes mask) bits = not (bit_and mask bits == bits)
 lacks (Spill k) bits = false

@@ -40,7 +40,9 @@ number LengthUnbounded = 35
 number UnalignedAtomic = 36
 number Memory = 40
 
--- what f returns for the value, if there is one; else the reason why there is none
+-- the result of two steps, one after another, each of which may fail for a reason. If the first has
+-- a value a (Ok), the result is that of the second step, f, for a. If the first fails for a reason
+-- e (Err), the result is Err e, and f is not used
 abbrev pub and_then_ok : {A B : Type 0} → Result A Reason → (A → Result B Reason) → Result B Reason
 and_then_ok (Ok a) f = f a
 and_then_ok (Err e) f = Err e

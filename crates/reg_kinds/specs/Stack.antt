@@ -35,10 +35,12 @@ abbrev pub loaded : AccessSize → Bool → Kind
 loaded size true = Scalar (full 64)
 loaded size false = Scalar (full (8 * bytes_of size))
 
--- the kind that a load of this size from a stack slot gives. `bits` is the mask of the bytes that
--- are loaded, bit k for byte k of the slot; `signed`: the load extends the sign. A spill, of kind
--- k, is loaded only whole, by a double word, else PartOfSpill. Other bytes are loaded as a number
--- (`loaded`), and only if all of them are written (in `mask`), else UnwrittenStack
+-- the kind of the value that a load gets from a stack slot, or the reason to reject the load.
+-- `bits` is the mask of the loaded bytes, bit j for byte j of the slot; `size` is the size of the
+-- load, which extends the sign if `signed` is true. A spill is a pointer or a map of kind k, stored
+-- in all eight bytes: a load of a double word gives k, a smaller one PartOfSpill. In any other slot
+-- `mask` has the bytes that are written: a load gives a number (`loaded`) if all bytes of `bits`
+-- are in `mask`, else UnwrittenStack
 abbrev pub read_slot : Slot → ℕ → AccessSize → Bool → Result Kind Reason
 read_slot (Spill k) bits size signed = if is_double size then Ok k else Err PartOfSpill
 read_slot (Bytes mask) bits size signed =
@@ -51,9 +53,11 @@ stack_read f offset size signed =
 
 -- ---- stores
 
--- what is known of a stack slot after a write of its bytes in the mask `bits`, bit k for byte k:
--- these bytes are written, and so are those that were written before (`mask`). A spill, eight bytes
--- that hold a pointer or a map, is lost, and its other bytes count as unwritten
+-- what is known of a stack slot, the first argument, after a write to it: a store of a number, or a
+-- helper's write. `bits` is the mask of the bytes that are certainly written, bit k for byte k.
+-- These count as written, and so do those that did before (`mask`). If all eight bytes held a spill
+-- (a pointer or a map, of kind k), only those in `bits` do: the rest of the spill must not be
+-- loaded as a number
 abbrev pub bytes_over : Slot → ℕ → Slot
 bytes_over (Bytes mask) bits = Bytes (bit_or mask bits)
 bytes_over (Spill k) bits = Bytes bits

@@ -14,7 +14,9 @@ use Rattle.tenant.specs.Machine.{Answer}
 pub use Rattle.saving.specs.declared.birth.Birth.{Birth}
 pub use Rattle.saving.specs.declared.birth.Birth.TheVariants.{OfMap, OfProgram}
 
--- the descriptor at which the object of a birth was opened; that of a map may be closed since
+-- the descriptor fd at which the object of a birth was opened: a map, with this handle (`OfMap`),
+-- or a program (`OfProgram`). A program has a birth only while it is open at fd. A map may live on
+-- after its descriptor was closed, and fd may then name a later object
 abbrev pub descriptor_of : Birth → ℕ
 descriptor_of (OfMap handle fd) = fd
 descriptor_of (OfProgram fd) = fd
@@ -82,7 +84,9 @@ pub record AreBirths (s : TenantState) (births : List Birth) : Type 0 where
 
 -- ---- the births after a command
 
--- whether the object of a descriptor is a program; false for None, if the descriptor is free
+-- whether a descriptor names a program, from the object that it names; false for a map, and for
+-- None, if the descriptor is free. By `lives`, CLOSE keeps the birth of a program if, after the
+-- command, this is true of the birth's descriptor
 abbrev pub is_open_program : Option OpenObject → Bool
 is_open_program None = false
 is_open_program (Some (object.Map handle)) = false
@@ -99,17 +103,20 @@ abbrev pub with_birth : ℕ → Option OpenObject → List Birth → List Birth
 with_birth fd None births = births
 with_birth fd (Some o) births = birth_of fd o ∷ births
 
--- the births after MAP_CREATE or PROG_LOAD, from those before it, `births`, by the status of its
--- reply and the state s after it. A status fd from 0 on is the descriptor of the new object, whose
--- birth is added in front, as the latest; after a negative one, an error, the births are unchanged
+-- the births after MAP_CREATE or PROG_LOAD, from `births`, those before it, by the status of its
+-- reply and s, the tenant's state after it. `pos fd`, a status from 0 on, is the descriptor of the
+-- object that was opened: its birth is added in front, as the latest (`with_birth`). `negsuc n`, a
+-- negative status, is an error, with which no object was opened: the births are unchanged
 abbrev pub with_opened : ℤ → TenantState → List Birth → List Birth
 with_opened (pos fd) s births = with_birth fd (named s.objects fd) births
 with_opened (negsuc n) s births = births
 
--- the births after a command with result a, which has the reply's status and the state after the
--- command (`Answer`). MAP_CREATE and PROG_LOAD add the birth of the object that they opened, if
--- they succeeded. CLOSE removes the births of objects that are no longer live in this state. The
--- other commands change none
+-- the list of births, the latest first, after a command; `births` is the list before it, and a is
+-- the command's result (`Answer`), with the status of the reply and the state after the command
+-- (`a.after`). MAP_CREATE and PROG_LOAD, if they succeed, add the birth of the object that they
+-- opened (`with_opened`). CLOSE removes the births of objects that are not live in `a.after`, and
+-- keeps the others (`lives`). Every other command opens and closes no object, so the list is
+-- unchanged
 abbrev pub births_after : Command → Answer → List Birth → List Birth
 births_after (map_create kind key value max flags) a births = with_opened a.status a.after births
 births_after (prog_load kind slots) a births = with_opened a.status a.after births

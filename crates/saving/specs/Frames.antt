@@ -6,9 +6,9 @@ use Rattle.command_frames.specs.Frame.{reply_to}
 abbrev pub IsGoodReply : List ℕ → List ℕ → Type 0
 IsGoodReply frame reply = (n : ℕ) × (payload : List ℕ) × (reply ≡ reply_to frame (pos n) payload)
 
--- each frame of the first list succeeds: at its index the second list has a reply to it, and this
--- reply is no error (`IsGoodReply`). False if the lengths differ. Laws of saves state this of the
--- frames of a save and the replies to them
+-- there are as many replies as frames, and each reply is one to the frame at its index, and no
+-- error (`IsGoodReply`). True for two empty lists, false (⊥) if one list is longer. Laws of saves
+-- state this of the frames of a save, and of the replies to them of a new tenant
 abbrev pub AreGood : List (List ℕ) → List (List ℕ) → Type 0
 AreGood [] [] = Unit {0}
 AreGood (frame ∷ frames) (reply ∷ replies) = IsGoodReply frame reply × AreGood frames replies

@@ -25,10 +25,12 @@ abbrev pub IsRecorded : RecordedTenant → Type 0
 IsRecorded t =
     (part : List ℕ) → HoldsItsMaps (tenant_state part t) × AreBirths (tenant_state part t) t.births
 
--- a tenant's births after a frame, the latest first, from those before it, `births`; `a` is the
--- reply and the state after it. If the frame's bytes are a command (Ok), one that has opened an
--- object adds its birth, CLOSE removes those of objects that are no longer live, and any other
--- changes nothing (`births_after`). If they are no command (Err), the births are unchanged
+-- the births of a tenant after a frame, the latest first; a birth records at which descriptor a map
+-- was created or a program loaded. `births` are those before the frame; `a` has the status of the
+-- reply, and the state after the frame. If the frame is parsed as no command (Err), the births
+-- are unchanged. If it is parsed as a command (Ok), MAP_CREATE and PROG_LOAD add the birth of the
+-- object that they opened, if they succeeded, CLOSE removes the births of objects that are no
+-- longer live, and any other command changes none (`births_after`)
 abbrev pub births_after_frame : Result Command BadFrame → Answer → List Birth → List Birth
 births_after_frame (Err fault) a births = births
 births_after_frame (Ok command) a births = births_after command a births

@@ -36,9 +36,10 @@ abbrev pub made_map : ℕ → Option Map → List Command
 made_map fd None = []
 made_map fd (Some t) = create_of t.shape ∷ map (put_of fd) t.entries
 
--- the commands that create the program of a birth, given what its descriptor names in the state
--- that is restored: a list of one command, which loads the program's instructions. Empty if the
--- descriptor names a map or is free (None), which does not occur for the birth of a program
+-- the commands that create again, in a restored tenant, the program whose loading a birth records.
+-- The argument is what the birth's descriptor names in the state that is restored. For a program l
+-- this is one command, which loads its instructions (`load_of`). There is no command for a free
+-- descriptor (None) or a map; neither occurs, since that descriptor names a program
 abbrev pub made_program : Option OpenObject → List Command
 made_program None = []
 made_program (Some (object.Map handle)) = []

@@ -44,10 +44,11 @@ widened size false n = n
 abbrev pub number_from : AccessSize → Bool → Option (List ℕ) → Option Tagged
 number_from size signed o = option_map (λ bs. Scalar (widened size signed (number_of bs))) o
 
--- the value that a load of this size gets from byte j of a cell on. A cell of bytes gives the
--- little-endian number of the loaded bytes, sign-extended if `signed`; None, a fault, if one of
--- them is absent. A cell that keeps a pointer or a map whole (`holds`) gives it to a load of a
--- double word (j is then 0, since loads are aligned), and None to one of a smaller size
+-- the value that a load of `size` gets from a cell, from its byte j on; None if the load is a
+-- fault. A cell that keeps a pointer or a map v whole (`holds v`) gives v to a load of a double
+-- word, for which j is 0, since loads are aligned; a load of a smaller size is a fault. From a cell
+-- of bytes the load gets the little-endian number of its bytes, sign-extended if `signed` is true,
+-- else zero-extended; it is a fault if one of these bytes is absent
 abbrev pub read_cell : Cell → ℕ → AccessSize → Bool → Option Tagged
 read_cell (holds v) j Double signed = Some v
 read_cell (holds v) j _ signed = None

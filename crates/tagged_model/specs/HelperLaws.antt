@@ -86,8 +86,9 @@ PermitsAfterCall s (Some t) = IsAfterCall s t
 
 -- ---- a state and its maps
 
--- o is the map of a descriptor before a call, or None if it has no map. A call may leave it
--- unchanged: o may be what the descriptor has after the call too (`EntryAfterCall`: before, after)
+-- o is what a descriptor names: a map, or None if it names no map. If it names o before a call of a
+-- helper, it may name o after the call too, which is `EntryAfterCall o o`. For None this holds by
+-- definition; for a map t, a call may leave t as it was (`unchanged` of `MapAfterCall`)
 unchanged_entry : (o : Option RunMap) → EntryAfterCall o o
 unchanged_entry None = tt
 unchanged_entry (Some t) = unchanged
@@ -218,8 +219,10 @@ value_bytes_length value (pos y) n =
     (λ fits. length-bytes_at value y n (leb-true (y + n) (length value) fits)) (λ _. tt)
 value_bytes_length value (negsuc y) n = tt
 
--- a read of n bytes at offset y of object `number` of the map o gives n bytes, or faults; without a
--- map (o is None) it faults
+-- a read of n bytes at offset y of one value of a map gives n bytes, or it is a fault (None). o is
+-- the map, and `number` is the number that the value has in this run. If o is None, there is no
+-- map, and the read is a fault. `input_long` uses this law for a helper's read at a pointer into a
+-- value, with the map, if any, that the state has for the pointer's descriptor
 object_read_has_length : (o : Option RunMap) (number : ℕ) (y : ℤ) (n : ℕ)
     → HasLength n (and_then o (λ t. value_bytes (t.values number) y n))
 object_read_has_length None number y n = tt

@@ -11,7 +11,8 @@ unfoldable pub target_of : List Named → ℕ → Option Target
 target_of [] fd = None
 target_of (n ∷ ns) fd = if n.fd == fd then Some n.target else target_of ns fd
 
--- the shape of an object; None if there is no object, or it is no map
+-- the shape of the map that a descriptor names, from what it names: None if that is a program,
+-- which has no such shape, or if the descriptor names no object (None)
 abbrev pub shape_in : Option Target → Option MapShape
 shape_in (Some (target.Map shape)) = Some shape
 shape_in (Some target.Program) = None

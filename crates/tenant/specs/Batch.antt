@@ -45,8 +45,9 @@ RunsBatch fd before inputs room written after =
 
 -- ---- the refusals
 
--- the error of a run of what a descriptor names: `BadDescriptor` if it names nothing (None),
--- `Invalid` if it names a map; the result is None if it names a program
+-- the error of a test run or a batch because of its descriptor, by the object that the descriptor
+-- names: `BadDescriptor` if it names none (None), `Invalid` if it names a map. The result is None,
+-- no error, if it names a program: only then an error because of a packet may be returned
 abbrev pub object_refusal : Option OpenObject → Option Errno
 object_refusal None = Some BadDescriptor
 object_refusal (Some (object.Map handle)) = Some Invalid
@@ -103,11 +104,13 @@ run_weight cost = cost.instructions + CALL_WEIGHT * cost.calls
 abbrev pub allowed : ℕ → ℕ → ℕ → ℕ
 allowed bound cost packets = min packets (max 1 (bound / cost))
 
--- n is the number of packets that a batch of `packets` packets may run under `bound`, a number of
--- instructions other than 0 (`IsAllowed` has the case 0). The first argument is what the batch's
--- descriptor names. If that is a program, n is `bound` divided by the weight of a run
--- (`run_weight`, from the program's cost), rounded down, but at least 1, and at most `packets`. If
--- it is a map or nothing (None), n is `packets`, since such a batch is rejected as a whole
+-- of the `packets` packets of a batch, n may be run under `bound`, a number of instructions other
+-- than 0 (`IsAllowed` has the case 0, no bound). The first argument is what the batch's descriptor
+-- names. If that is nothing (None) or a map, n is `packets`: the bound excludes no packet, and the
+-- batch is rejected for its descriptor instead. If it is a program, n is `bound` divided by the
+-- weight of a run and rounded down, but at least 1 and at most `packets` (`allowed`). The weight
+-- (`run_weight`) is the most instructions of a run of l, plus CALL_WEIGHT for each of the most
+-- calls of helpers (`cost`, by `IsCostOf`)
 abbrev pub IsAllowedBy : Option OpenObject → ℕ → ℕ → ℕ → Type 0
 IsAllowedBy None bound packets n = n ≡ packets
 IsAllowedBy (Some (object.Map handle)) bound packets n = n ≡ packets
@@ -131,9 +134,11 @@ AreTestRuns fd (frame ∷ frames) (input ∷ inputs) =
 AreTestRuns fd [] (input ∷ inputs) = ⊥
 AreTestRuns fd (frame ∷ frames) [] = ⊥
 
--- the replies to frames of test runs that succeed, each with the result at the frame's index:
--- status 0, and the result in four bytes, little-endian. If one list is longer, its rest is left
--- out; frames (`AreTestRuns`) and results (`RunsInOrder`) of the same inputs are equally many
+-- the replies to a list of frames, if each frame is a test run that succeeds with the result that a
+-- second list has at the frame's index: each reply has status 0, and the result in four bytes,
+-- little-endian. Frames without a result, and results without a frame, give no reply. The laws of
+-- batches, which use these replies, have neither: frames (`AreTestRuns`) and results
+-- (`RunsInOrder`) are as many as the batch's inputs
 abbrev pub result_replies : List (List ℕ) → List ℕ → List (List ℕ)
 result_replies [] results = []
 result_replies (frame ∷ frames) [] = []

@@ -7,10 +7,11 @@ use Rattle.tenant.specs.declared.object.OpenObject.{OpenObject}
 use Rattle.tenant.specs.declared.object.OpenObject.TheVariants as object
 use Rattle.tenant.specs.State.{TenantState}
 
--- `cost` is what `program_cost` returns for a descriptor, by what this names (the first argument,
--- None if the descriptor is free). For a program it is the cost of the program's instructions, and
--- not None: the most instructions, and the most calls of helpers, on a path from slot 0 to an exit
--- (`IsCostOf`). For a map, and for a free descriptor, it is None
+-- `cost` is what `program_cost` returns for a descriptor, by what the descriptor names: the first
+-- argument, None if it is free. For a free descriptor, and for a map, `cost` is None. For a program
+-- it must not be None (so the third equation is false), and is the cost of the program's
+-- instructions, `l.insns` (`IsCostOf`). A cost has two numbers: the most instructions on a path
+-- from slot 0 to an exit, and the most calls of helpers on such a path, perhaps another one
 abbrev pub HasCost : Option OpenObject → Option Cost → Type 0
 HasCost None cost = cost ≡ None
 HasCost (Some (object.Map handle)) cost = cost ≡ None

@@ -6,8 +6,8 @@ use Rattle.tenant.specs.declared.object.OpenObject.{OpenObject}
 use Rattle.tenant.specs.declared.object.OpenObject.TheVariants as object
 use Rattle.tenant.specs.State.{TenantState, maps_area}
 
--- 1 for an open object that is a program, 0 for a map; its sum over a tenant's descriptors is the
--- number of those that name a program (`counts_of`)
+-- 1 for an open object that is a program, 0 for one that is a map. The sum over what a tenant's
+-- descriptors name is the number of those that name a program (`programs` in `counts_of`)
 abbrev pub one_program : OpenObject → ℕ
 one_program (object.Map handle) = 0
 one_program (object.Program l) = 1

@@ -46,8 +46,9 @@ ClearFlagMeansAlone =
 
 -- ---- the status of refused memory
 
--- whether memory may be refused to a command: to the creation of a map, hash or array, and to the
--- load of a program; to no other command
+-- whether a command takes memory, so that memory may be refused to it: the creation of a map, hash
+-- or array (`map_create`), and the load of a program (`prog_load`) do. No other command does: its
+-- result is the same whether memory is refused or not (`Answers`)
 abbrev pub takes_memory : Command → Bool
 takes_memory (map_create kind key value max flags) = true
 takes_memory (prog_load kind slots) = true

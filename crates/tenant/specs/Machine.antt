@@ -264,10 +264,12 @@ verdict_errno reason.LengthUnbounded = AccessDenied
 verdict_errno reason.UnalignedAtomic = AccessDenied
 verdict_errno reason.Memory = NoMemory
 
--- the error of a load that is rejected for this cause. Slots that are no program (`codec_errno`):
--- TooBig if there are none or too many, else Invalid. A program that is not accepted
--- (`verdict_errno`): BadDescriptor if a descriptor is not open, AccessDenied if it is unsafe or
--- writes the frame pointer, else Invalid. NoMemory for `Memory`, a refusal of memory
+-- the error of a load that is rejected for this cause. `Slots`: the slots are no program, for the
+-- codec's fault `kind`; the error is TooBig if there are none or too many, else Invalid
+-- (`codec_errno`). `Verdict`: the slots are a program that is not accepted, for the reason `why`;
+-- the error is BadDescriptor if a descriptor is not open, AccessDenied if the program is unsafe or
+-- writes the frame pointer, else Invalid (`verdict_errno`). But if `kind` or `why` is `Memory`, a
+-- refusal of memory, the error is NoMemory
 abbrev pub cause_errno : Cause → Errno
 cause_errno (cause.Slots kind) = codec_errno kind
 cause_errno (cause.Verdict why) = verdict_errno why
@@ -303,7 +305,9 @@ targets_from s fd (o ∷ os) =
 abbrev pub targets : TenantState → List Named
 targets s = targets_from s table.first_descriptor s.objects
 
--- the handle of the map that a descriptor names; None if it names a program or is not open
+-- the handle of the map that a descriptor names, from the open object of the descriptor. None if
+-- the object is a loaded program l, or if there is no object, since the descriptor is not open. By
+-- this a load finds the handles of the program's maps (`handles_from`)
 abbrev pub named_handle : Option OpenObject → Option ℕ
 named_handle (Some (object.Map handle)) = Some handle
 named_handle (Some (object.Program l)) = None

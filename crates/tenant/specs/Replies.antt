@@ -12,10 +12,12 @@ use Rattle.tenant.specs.declared.reply.Reply.TheVariants as reply
 use Rattle.tenant.specs.State.{TenantState}
 use Rattle.tenant.specs.Machine.{Answer, gives, opens, refuses, refuses_load}
 
--- the machine's result for a reply or an error of the code; s is the state after the command.
--- Value, Key and Number have status 0 and these bytes as payload (a number has four). Done has
--- status 0, Opened the new descriptor, Err the negated error number, all without payload. Refused,
--- a rejected load, has a negated error number, and as payload the slot and the cause's number
+-- what a command's result in the code, a reply (Ok) or an error (Err), is in the machine: a status,
+-- a payload, and s, the state after the command. Done has status 0 without payload. Opened has the
+-- new descriptor as status, without payload. Value, Key and Number have status 0, and as payload
+-- the bytes of the value or of the key, or the number in four bytes. Refused, a rejected load, has
+-- a negated error number as status, and as payload the slot, in four bytes, and the number of the
+-- cause, in two. An error has its negated number as status, without payload
 abbrev pub shown_reply : Result Reply Errno → TenantState → Answer
 shown_reply (Ok reply.Done) s = gives [] s
 shown_reply (Ok (reply.Opened fd)) s = opens fd s
@@ -25,11 +27,12 @@ shown_reply (Ok (reply.Number number)) s = gives (little_bytes 4 number) s
 shown_reply (Ok (reply.Refused refusal)) s = refuses_load refusal s
 shown_reply (Err errno) s = refuses errno s
 
--- what a command may return, so that its reply can be written: a new descriptor (Opened) is below
--- the end of the table, a value or a key has at most `longest_payload` bytes, and the slot for
--- which a load is refused (Refused) fits in four bytes. Nothing is required of Done, which has no
--- payload, and of a Number, which has 32 bits. An error is not BadAddress, which only a run that
--- faults would have: so no reply reports a fault
+-- the result of a command can be written as a reply, as `write_command_reply` requires. A new
+-- descriptor fd (Opened), which is the status, is less than `first_descriptor + most`. A value or a
+-- key, which is the payload, has at most `longest_payload` bytes. The slot at which a load is
+-- rejected (Refused) is less than 2 ^ 32, since the payload has four bytes for it. Nothing is
+-- required of Done, which has no payload, or of Number, which has 32 bits by its type. An error
+-- (Err) is not BadAddress, the error of a run that faults, so no reply reports a fault
 abbrev pub IsWritable : Result Reply Errno → Type 0
 IsWritable (Ok reply.Done) = Unit {0}
 IsWritable (Ok (reply.Opened fd)) = fd < first_descriptor + most

@@ -89,10 +89,11 @@ operation_layout wide dst operation.Neg =
 operation_layout wide dst (operation.End how bits) =
     sign (codes "=") ∷ space ∷ word (order_name how bits) ∷ space ∷ reg wide dst ∷ []
 
--- the tokens and spaces of the value of a wide load, and after them those of `rest`, which has the
--- space and the `ll` after the value: a number n as its token; a map as `map_fd` and its
--- descriptor; a byte of a map's value as `map_value`, the descriptor, `+` and the byte's offset.
--- The token of n or `off` has no value (None) from 2 ^ 64 on
+-- the tokens and spaces of the value that a wide load puts into its register, and then `rest`,
+-- those of what follows the value on the line: a space and `ll`. A number n is one token, as `5`. A
+-- map is `map_fd` and its descriptor fd, as `map_fd 3`. A byte of a map's value is `map_value`, the
+-- map's descriptor, `+` and the byte's offset `off`, as `map_value 3 + 4`. A descriptor has a minus
+-- if it is negative. From 2 ^ 64 on, n and `off` are None, and so are the numbers in their tokens
 abbrev pub value_layout : WideValue → TokenLayout → TokenLayout
 value_layout (value.Number n) rest = Some (number n) ∷ rest
 value_layout (value.MapFd fd) rest = word (codes "map_fd") ∷ space ∷ constant fd rest
@@ -103,8 +104,10 @@ value_layout (value.MapValue fd off) rest =
 -- the tokens and spaces of the line of a form, in the order in which they are printed: the table of
 -- the grammar. On reading, spaces are ignored (`tokens_of`). `label` is the name of the label to
 -- which the form jumps; a form without a jump, or with a jump by a number of slots, does not use
--- it. `wide`: registers are r0 to r10 (64 bits), else w0 to w10 (low 32 bits). `long`: the jump is
--- `gotol`, else `goto`. `signed`: the size of a load is written with s, as s32, else with u
+-- it. `wide`: registers are r0 to r10 (64 bits), else w0 to w10 (low 32 bits); accesses and wide
+-- loads have only r (`reg true`). `long`: the jump is `gotol`, else `goto`. `signed`: the size of a
+-- load has an s, as s32, else a u, as u32; that of a store or an atomic operation has a u (false).
+-- An atomic operation begins with `lock`, and a wide load ends with `ll`
 abbrev pub layout : Form → List ℕ → TokenLayout
 layout (form.Operation wide dst o) label = reg wide dst ∷ space ∷ operation_layout wide dst o
 layout (form.Jump long to) label = word (jump_name long) ∷ space ∷ destination to label
@@ -126,15 +129,17 @@ layout (form.WideLoad dst v) label =
 layout (form.Call id) label = word (codes "call") ∷ space ∷ constant id []
 layout form.Exit label = word (codes "exit") ∷ []
 
--- the tokens of a layout, in order, without its spaces (None): by these a line is read, since any
--- blanks may be between tokens
+-- the tokens of a layout, in order, without its spaces: an element of a layout is a token t
+-- (`Some t`) or a single space (None). A line that is read is compared with these tokens, since its
+-- blanks may differ from the spaces with which a line is printed
 abbrev pub tokens_of : TokenLayout → List Token
 tokens_of [] = []
 tokens_of (None ∷ rest) = tokens_of rest
 tokens_of (Some t ∷ rest) = t ∷ tokens_of rest
 
--- the source operand of a form is one that a line can have: a register is 0 to 10. Nothing is
--- required of a constant here: that it fits a signed field of 32 bits is required by `form_fits`
+-- a line can have this source operand, except for the range of a constant: a register r is 0 to 10.
+-- Nothing is required of a constant n, as a text may have one that is too large; `form_fits`
+-- requires that it fits a signed field of 32 bits
 abbrev pub IsSource : SourceOperand → Type 0
 IsSource (source.Number n) = Unit {0}
 IsSource (source.Reg r) = r ≤ 10
@@ -148,10 +153,11 @@ IsOperation wide (operation.SignExtend from src) = (src ≤ 10) × IsTrue (wide 
 IsOperation wide operation.Neg = Unit {0}
 IsOperation wide (operation.End how bits) = IsTrue wide
 
--- the register is 0 to 10 that a load writes, that a store stores, or that is the operand of an
--- atomic operation; nothing is required here of a stored constant. No double word is loaded with
--- sign extension (RFC 9669, section 5.2). That the base of the address is 0 to 10 is required by
--- `IsForm`
+-- a line can have this load, store or atomic operation; that its address has a base register of 0
+-- to 10 is required by `IsForm`. Load: the register `dst` that it writes is 0 to 10, and it does
+-- not load a double word with sign extension (`signed`), which no instruction does (RFC 9669,
+-- section 5.2). Store: a stored register is 0 to 10; of a stored constant nothing is required here,
+-- only by `form_fits`. Atomic: the register `src`, its operand, is 0 to 10
 abbrev pub IsAccess : Access → Type 0
 IsAccess (access.Load size signed dst) = (dst ≤ 10) × IsTrue (not (signed && is_double size))
 IsAccess (access.Store size src) = IsSource src
@@ -159,9 +165,10 @@ IsAccess (access.Atomic size op src) = src ≤ 10
 
 -- a line can have this form, except for the ranges of its numbers, which `form_fits` requires. Each
 -- register is 0 to 10: the destination or first operand `dst`, a source, and the base of an
--- address. A sign extension is from fewer bits than the register has (64 if `wide`), a byte-order
--- conversion is of 64 bits, and no double word is loaded with sign extension. Nothing is required
--- of an unconditional jump, a call and an exit (`_`), which have no register.
+-- address. If an operation has registers of 32 bits, as `w1` (`wide` is false), it is neither a
+-- sign extension from 32 bits nor a byte-order conversion, which has only names such as `r1`
+-- (`IsOperation`). A load of a double word has no sign extension (`IsAccess`). An unconditional
+-- jump, a call and an exit (`_`) have no register, so nothing is required of them.
 abbrev pub IsForm : Form → Type 0
 IsForm (form.Operation wide dst o) = (dst ≤ 10) × IsOperation wide o
 IsForm (form.Branch wide cond dst src to) = (dst ≤ 10) × IsSource src
@@ -174,9 +181,10 @@ abbrev pub to_label : JumpTarget → Bool
 to_label (target.Number n) = false
 to_label target.Label = true
 
--- whether the form is a jump or a conditional jump whose target is a label, not a number; false for
--- every other form. If true, the line has the name of the label next to its form, and some line of
--- the text must define this label; if false, the name is empty
+-- whether a line of this form names a label: the form is a jump (`Jump`) or a conditional jump
+-- (`Branch`), and its target is a label, not a number of slots. False for every other form, since
+-- none has a target. If true, the line has the name of the label next to its form, and the
+-- assembler requires that some line of the text defines this label; if false, the name is empty
 abbrev pub names_label : Form → Bool
 names_label (form.Jump long to) = to_label to
 names_label (form.Branch wide cond dst src to) = to_label to

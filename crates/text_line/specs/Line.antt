@@ -11,9 +11,10 @@ pub data Line : Type 0 where
   label : List ℕ → Line
   code : Form → List ℕ → Line
 
--- the tokens of a line: none of a blank line; of a label, its name and `:`; of an instruction,
--- those of the layout of its form, with n for the name of the label to which it jumps, if the form
--- names one
+-- the tokens of a line, in order; the bytes of a text are read as this line only if they have these
+-- tokens (`IsLine`). A blank line has none. The definition of the label n has the name n and `:`.
+-- An instruction has those of the layout of its form, without the spaces. Here n is the name of the
+-- label to which it jumps; a form that names no label does not use n
 abbrev pub line_tokens : Line → List Token
 line_tokens blank = []
 line_tokens (label n) = name n ∷ symbol (codes ":") ∷ []

@@ -34,8 +34,9 @@ offset_fits n = is_at_most (if n.negative then 32768 else 32767) n.magnitude
 abbrev pub next_imm_fits : Option ℕ → Bool
 next_imm_fits n = is_at_most 4294967295 n
 
--- an operand, as it is written, fits its field: a constant is -2 ^ 31 to 2 ^ 31 - 1, the range of a
--- signed field of 32 bits; for a register the result is true, since it has no constant
+-- whether a second operand, or what a store writes, fits its field, as it is written. A constant n
+-- does if it is -2 ^ 31 to 2 ^ 31 - 1, the range of a signed field of 32 bits. For a register the
+-- result is true: it has no constant, and `IsSource` requires that it is one of 0 to 10
 abbrev pub source_fits : SourceOperand → Bool
 source_fits (source.Number n) = imm_fits n
 source_fits (source.Reg r) = true
@@ -46,11 +47,13 @@ abbrev pub target_fits : Bool → JumpTarget → Bool
 target_fits long (target.Number n) = if long then imm_fits n else offset_fits n
 target_fits long target.Label = true
 
--- each number of a form is in the range of its field: 32 bits, signed, for a constant operand, a
--- descriptor, a helper's number, and the distance of a long jump; 16 bits, signed, for any other
--- distance and for the offset of an access; 32 bits, unsigned, for the offset in a map's value. A
--- 64-bit constant is in range if it has a value: a number of 2 ^ 64 or more has none (None). A
--- negation, a sign extension, a byte-order conversion and an exit have no number.
+-- whether each number of a form is in the range of its field: 32 bits, signed, for a constant
+-- operand, a descriptor, a helper's number, and the distance of a long jump; 16 bits, signed, for
+-- any other distance and for the offset of an access; 32 bits, unsigned, for the offset in a map's
+-- value. A label is no number, so it fits. The constant of a wide load fits unless it is 2 ^ 64 or
+-- more (None). The last equation is for a negation, a sign extension, a byte-order conversion and
+-- an exit, which have no number to test: the bits of an extension or a conversion are part of a
+-- name, as `s32` or `le64`
 abbrev pub form_fits : Form → Bool
 form_fits (form.Operation wide dst (operation.Binary op src)) = source_fits src
 form_fits (form.Jump long to) = target_fits long to
@@ -75,8 +78,9 @@ is_zero (Some n) = n == 0
 abbrev pub normal : Number → Number
 normal n = record { negative = n.negative && not (is_zero n.magnitude); magnitude = n.magnitude }
 
--- the second operand without the minus of a constant -0; any other constant, and a register, is
--- unchanged. An instruction has no -0, so its operand is written without this minus
+-- the source operand of a form, with a constant -0 replaced by 0 (`normal`); any other constant,
+-- and a register, is unchanged. A line may have -0, but no instruction has one: in that to which
+-- the line assembles, the constant is 0
 abbrev pub normal_source : SourceOperand → SourceOperand
 normal_source (source.Number n) = source.Number (normal n)
 normal_source (source.Reg r) = source.Reg r
@@ -85,10 +89,12 @@ normal_source (source.Reg r) = source.Reg r
 abbrev pub normal_address : Address → Address
 normal_address at = record { base = at.base; offset = normal at.offset }
 
--- the form with 0 for each number -0, which a text may have and a printed instruction has not. A
--- jump and a conditional jump are unchanged here: `resolved` changes them by equations of its own,
--- since it replaces their labels too. No other form without an equation here has a number with a
--- sign, and the offset `off` in a map's value has no sign
+-- the form with 0 for each number -0, which a text may have and a printed instruction has not. In
+-- the order of the equations, this changes a constant operand of an operation; a constant that is
+-- stored; the offset of any access; the descriptor of a wide load, but not the offset `off` in a
+-- map's value, which has no sign; and the number of a called helper. All other forms are unchanged
+-- (last equation). A jump and a conditional jump are not changed here, since `resolved` changes
+-- their numbers and labels together. The others have no number that may be -0
 abbrev pub normal_form : Form → Form
 normal_form (form.Operation wide dst (operation.Binary op src)) =
     form.Operation wide dst (operation.Binary op (normal_source src))

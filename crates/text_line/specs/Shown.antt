@@ -4,9 +4,11 @@ use Rattle.text_line.specs.declared.form.Line.{Line as CodeLine}
 use Rattle.text_line.specs.declared.form.Line.TheVariants as written
 use Rattle.text_line.specs.Line.{Line, blank, label, code as instruction}
 
--- the line of the definitions (`Line`) that a parsed line of the code (`CodeLine`) represents: a
--- blank line, the definition of the label n, or an instruction of form f, with the label n to which
--- it jumps (n is empty if f names none). `n.now` are the bytes of the name, which the code borrows
+-- the line of the definitions (`Line`) that a parsed line of the code (`CodeLine`) represents.
+-- `Blank`: a line without a label or an instruction. `Label`: a line that defines the label n.
+-- `Code`: an instruction of form f; n is the name of the label to which it jumps, and is empty if f
+-- names none. The code borrows n from the text; `n.now` are its bytes. The contract of `read_line`
+-- converts the result of the code so, to compare it with the definitions
 abbrev pub seen_line : CodeLine → Line
 seen_line written.Blank = blank
 seen_line (written.Label n) = label n.now

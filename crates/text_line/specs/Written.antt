@@ -19,15 +19,18 @@ use Rattle.text_line.specs.declared.form.Form.TheVariants as form
 use Rattle.text_line.specs.Token.{Token, name, number, symbol}
 use Rattle.text_line.specs.Form.{TokenLayout, layout}
 
--- a number as it is written, with a minus only if it is negative; `negsuc n` is -(n + 1). Here the
--- magnitude is always `Some`; it is None only in a line that is read, for 2 ^ 64 or more
+-- an integer as the number that is written for it, with a minus (`negative`) only if it is less
+-- than 0. `pos n` is n, and `negsuc n` is -(n + 1), with the magnitude n + 1. `Number` has an
+-- option as its magnitude, since a number that is read from a text may be 2 ^ 64 or more (None);
+-- for an integer it is always `Some`
 abbrev pub number_of : ℤ → Number
 number_of (pos n) = record { negative = false; magnitude = Some n }
 number_of (negsuc n) = record { negative = true; magnitude = Some (suc n) }
 
--- the second operand of an operation or a comparison, or what a store writes, as it is written: a
--- constant z as its number, with a minus if it is negative, or a register r. Whether r is written
--- as 64 bits (`r1`) or their low half (`w1`) is not in it, but in the form of the instruction
+-- the second operand of an operation or a comparison, or the value that a store writes, as a part
+-- of a line: a constant z as its number, with a minus if it is negative, or a register as its
+-- number r. Which name of the register the line has, as `r1` for its 64 bits or `w1` for its low
+-- 32, is not in this part: that depends on the form of the whole line
 abbrev pub source_of : Operand → SourceOperand
 source_of (Imm z) = source.Number (number_of z)
 source_of (Reg r) = source.Reg r
@@ -36,12 +39,14 @@ source_of (Reg r) = source.Reg r
 abbrev pub address_of : ℕ → ℤ → Address
 address_of base off = record { base = base; offset = number_of off }
 
--- the form of the line that is printed for an instruction. The target of a jump is its distance in
--- slots, a number, never a label. The Boolean of an operation and of a branch is true if registers
--- have their names of 64 bits, as `r1`, and false if they have those of 32, as `w1`; a byte-order
--- conversion has only `r1`. The Boolean of `form.Jump` is true for `gotol`, false for `goto`. A
--- 64-bit constant, and an offset in a map's value, are `Some`: `None` is only a number of 2 ^ 64 or
--- more in a text
+-- the form of the line that is printed for an instruction. `wide` is true if registers are named
+-- `r0` to `r10`, false if they are named `w0` to `w10`, for their low 32 bits. A byte-order
+-- conversion names an `r` register (true), however many bits it keeps (`bits`). The target of a
+-- jump is a number, the distance `off` in slots from the next slot, and never a label; the Boolean
+-- of `form.Jump` is true for `gotol`, false for `goto`. A load, a store and an atomic operation
+-- have an address: the base register, `src` of a load and `dst` of the others, and an offset in
+-- bytes. Wide loads are last: their constant n, and their offset `off` in a map's value, are
+-- `Some`. None, for a number of 2 ^ 64 or more, is only in a line that is read
 abbrev pub written : Insn → Form
 written (Alu wide op dst src) = form.Operation wide dst (operation.Binary op (source_of src))
 written (Movsx m) = form.Operation m.wide m.dst (operation.SignExtend m.bits m.src)
@@ -61,9 +66,10 @@ written (Const dst n) = form.WideLoad dst (value.Number (Some n))
 written (MapFd dst fd) = form.WideLoad dst (value.MapFd (number_of fd))
 written (MapValue dst fd off) = form.WideLoad dst (value.MapValue (number_of fd) (Some off))
 
--- the bytes of a token in a printed line: those of a name or symbol are its own, those of a number
--- its decimal digits. A number of 2 ^ 64 or more, which has no value (None), gets no bytes; no
--- printed line has such a number
+-- the bytes that are printed for a token of a line: for a name n or a symbol s, these bytes
+-- themselves; for a number with a value n (Some), its decimal digits. A number without a value
+-- (None) is 2 ^ 64 or more: a text may have one, but no printed line has, so its bytes ([]) do not
+-- matter
 abbrev pub lexeme : Token → List ℕ
 lexeme (name n) = n
 lexeme (number (Some n)) = decimal n

@@ -110,20 +110,24 @@ abbrev pub of_scalars : Bool → Operator → Kind → Kind → Result Kind Reas
 of_scalars wide op (Scalar a) (Scalar b) = Ok (Scalar (range_of (width wide) op a b))
 of_scalars wide op a b = Err PointerArithmetic
 
--- the kind of a 64-bit sum: of two numbers a number; of a pointer and a number, in either order,
--- the pointer moved forwards. PointerArithmetic if neither operand is a number, the pointer is
--- neither to the stack nor into a value, or a number that is no constant moves a stack pointer.
--- OffsetTooLarge if the offset may then be too far from 0, or the number may have either sign
+-- the kind of a 64-bit sum, by the kinds of its operands. Of two numbers (Scalar) it is a number,
+-- of the range that `of_scalars` gives. Of a number and a pointer, in either order, it is the
+-- pointer moved forwards by the number (`pointer_moved`). PointerArithmetic if neither operand is a
+-- number, if the other one is no pointer to the stack or into a value, or if it is one to the stack
+-- and the number is no constant. OffsetTooLarge if the pointer's new offset may be over
+-- `farthest_offset` bytes from 0, or if the number, read as signed, may have either sign
 abbrev pub sum_kind : Kind → Kind → Result Kind Reason
 sum_kind (Scalar a) (Scalar b) = of_scalars true (Binary alu.Add) (Scalar a) (Scalar b)
 sum_kind (Scalar a) b = pointer_moved Forwards b a
 sum_kind a (Scalar b) = pointer_moved Forwards a b
 sum_kind a b = Err PointerArithmetic
 
--- the kind of a - b in 64 bits, for operands of kinds a and b: of two numbers, or of a pointer that
--- b, a number, moves backwards (`pointer_moved`). PointerArithmetic unless b is a number, and a is
--- a number, a pointer into a value or, if b is a constant, into the stack. For a pointer,
--- OffsetTooLarge if its new offset may be over `farthest_offset` from 0, or b may have either sign
+-- the kind of the 64-bit difference of two operands of these kinds, the first less the second. Two
+-- numbers give a number. A number less anything else is PointerArithmetic. Anything else less a
+-- number, of range b, is a pointer that the number moves backwards: PointerArithmetic unless the
+-- first operand points into a value or, if b is one number, to the stack; OffsetTooLarge if the new
+-- offset may be more than `farthest_offset` from 0, or if b has numbers of both signs. If neither
+-- is a number, PointerArithmetic
 abbrev pub difference_kind : Kind → Kind → Result Kind Reason
 difference_kind (Scalar a) (Scalar b) = of_scalars true (Binary alu.Sub) (Scalar a) (Scalar b)
 difference_kind (Scalar a) b = Err PointerArithmetic

@@ -60,9 +60,10 @@ assigns f dst r = and_then_ok r (λ k. falls (with_kind f dst k))
 
 -- ---- memory
 
--- whether a word of the context begins at this offset in bytes: the offset is a multiple of 4, not
--- negative, and below the end of the `context_words` words, each of four bytes. A load from the
--- context has to load one whole word
+-- whether a word of the context, four bytes, begins at this offset, in bytes from the start of the
+-- context. For an offset y from 0 on (`pos y`): y is a multiple of 4, and below the end of the
+-- `context_words` words. It is false for a negative offset (`negsuc y`, which is -(y + 1)). A load
+-- from the context has to load one whole word
 abbrev pub is_word : ℤ → Bool
 is_word (pos y) = (y % 4 == 0) && nat_lt y (4 * context_words)
 is_word (negsuc y) = false

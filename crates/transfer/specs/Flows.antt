@@ -8,11 +8,13 @@ use Rattle.transfer.specs.declared.branches.Flow.TheVariants.{Ends, Falls, Write
 use Rattle.reg_kinds.specs.Stack.{ChangesAtMost}
 use Rattle.transfer.specs.Branches.{Edges, with_pair, settled_edges}
 
--- the edges that a flow means, each with its facts, or None if it can't be taken; f are the facts
--- as `apply` has changed them. WritesSlot and Writes mean the edge of Falls; the stack slots that
--- they name are for `KeepsStack`. Compares has for each edge the ranges of dst and src, or None.
--- Settles is a null test, which settles the look-up at `site` on both edges: the jump is taken if
--- the result is null (`jumps_on_null` is true), or if it is not null (false)
+-- the edges out of an instruction with this flow, each with its facts, or None if control can't
+-- take it; f are the facts as `apply` has changed them. Ends has no edge. Falls, WritesSlot and
+-- Writes have only the falling edge, with f; which stack slots may have changed (slot i, or any)
+-- matters only to `KeepsStack`. Jumps has only the jumping edge, Either has both, with f. Compares
+-- has for each edge None or two ranges, which dst and src, if it is a register, get in f
+-- (`with_pair`). Settles is a null test, which settles the look-up at slot `site` on both edges:
+-- the jump is taken if the result is null (`jumps_on_null` is true), or if it is not (false)
 abbrev pub edges_of : Flow → Facts → Edges
 edges_of Ends f = record { falling = None; jumping = None }
 edges_of Falls f = record { falling = Some f; jumping = None }

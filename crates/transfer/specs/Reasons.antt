@@ -29,9 +29,11 @@ IsSafetyReason NoDirectValue = ⊥
 IsSafetyReason Memory = ⊥
 IsSafetyReason reason = Unit {0}
 
--- what an instruction names is a helper, by a number that no helper has. The helpers are those of
--- `known_helpers`: map look-up, update and delete, and the load of packet bytes. False if it names
--- a map, a value of a map or nothing. The reason UnknownHelper applies only to such instructions
+-- an instruction calls a helper by a number `id` that no helper has; the argument is what the
+-- instruction names. The helpers are those of `known_helpers`: map look-up, update and delete, and
+-- the load of packet bytes. This is false if the instruction names nothing, a map, or a byte of a
+-- map's first value, since it is no call then. An instruction is rejected for UnknownHelper only if
+-- this is true (`IsReasonFor`)
 abbrev pub IsUnknownHelper : Reference → Type 0
 IsUnknownHelper names.Nothing = ⊥
 IsUnknownHelper (names.Helper id) = helper_of id ≡ None

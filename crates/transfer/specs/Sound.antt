@@ -48,10 +48,12 @@ pub record AreWellFormedAt (n : ℕ) (f : Facts) : Type 0 where
 
 -- ---- the edge that a step takes
 
--- whether an instruction, by its group (`View` of `insn_set`), jumps in this state: an
--- unconditional jump does; a conditional jump does if its condition holds for register `dst` and
--- the operand `src`; no other group does. A condition that can't be computed, on an empty register,
--- or on a pointer or a map except in a null test, does not count as true: the step is a fault then
+-- whether an instruction, given as its group (`View` of `insn_set`), takes the edge to its jump's
+-- target in state s. An unconditional jump (`jump`) does. A conditional jump (`branch`) does if its
+-- condition `cond` holds for register `dst` and the operand `src`, a register or a constant, on 64
+-- bits (`wide`) or 32. If an operand is an empty register, or a pointer or a map outside a null
+-- test, the condition has no value; the result is false, and the step is a fault. An instruction of
+-- any other group has no jump, so the result is false
 abbrev pub jumps_in : View → RunState → Bool
 jumps_in (jump off) s = true
 jumps_in (branch wide cond dst src off) s =

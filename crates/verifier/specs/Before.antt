@@ -14,9 +14,10 @@ use Rattle.transfer.specs.Branches.{Edges}
 use Rattle.transfer.specs.Effects.{effect}
 use Rattle.verifier.specs.Shape.{falls_into, jumps_into}
 
--- the join of the facts that two sources pass on to one slot; each is an edge, a group of edges, or
--- the entry of the program. None is no facts, if no edge of the source leads to the slot and can be
--- taken; the result is then the other argument
+-- the facts before a slot that two sources of facts give together; a source is an edge, a group of
+-- edges, or the entry of the program. The arguments are what each source gives: None if no edge of
+-- the source leads to the slot and can be taken, and from the entry if the slot is not slot 0. If
+-- one is None, the result is the other; if both have facts, it is their join (`facts_join`)
 abbrev pub joined : Option Facts → Option Facts → Option Facts
 joined None g = g
 joined (Some f) None = Some f

@@ -29,8 +29,10 @@ IsPath code at (i ∷ is) =
 
 -- ---- what is counted
 
--- whether what an instruction names (`Reference`) is a helper, and not a map, a byte of a map's
--- first value, or nothing. Only a call names a helper, so calls are counted by this
+-- whether a reference, which is what an instruction names outside its registers, is a helper
+-- (`Helper`, with its number id). It is none if the instruction names nothing (`Nothing`), a map
+-- (`Map`), or a byte of a map's first value (`Value`). Each call names a helper, and no other
+-- instruction does, so `is_call` recognizes calls by this
 abbrev pub is_helper : Reference → Bool
 is_helper names.Nothing = false
 is_helper (names.Helper id) = true

@@ -59,8 +59,9 @@ is_reachable code i = reached_from code i i
 
 -- ---- the faults of an instruction
 
--- an instruction names a helper by a number that no helper here has: one other than 1, 2, 3 and 26
--- (`known_helpers`). False if it names a map, a byte of a map's value, or nothing
+-- whether what an instruction names is an unknown helper: a helper of which the number `id` is none
+-- of 1, 2, 3 and 26, the numbers of `known_helpers`. A call of one is the fault `UnknownHelper`.
+-- False for an instruction that names nothing, a map, or a byte of a map's value
 abbrev pub names_unknown_helper : Reference → Bool
 names_unknown_helper names.Nothing = false
 names_unknown_helper (names.Helper id) = not (is_some (helper_of id))

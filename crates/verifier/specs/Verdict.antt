@@ -16,8 +16,9 @@ use Rattle.verifier.specs.Shape.{structure_fault}
 use Rattle.verifier.specs.Before.{facts_before}
 use Rattle.verifier.specs.Maps.{shapes_of}
 
--- the reason why an instruction may not be run, from the result of the transfer function; None if
--- it may be run
+-- the reason why an instruction may not be run, from what the transfer function (`effect`) gives
+-- for it and the facts before it: the reason of an error (`Err`). None if it may be run (`Ok`); the
+-- facts on its edges make no difference
 abbrev pub reason_of : Result Edges Reason → Option Reason
 reason_of (Ok edges) = None
 reason_of (Err reason) = Some reason

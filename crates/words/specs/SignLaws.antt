@@ -15,8 +15,9 @@ pub signed_high : (n : ℕ) → 2 ^ 63 ≤ n → signed 64 n ≡ pos n -ℤ pos 
 signed_high n h =
     cond-false (nat_lt n (2 ^ 63)) (pos n) (pos n -ℤ pos (2 ^ 64)) (le-ltb n (2 ^ 63) h)
 
--- `unsigned 64 z`, which is z modulo 2 ^ 64, is a word, below 2 ^ 64, for each integer z, also one
--- that no word of 64 bits can represent
+-- `unsigned 64 z`, which is z modulo 2 ^ 64, is less than 2 ^ 64 for each integer z, from 0 on
+-- (`pos m`) or negative (`negsuc m`), also if 64 bits can't represent z. For `widened_is` of
+-- `abstraction`: a number that a load has sign-extended is a word of 64 bits
 pub unsigned_small : (z : ℤ) → unsigned 64 z < 2 ^ 64
 unsigned_small (pos m) = omega arith
 unsigned_small (negsuc m) = omega arith

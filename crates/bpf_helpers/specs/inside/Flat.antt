@@ -55,9 +55,9 @@ flat_look_up site map key = option_map (key_word site) (key_named site map key)
 
 -- ---- an update
 
--- the word that an update of a map returns, by the result of its claim of an element for the key: 0
--- if an element was claimed, whichever it is; else the kernel's number of the fault (`errno`),
--- negated modulo 2 ^ 64
+-- the word that an update of a map returns in register 0, by the result of the claim of an element
+-- for its key: 0 if an element was claimed (Ok), whatever its number is; if the claim failed (Err),
+-- the kernel's number of the fault (`errno`), negated modulo 2 ^ 64: 2 ^ 64 - 7 for TooBig
 abbrev pub claim_word : Result ℕ MapFault → ℕ
 claim_word (Ok element) = 0
 claim_word (Err fault) = negative (errno fault)
@@ -92,8 +92,9 @@ UpdatesNamed site (Some pair) flags answer = Updates site pair flags answer
 
 -- ---- a deletion
 
--- the word that a call of the helper bpf_map_delete_elem returns, by the outcome of the deletion: 0
--- if the key was deleted, or for a fault the number of its error, negated modulo 2 ^ 64
+-- the word that a call of the helper bpf_map_delete_elem returns for a key of a map, by the outcome
+-- of the deletion: 0 if the key was deleted (Ok), else the error of the fault (Err), negated modulo
+-- 2 ^ 64: -ENOENT if the map does not have the key, -EINVAL if the map is an array
 abbrev pub removal_word : Result (Unit {0}) MapFault → ℕ
 removal_word (Ok done) = 0
 removal_word (Err fault) = negative (errno fault)

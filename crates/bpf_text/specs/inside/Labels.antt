@@ -116,8 +116,9 @@ abbrev pub IsNoneOrWellFormed : Option Line → Type 0
 IsNoneOrWellFormed None = Unit {0}
 IsNoneOrWellFormed (Some line) = IsWellFormed line
 
--- the name, in bytes, of the label that a line defines. The result is None if the line is blank, if
--- it is an instruction, which may name a label but defines none, or if it was not parsed (None)
+-- the name, as a list of bytes, of the label that a line of a text defines, as `done` of `done:`.
+-- The result is None if the line was not parsed (None), if it is blank, or if it is an instruction,
+-- which defines no label: its n is the name of the label to which it jumps, empty if there is none
 abbrev pub defined_label : Option Line → Option (List ℕ)
 defined_label None = None
 defined_label (Some blank) = None

@@ -13,9 +13,11 @@ use Rattle.host.specs.declared.program.failure.Failure.{Failure}
 use Rattle.host.specs.declared.program.failure.Failure.TheVariants.{WrongArguments, MapArgument, Truncated}
 use Rattle.host.specs.declared.program.failure.Failure.TheVariants.{TooManyFrames, TooLong, Line, Slot, Read, Write, Seed, Memory}
 
--- The exit status after a failure: 1 if the input is rejected (a stream ends inside a frame or has
--- too many frames, the input is too long, a line or slot has a fault), 2 if arguments are wrong, 3
--- if a call of input or output failed or `serve` has no seed for hash maps, 4 if out of memory.
+-- The exit status of the program, by the failure with which it ends; the numbers in the failure are
+-- only for its fault line. 1: the input is rejected. That of `serve` ends inside a frame
+-- (`Truncated`) or has too many frames, another input is too long, or a line or a slot has a fault.
+-- 2: arguments are wrong. 3: a call to read the input or to write the output failed, or `serve` has
+-- no random seed for its hash maps (`Seed`). 4: out of memory.
 abbrev pub exit_status : Failure → ℕ
 exit_status (Truncated frames) = 1
 exit_status TooManyFrames = 1

@@ -18,10 +18,11 @@ use Rattle.insn_codec.specs.declared.opcode.SourceBit.TheVariants.{Imm, Reg}
 use Rattle.insn_codec.specs.inside.OpcodeForm.{OpcodeForm}
 use Rattle.insn_codec.specs.inside.OpcodeForm as form
 
--- whether some opcode has this form; `read_operation` requires it. A signed division or remainder
--- (`alu_offset` is 1) has none: its opcode has the form of the unsigned one, and the offset field
--- makes it signed (section 4.1). A load of a double word that extends the sign (`signed`) has none:
--- there is no such instruction (section 5.2). Each other form has an opcode
+-- whether some opcode has this form; `read_operation` requires it of a form of arithmetic. No
+-- opcode has the form of a signed division or remainder (`alu_offset` is 1, not 0): in a slot,
+-- these have the opcode of the unsigned operator, and the offset field makes it signed (section
+-- 4.1). No opcode has the form of a load of a double word that extends the sign (`signed`), since
+-- there is no such instruction (section 5.2). Every other form has an opcode
 abbrev pub is_form : OpcodeForm → Bool
 is_form (form.Alu wide op source) = alu_offset op == 0
 is_form (form.Load size signed) = not (signed && is_double size)
@@ -126,13 +127,15 @@ offset_listed wide Mov Reg offset =
     offset == 0 || offset == 8 || offset == 16 || (wide && offset == 32)
 offset_listed wide op source offset = offset == 0
 
--- whether each field of a first slot has a value that its form allows; otherwise the fault is
--- `Reserved`. An unused field is 0 (section 3.1). An operator's offset is 0, 1 for signed division
--- or remainder, or 8, 16 or (on 64 bits) 32 for a move that extends the sign. The immediate of a
--- byte-order conversion is 16, 32 or 64, of an atomic operation 0x00, 0x40, 0x50 or 0xa0. A used
--- register is not tested here: above 10 it has a fault of its own, `Register`. This project's own
--- choice: of calls only those of helpers by number (src 0), of wide loads only those of numbers,
--- maps and values of maps (src 0 to 2), of atomic operations only those without a fetch
+-- whether each field of a first slot s has a value that its form allows; if not, the fault is
+-- `Reserved`. A field that the form does not use is 0 (section 3.1); of the source register and the
+-- immediate, `source` says which is used (`one_operand`). The offset of an operation (`Alu`) is 0;
+-- or 1, by which a division or a remainder is signed; or 8, 16 or (on 64 bits) 32, by which a move
+-- of a register extends the sign. The immediate of a byte-order conversion is 16, 32 or 64, that of
+-- an atomic operation 0x00, 0x40, 0x50 or 0xa0. A register that is used is not tested here: above
+-- 10 it has a fault of its own, `Register`. This project's own choice: of calls only those of
+-- helpers by number (src 0), of wide loads only those of numbers, maps and values of maps (src 0 to
+-- 2), of atomic operations only those without a fetch
 abbrev pub fields_allowed : OpcodeForm → SlotFields → Bool
 fields_allowed (form.Alu wide op source) s =
     one_operand source s && offset_listed wide op source s.offset

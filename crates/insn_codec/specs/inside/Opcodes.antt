@@ -9,11 +9,13 @@ use Rattle.insn_set.specs.Load.{load_opcode}
 use Rattle.insn_set.specs.Condition.{condition_number}
 use Rattle.insn_codec.specs.Spelled.{source_number}
 
--- the opcode that has a form, by `opcode` from a code, a source bit and a class, or by
--- `memory_opcode` from a mode, a size and a class. Codes: 0 a jump without condition, 8 a negation
--- or a call, 9 the exit; classes: 2 a store of a constant, 3 of a register or an atomic operation,
--- 5 JMP, 6 JMP32; modes: 3 MEM, 6 ATOMIC; 0x18 is the wide load. Of a form that no opcode has
--- (`is_form` is false) the result means nothing. Readers as `read_operation` require this opcode
+-- the opcode of instructions of this form, computed by `opcode` from a code, a source bit and a
+-- class, or by `memory_opcode` from a mode, a size and a class. Codes: 0 a jump without a
+-- condition, 8 a negation or, in class JMP, a call, 9 the exit. Classes: 5 JMP, 6 JMP32, 2 a store
+-- of a constant, 3 a store of a register or an atomic operation. Modes: 3 MEM, 6 ATOMIC. 0x18 is
+-- the wide load. If `is_form` is false, no opcode has the form, and the result means nothing.
+-- Functions that read one form, as `read_operation` of `by_class.rt`, require that the slot has
+-- this opcode
 abbrev pub opcode_of : OpcodeForm → ℕ
 opcode_of (form.Alu wide op s) = opcode (alu_number op) (source_number s) (alu_class wide)
 opcode_of (form.Neg wide) = opcode 8 0 (alu_class wide)

@@ -15,8 +15,10 @@ pub record IsMapOf (k : KeptTenant) (fd handle : ℕ) : Type 0 where
   pub live : IsSome (live_at k.live handle)
   pub within : handle < most_maps
 
--- the error of a command that requires a map, by what its descriptor names: EBADF (`BadDescriptor`)
--- if the descriptor is not open (None), EINVAL (`Invalid`) for a program; no error (None) for a map
+-- the error of a command that requires a map, as a look-up does, by what the command's descriptor
+-- names. If the descriptor is not open (the argument is None), it is EBADF (`BadDescriptor`); if it
+-- names a program, EINVAL (`Invalid`). If it names a map, by its handle, there is no error: the
+-- result is None
 abbrev pub map_fault : Option OpenObject → Option Errno
 map_fault None = Some BadDescriptor
 map_fault (Some (object.Program l)) = Some Invalid

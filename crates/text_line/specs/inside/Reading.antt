@@ -85,25 +85,27 @@ registers =
 
 -- ---- one token
 
--- the bytes of the first token, if it is a symbol, and the tokens after it; `None` if it is a name
--- or a number, or if the list is empty
+-- the bytes t of the first token, if it is a symbol, as `+=` or `(`, and the tokens ts after it;
+-- `None` if the first token is a name or a number, or if the list is empty
 abbrev pub leading_symbol : List Token → Option (List ℕ × List Token)
 leading_symbol [] = None
 leading_symbol (name n ∷ ts) = None
 leading_symbol (number v ∷ ts) = None
 leading_symbol (symbol t ∷ ts) = Some (t, ts)
 
--- the bytes of the first token, if it is a name, and the tokens after it; `None` if it is no name,
--- or if there are no tokens
+-- the bytes n of the first token, if it is a name, and the tokens ts after it; `None` if the first
+-- token is a number or a symbol, or if there are no tokens. Names are words as `goto` or `u32`,
+-- registers as `r1`, and labels
 abbrev pub leading_name : List Token → Option (List ℕ × List Token)
 leading_name [] = None
 leading_name (name n ∷ ts) = Some (n, ts)
 leading_name (number v ∷ ts) = None
 leading_name (symbol t ∷ ts) = None
 
--- the value of the first token, if it is a number, and the tokens after it; `None` if the list is
--- empty or begins with another token, as with a sign, which is a symbol. The value is an option
--- too: `None` if the number is 2 ^ 64 or more
+-- the value v of the first token, if that is a number, and the tokens after it. The result is
+-- `None` if there are no tokens, or if the first one is a name or a symbol; a minus or a plus is a
+-- symbol, so the tokens of `-5` give `None`. The value is itself an option: v is `None` if the
+-- number is 2 ^ 64 or more
 abbrev pub leading_number : List Token → Option (Option ℕ × List Token)
 leading_number [] = None
 leading_number (name n ∷ ts) = None

@@ -5,9 +5,9 @@ use Rattle.text_line.specs.declared.token.Token.{Token as CodeToken}
 use Rattle.text_line.specs.declared.token.Token.TheVariants as code
 use Rattle.text_line.specs.Token.{Token, name, number, symbol}
 
--- the token of the specifications that a token of the code (`CodeToken`) represents. It has the
--- bytes of a name or a symbol, which the code borrows from the line (`now`), or the value of a
--- number, None from 2 ^ 64 on
+-- the token of the specifications (`Token`) that a token of the code (`CodeToken`) represents. A
+-- name or a symbol, which the code borrows from the line, becomes the list of its bytes (`now`). A
+-- number has an equal v in both: its value, or None if that is 2 ^ 64 or more
 abbrev pub shown : CodeToken → Token
 shown (code.Name n) = name n.now
 shown (code.Number v) = number v

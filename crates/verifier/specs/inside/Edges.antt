@@ -11,15 +11,17 @@ use Rattle.verifier.specs.declared.fault.VerifyFault.{VerifyFault}
 use Rattle.verifier.specs.Verdict.{reason_of}
 
 -- the facts on the falling edge out of an instruction, which leads to the next one, from the result
--- of the transfer function (`effect`). None if the instruction may not be run (Err), has no such
--- edge, as an exit and an unconditional jump, or never takes it, as a comparison that always holds
+-- of the transfer function (`effect`). None if that is a reason for which the instruction may not
+-- be run (Err). If it may be run (Ok), None for an exit and an unconditional jump, which have no
+-- falling edge, and for a conditional jump that is always taken if the facts before it hold
 abbrev pub falling_of : Result Edges Reason → Option Facts
 falling_of (Err reason) = None
 falling_of (Ok edges) = edges.falling
 
--- the facts on the jumping edge out of an instruction, from the result of the transfer function.
--- None if the instruction is no jump, if the jump is never taken, or if the instruction may not be
--- run: then the result is the reason (Err)
+-- the facts on the jumping edge out of an instruction, which leads to the target of a jump. The
+-- argument is the result of the transfer function (`effect`). None if that is the reason why the
+-- instruction may not be run (Err), if the instruction is no jump, or if the jump is never taken,
+-- as a comparison that never holds
 abbrev pub jumping_of : Result Edges Reason → Option Facts
 jumping_of (Err reason) = None
 jumping_of (Ok edges) = edges.jumping

@@ -193,12 +193,14 @@ falls_settled site jumps_on_null n x = settled site (not jumps_on_null) (8 * n +
 abbrev pub jumps_settled : ℕ → Bool → ℕ → NumberedFacts → NumberedFacts
 jumps_settled site jumps_on_null n x = settled site jumps_on_null (8 * n + 4) x
 
--- the facts on the falling edge out of an instruction; None if control never takes this edge. x has
--- the facts after the instruction that hold on each of its edges. The flow, from the transfer
--- function, adds what holds on only one. After a comparison (`Compares`) the operands have the
--- ranges `falls`; None if `falls` is None. After a null test (`Settles`) the look-up at `site` is
--- not null if the test jumps on null (`jumps_on_null`), else null, and all groups of eight stack
--- slots have the new number `fresh`. `Ends` and `Jumps` have no falling edge; other flows keep x
+-- the facts on the falling edge out of an instruction, from x, those after it that hold on each of
+-- its edges, and its flow, which has what the transfer function adds on only one edge. None if
+-- control never takes this edge: the run ends (`Ends`), control only jumps (`Jumps`), or a
+-- comparison always jumps (`falls` is None). Any other comparison (`Compares`) gives the registers
+-- among its operands the ranges `falls`, that of dst first. A null test (`Settles`) of the look-up
+-- at slot `site` falls if the result is not null (`jumps_on_null` is true) or if it is null
+-- (false), and so adds that; it gives all groups of eight stack slots the new number `fresh`. After
+-- any other flow the edge has x: what `WritesSlot` and `Writes` change has its new number in x
 abbrev pub on_falling_edge : Flow → ℕ → NumberedFacts → Option NumberedFacts
 on_falling_edge Ends fresh x = None
 on_falling_edge Falls fresh x = Some x
@@ -210,12 +212,14 @@ on_falling_edge (Compares dst src falls jumps) fresh x = option_map (with_ranges
 on_falling_edge (Settles site jumps_on_null) fresh x =
     Some (settled site (not jumps_on_null) fresh x)
 
--- the facts on the jumping edge out of an instruction, from those after it that hold on both edges
--- (x). None if this edge is never taken: the run ends (`Ends`), control only falls (`Falls`,
--- `WritesSlot`, `Writes`), or a comparison can't hold (`jumps` is None). A comparison adds the
--- ranges `jumps` of its operands, that of dst first. A null test of the look-up at `site` jumps if
--- the result is null (`jumps_on_null` is true) or if it is not (false), and so adds that; it gives
--- all groups of eight stack slots the new number `fresh`
+-- the facts on the jumping edge out of an instruction, the one to the target of its jump; None if
+-- control never takes this edge. x has the facts after the instruction that hold on each of its
+-- edges. The flow, from the transfer function, adds what holds on only one. `Ends` has no edge;
+-- `Falls`, `WritesSlot` and `Writes` have only the falling edge. `Jumps` and `Either` keep x. After
+-- a comparison (`Compares`) the operands have the ranges `jumps`, that of dst first (`falls` is for
+-- the other edge); None if `jumps` is None, since the comparison can't hold. After a null test
+-- (`Settles`) the result of the look-up at `site` is null if the test jumps on null
+-- (`jumps_on_null`), else not null, and all groups of eight stack slots have the new number `fresh`
 abbrev pub on_jumping_edge : Flow → ℕ → NumberedFacts → Option NumberedFacts
 on_jumping_edge Ends fresh x = None
 on_jumping_edge Falls fresh x = None

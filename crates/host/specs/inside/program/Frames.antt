@@ -7,9 +7,10 @@ use Rattle.host_core.specs.State.{TenantState}
 use Rattle.host.specs.declared.program.failure.Failure.{Failure}
 use Rattle.host.specs.program.Statuses.{stream_failure}
 
--- what `serve_frames` returns, from the result of `serve_new_host`. If that served the stream to
--- its end (Ok), it is Ok without the number of frames (`count`). If a fault ended the stream (Err),
--- it is the failure of the program for this fault
+-- the result of `serve_frames`, from that of `serve_new_host`, which it calls. `Ok count`: the
+-- stream was served to its end, and `count` frames got replies; `serve_frames` returns Ok without
+-- this number. `Err fault`: the stream was not served to its end, because of `fault`;
+-- `serve_frames` returns the failure of the program for this fault (`stream_failure`)
 abbrev pub stream_end : Result ℕ ServeFault → Result (Unit {0}) Failure
 stream_end (Ok count) = Ok tt
 stream_end (Err fault) = Err (stream_failure fault)

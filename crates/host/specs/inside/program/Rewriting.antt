@@ -102,12 +102,13 @@ pub record ReadsWholeInput (before after : Option (List ℕ)) (input : List ℕ)
   pub read : Consumes before after input
   pub end : IsAtEnd after
 
--- the input could not be read, for this failure: `TooLong`, after `LONGEST_INPUT` + 1 bytes were
--- consumed, one more than allowed; `Read`, after at most `LONGEST_INPUT` bytes, since a call of the
--- reader failed; `Memory`, before any byte was consumed. At `TooLong` and at `Memory` no call
--- failed. No other failure is one of reading (⊥). `before` and `after` are the bytes that the
+-- the reading of the input ended with this failure. `before` and `after` are the bytes that the
 -- reader has left before and after the reading, None if they are not known; `failures_before` and
--- `failures_after` are how many of the reader's calls have failed before and after the reading
+-- `failures_after` are how many of the reader's calls have failed before and after it. `TooLong`:
+-- `LONGEST_INPUT` + 1 bytes were consumed, one more than allowed, and no call failed. `Read`: a
+-- call failed, after at most `LONGEST_INPUT` bytes were consumed. `Memory`: memory was refused
+-- before the first call, so no byte was consumed, and no call failed. With any other failure no
+-- reading ends (⊥)
 abbrev pub HasNoInput : Failure → Option (List ℕ) → Option (List ℕ) → ℕ → ℕ → Type 0
 HasNoInput TooLong before after failures_before failures_after =
     ((bytes : List ℕ) × (length bytes ≡ LONGEST_INPUT + 1) × Consumes before after bytes)

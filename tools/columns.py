@@ -1,4 +1,5 @@
-"""Lines of definitions above 100 columns, and of proofs above 160; of the latter 5 in 100 may be above 120. A `use` has at most 160."""
+"""Lines of definitions and contracts above 100 columns, and of proofs above 160; of the latter 5 in 100 may be above 120. A `use` has at
+most 160."""
 
 from __future__ import annotations
 
@@ -9,6 +10,8 @@ MOST = 100
 # Of proofs: the most columns of a line, those of most lines, and how many of a hundred may have more.
 MOST_OF_PROOFS, OF_MOST, ABOVE = 160, 120, 5
 USE = re.compile(r"\s*(?:pub |ghost )?use ")
+# The first line of a clause of a contract: up to its closing brace its lines are counted.
+CLAUSE = re.compile(r"\s*(?:requires|ensures|invariant|decreases)\b")
 MOST_OF_USE = 160
 
 
@@ -17,6 +20,17 @@ def too_wide(name: str, text: str, most: int = MOST) -> list[str]:
     return wide_uses(name, text) + [
         f"{name}:{number}: {len(line)} columns, and {most} are the most: a line for each premise, or a name for what repeats"
         for number, line in enumerate(text.splitlines(), 1) if len(line) > most and not USE.match(line)]
+
+
+def wide_contracts(name: str, text: str) -> list[str]:
+    """The faults of a file of code: lines of contracts that are too long."""
+    faults, open_braces = [], 0
+    for number, line in enumerate(text.splitlines(), 1):
+        if open_braces or CLAUSE.match(line):
+            open_braces += line.count("{") - line.count("}")
+            if len(line) > MOST:
+                faults.append(f"{name}:{number}: {len(line)} columns, and a contract has {MOST} at most")
+    return faults
 
 
 def wide_uses(name: str, text: str) -> list[str]:

@@ -239,7 +239,8 @@ impl Maps {
         requires length { length part.old ≡ PART }
         ensures less { without_area_at self.new map ≡ one_less (without_area_at self.old map) }
         ensures stays { 1 < references_at self.old map → IsSome (live_at self.new map) }
-        ensures shape { 1 < references_at self.old map → shape_at self.new map ≡ shape_at self.old map }
+        ensures shape { 1 < references_at self.old map
+            → shape_at self.new map ≡ shape_at self.old map }
         ensures gone { references_at self.old map ≤ 1 → live_at self.new map ≡ None }
         ensures others { (other : ℕ) → other ≢ map → without_area_at self.new other
             ≡ without_area_at self.old other }

@@ -31,7 +31,8 @@ const SOCKET_FILTER: u32 = 1;
 fn hold_all(maps: &mut Maps, held: &[MapKey])
     requires live { AreHeld maps.old }
     requires there { AreLive maps.old held.now }
-    requires few { (handle : ℕ) → references_at maps.old handle + times_listed handle held.now < 2 ^ 32 }
+    requires few { (handle : ℕ)
+        → references_at maps.old handle + times_listed handle held.now < 2 ^ 32 }
     ensures held { IsHeldMore maps.old maps.new }
     ensures holds { (handle : ℕ) → references_at maps.new handle
         ≡ references_at maps.old handle + times_listed handle held.now }

@@ -79,7 +79,8 @@ pub(crate) fn judge<S: Source, O: Sink>(
     ensures done { IfOk result (λ refusal. WritesWholeOutput (IsJudgementLine maps.now refusal)
         (streams S.remaining S.failures O.contents O.failures reader.old writer.old)
         (streams S.remaining S.failures O.contents O.failures reader.new writer.new)) }
-    ensures fault { IfErr result (λ failure. StopsRewriting (IsLineOfAnyVerdict maps.now) IsUnreadable
+    ensures fault { IfErr result (λ failure.
+        StopsRewriting (IsLineOfAnyVerdict maps.now) IsUnreadable
         (streams S.remaining S.failures O.contents O.failures reader.old writer.old)
         (streams S.remaining S.failures O.contents O.failures reader.new writer.new)
         failure) }

@@ -33,9 +33,10 @@ pub fn stack_input_admits()
     ensures { StackInputAdmits }
 {}
 
-/// A law, for helpers that write to the stack. If facts admit a state in range (`IsInRange`), and allow a write of `lo` to `hi` bytes at an
-/// offset of the stack (`stack_filled`), then a write of any bytes there, at least `lo` and at most `hi` of them, is no fault. The facts
-/// after the write, which `stack_filled` gives, admit the state after the write by the same witness, and this state is in range.
+/// A law, for helpers that write to the stack. A state is in range (`IsInRange`) if its bytes are below 256, and its context has
+/// `context_words` words of 32 bits. If facts admit such a state, and allow a write of `lo` to `hi` bytes at an offset of the stack
+/// (`stack_filled`), then a write of any bytes there, at least `lo` and at most `hi` of them, is no fault. The facts after the write, which
+/// `stack_filled` gives, admit the state after the write by the same witness, and this state is in range.
 pub fn stack_output_admits()
     ensures { StackOutputAdmits }
 {}
@@ -63,8 +64,8 @@ pub fn value_load_admits()
 {}
 
 /// A law: if all bytes of a store lie in one value of a map, which may be that of a deleted key, and a number is stored, the store is no
-/// fault. Facts that describe the state before the store also describe the state after it (`Describes`: they admit it, its numbers are in
-/// range, and it has the maps of the given shapes). The slot of the next instruction (`at`) is unchanged.
+/// fault. Facts that describe the state before the store by a witness (`Describes`: they admit it, its numbers are in range, and its maps
+/// have their shapes) also describe the state after it, by the same witness. The slot of the next instruction (`at`) is unchanged.
 pub fn value_store_admits()
     ensures { ValueStoreAdmits }
 {}
@@ -86,11 +87,11 @@ pub fn map_change_admits()
     ensures { MapChangeAdmits }
 {}
 
-/// A law of the return from a helper, which the law `calls_are_sound` of `transfer` needs: if facts describe a state by a witness
-/// (`Describes`), and by this witness a value is of some kind (`IsOfKind`), the facts after the call describe the state after a call that
-/// returns this value. The return changes only registers: register 0 gets the value, in facts its kind, and registers 1 to 5 become empty,
-/// in facts unreadable. What the helper has written to the stack or changed in a map is in the state and the facts before the return; other
-/// laws are about that.
+/// A law of the return from a helper, which the law `calls_are_sound` of `transfer` needs. Let facts describe a state by a witness: they
+/// admit it, its numbers are in range, and it has a map of the given shape for each descriptor with a shape (`Describes`). If the helper
+/// returns a value that is of some kind by this witness (`IsOfKind`), the facts after the call describe the state after it. The return
+/// changes only registers: register 0 gets the value, in facts its kind, and registers 1 to 5 become empty, in facts unreadable. What the
+/// helper has written to the stack or changed in a map is in the state and the facts before the return; other laws are about that.
 pub fn call_admits()
     ensures { CallAdmits }
 {}

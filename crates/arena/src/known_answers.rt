@@ -22,8 +22,10 @@ fn number_stored_and_loaded(alloc: Global) -> Result<(), AllocError> {
     Ok(())
 }
 
-/// In an arena of 32 bytes, `load_inside` loads what `store_inside` has stored: the eight bytes of a number, or only the last of them,
-/// which is its high byte. A store of two bytes stores the low two of its number. The bytes after them remain zero, as in a new arena.
+/// In an arena of two parts of 16 bytes, which begins at the address `BASE`, `load_inside` loads what `store_inside` has stored: the eight
+/// bytes of a number, or only the last of them, which is its high byte. Neither tests the address, since the bytes are proved to lie in the
+/// arena. A store of two bytes stores the low two of its number. The bytes after them remain zero, as in a new arena. `AllocError`: memory
+/// for the arena is refused.
 fn number_stored_and_loaded_inside(alloc: Global) -> Result<(), AllocError> {
     let mut arena = Arena::new(alloc, 2, 16)?;
     let mut trace = Trace::new();
@@ -38,9 +40,9 @@ fn number_stored_and_loaded_inside(alloc: Global) -> Result<(), AllocError> {
     Ok(())
 }
 
-/// An arena of two parts, 32 bytes in all, begins at the address `BASE`. If the eight bytes from `address` on do not all lie in the arena,
-/// a load or a store of these bytes, and a copy to or from them, give `None`. For any other `address` the function returns before these
-/// calls. `AllocError`: memory for the arena is refused.
+/// An arena of two parts of 16 bytes begins at the address `BASE`. If the eight bytes from `address` on do not all lie in the arena, a load
+/// of them, a store of the number 1 in them, and a copy to them from the bytes at `BASE`, or back, give `None`. For any other `address`
+/// the function returns before these calls. `AllocError`: memory for the arena is refused.
 fn accesses_outside(alloc: Global, address: u64) -> Result<(), AllocError> {
     let mut arena = Arena::new(alloc, 2, 16)?;
     let mut trace = Trace::new();
@@ -58,9 +60,10 @@ fn accesses_outside(alloc: Global, address: u64) -> Result<(), AllocError> {
     Ok(())
 }
 
-/// Overlapping ranges are copied like memmove: four bytes to the next higher address, then three bytes to an address lower by two. The
-/// first argument of `copy` is the address to which it writes, and the second is the address from which it reads. `AllocError`: memory for
-/// the arena is refused.
+/// In an arena of one part of 16 bytes, of which `BASE` is the first address, overlapping ranges are copied like memmove: four bytes to the
+/// next higher address, then three bytes to an address lower by two. The arguments of `copy` are the address to which it writes, the
+/// address from which it reads, and the number of bytes; the second argument of `store` and `load` is their number of bytes. `Some(())`:
+/// all bytes lie in the arena. `AllocError`: memory for the arena is refused.
 fn overlapping_copies(alloc: Global) -> Result<(), AllocError> {
     let mut arena = Arena::new(alloc, 1, 16)?;
     let mut trace = Trace::new();

@@ -21,9 +21,10 @@ pub fn writes_are_in_parts()
     ensures { WritesAreInParts }
 {}
 
-/// A load within a part returns the number that the loaded bytes of the part make, little-endian. A store within a part writes the low
-/// bytes of the number, and a copy from one range of a part to another range of this part writes the copied bytes; nothing else in this
-/// part changes, and no other part.
+/// A law: an access at addresses within one part is one in the bytes of this part, and never `None`. A load returns the number that the
+/// loaded bytes of the part make, little-endian. A store writes the low bytes of its number, and a copy from one range of the part to
+/// another writes the copied bytes; nothing else in the part changes, and no other part. The callers in `contract_clients.rt` need this:
+/// with it, public contracts suffice to prove what an access does to a tenant's part.
 pub fn accesses_are_in_parts()
     ensures { AccessesAreInParts }
 {}

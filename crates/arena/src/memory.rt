@@ -71,8 +71,9 @@ fn offset(memory_size: usize, size: usize, address: u64) -> Option<usize>
 impl Arena {
     ghost use Rattle.arena.specs.Lending.{LendsPart};
 
-    /// Creates `parts` parts of `part_size` zero bytes each: at least one part of at least one byte, at most 2^28 bytes in all, so that the
-    /// low 32 bits of an address are its offset in the memory (`BASE`).
+    /// Creates an arena of `parts` parts of `part_size` zero bytes each; both are at least 1. `size` bounds the bytes, so that no address
+    /// of a run wraps, and the low 32 bits of an address are its offset in the memory, which begins at the address `BASE`. The bound is a
+    /// round number above what a host of the most tenants needs.
     ///
     /// # Errors
     ///
@@ -92,7 +93,9 @@ impl Arena {
         })
     }
 
-    /// Returns the memory and leaves an empty one without parts in `self`, for a caller that works on the returned one and puts it back.
+    /// Returns the memory and leaves an empty one without parts in `self`; the caller puts the memory back. A run works on the memory in a
+    /// variable of its own, so that its address stays in a machine register: from the variable that the host lends, LLVM would read the
+    /// address again at each load and store. To lend the memory to a call that is not inlined, the run moves it into another variable.
     #[inline(always)]
     pub fn take(&mut self) -> Arena
         ensures taken { result ≡ self.old }

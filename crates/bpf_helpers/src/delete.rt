@@ -13,11 +13,12 @@ use arena::{Arena, Trace};
 use bpf_maps::{Maps, laws};
 use tagged_model::MapFault;
 
-/// bpf_map_delete_elem (3): deletes a key, and returns 0. `map` is the position of the map among those of the run, counted from 1, and
-/// `key` the address of the key. With an error nothing changes, and it returns the error's number, negated: ENOENT if the map doesn't have
-/// the key; EINVAL if the map is an array, if there is no such map, or if the key's bytes don't lie in the tenant's part (`deleted`). The
-/// trace gets only ranges in this part (`asks`). The tenant of the caller has to have a part in the arena (`part`), and the maps that are
-/// bound to the run have to be live (`live`).
+/// bpf_map_delete_elem (3): deletes a key, whose element is then kept apart, and returns 0. `map` is the position, counted from 1, of the
+/// map among those that are bound to the run, and `key` the address of the key. `caller` has the run's tenant and, in `bind`, the handles
+/// of these maps. With an error nothing changes, and the result is the error's number, negated, as a word: ENOENT if the map doesn't have
+/// the key; EINVAL if the map is an array, if there is no such map, or if the key's bytes don't lie in the tenant's part (`deleted`). In
+/// the contract, `site_of` is the inputs of the call as one record, not the slot of a look-up. The trace gets only ranges in the part, and
+/// no step (`asks`). The tenant has a part in the arena (`part`), and the bound maps are live (`live`).
 pub(crate) fn delete(
     map: u64,
     key: u64,

@@ -8,7 +8,7 @@ ghost use Rattle.bpf_helpers.specs.inside.Laws.{ReturnsKeepSimulation};
 
 /// The laws of the memory and of maps on which the proofs of `call` and `call_in_run` depend, as one contract (`LawsBelow`). Bytes written
 /// in a part change no other part. A map of elements and the map of their values return the same and change alike. The value of an element
-/// keeps its offset if the areas are unchanged. A deletion frees no element.
+/// keeps its offset if the areas are unchanged. A deletion in a run frees no element: that of the deleted key is kept apart.
 pub(crate) fn call_premises()
     ensures { LawsBelow }
 {
@@ -18,9 +18,9 @@ pub(crate) fn call_premises()
     bpf_maps::laws::deletes_keep_elements();
 }
 
-/// If words and bytes represent a state (`Simulates`), and the tagged machine loads a value in this state, the bytes at the address of the
-/// load lie in the tenant's part. The word that they make, widened to 64 bits as the load requires (with the sign or with zeros),
-/// represents the value. So the loads of an accepted program need no bounds check.
+/// A law. Suppose that words and bytes represent a state (`Simulates`), in a part of the size for runs, and that the tagged machine loads a
+/// value in this state. Then the bytes at the address of the load lie in the tenant's part. The word that they make, widened to 64 bits as
+/// the load requires (with the sign or with zeros), represents the value. So the loads of an accepted program need no bounds check.
 pub fn loads_give_words()
     ensures { LoadsGiveWords }
 {}
@@ -36,20 +36,20 @@ pub fn stores_keep_simulation()
 }
 
 /// If words and bytes represent a state (`Simulates`), and the tagged machine's call of a helper in this state is no fault, the words of
-/// registers 1 to 5 name all that the helper needs (`NamesAll`): a map that is bound to the run and bytes of the part for a key, for an
-/// update also bytes for a value; or, for a load of packet bytes, the bytes of the part to which it writes. The part has `PART` bytes, in a
-/// memory of at most 2^28 (`IsRoom`). So the calls of an accepted program need no test of these words. The body calls a law that the proof
-/// needs.
+/// registers 1 to 5 name all that the helper needs (`NamesAll`): a map that is bound to the run and bytes of the tenant's part for a key,
+/// for an update also bytes for a value; or, for a load of packet bytes, the bytes of the part to which it writes. By `IsRoom` each part
+/// has `PART` bytes, and all together have so few that no address wraps. So the calls of an accepted program need no test of these words.
+/// The body calls a law that the proof needs.
 pub fn calls_name_all()
     ensures { CallsNameAll }
 {
     arena::laws::writes_stay_inside();
 }
 
-/// If words and bytes represent a state (`Simulates`), in a part of the size for runs, the address of each object (the stack, the context
-/// or a value of a map) is at least 2^32, and at most 2^32 + 2^28. So it is neither near null nor near 2^64: the word of a pointer, at most
-/// `farthest_offset` bytes from this address, is never 0 and does not wrap. The proof that a step of `flat_machine` simulates one of the
-/// tagged machine needs this.
+/// If words and bytes represent a state (`Simulates`), in a part of `PART` bytes of an arena of at most 2^28 bytes (`IsRoom`), the address
+/// of each object (the stack, the context or a value of a map) is at least 2^32, and at most 2^32 + 2^28. So it is neither near null nor
+/// near 2^64: the word of a pointer, at most `farthest_offset` bytes from this address, is never 0 and does not wrap. The proof that a step
+/// of `flat_machine` simulates one of the tagged machine needs this.
 pub fn object_addresses_are_bounded()
     ensures { ObjectAddressesAreBounded }
 {}

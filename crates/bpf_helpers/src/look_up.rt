@@ -160,10 +160,11 @@ pub(crate) fn look_up(
 /// bpf_map_lookup_elem (1) in a run that knows its arrays: returns what `look_up` returns (`value`), the address of the key's value, or 0
 /// if the map does not have the key, if there is no such map, or if the key's bytes do not lie in the tenant's part. `map` is 1 for the
 /// first of the run's maps, which are live (`live`) and have their handles in `bind` of `caller`; `key` is the address of the key. `arrays`
-/// has the `Elements` of each of these maps and the address of its first value, so the value of a key is found in an array without reading
-/// the map. If the count of the `Elements` is 0, as for a hash map, `look_up` reads the map. By `few` the run has at most `MAPS` maps, and
-/// each list of `arrays` has `MAPS` words, so it has one for each map. The trace gets only address ranges in the tenant's part, and no step
-/// (`asks`).
+/// has for each of these maps the address of its first value and, as one word, its `Elements`: their count and the distance from one value
+/// to the next, so the value of a key is found in an array without reading the map. A hash map has the count 0, and `look_up` reads it. By
+/// `few` the run has at most `MAPS` maps, and each list of `arrays` has `MAPS` words, so it has one for each map. `site_of` is the record
+/// of all inputs of the call but its two words, not the site of a look-up. The trace gets only address ranges in the tenant's part, and no
+/// step (`asks`).
 #[inline(always)]
 pub(crate) fn look_up_among(
     arrays: Arrays<'_>,

@@ -56,9 +56,10 @@ pub(crate) fn refusal(fault: MapFault) -> u64
 
 /// Stores a value under a key of a live map, and returns 0. If that fails, nothing changes, and it returns the error's number, negated. The
 /// key and the value are at the offsets `at` of the tenant's part, of `PART` bytes (`part`). Both lie in it (`key`, `value`), as `update`
-/// has tested and the caller of `update_inside` knows, so the value is copied without a test. `flags` are those of bpf(2). `updated`: the
-/// result, and the memory and live maps afterwards (`answers`), are those of an update (`Updates`) with the call's inputs (`site_of`) and
-/// with the key and value at these offsets (`pair_there`). `asks`: the trace gets only ranges in the part, and no step.
+/// has tested and `update_inside` requires, so the value is copied without a test. `flags` are those of bpf(2). `caller` is the run that
+/// calls the helper: the number of its tenant, the handles of its maps, and its packet. `updated`: the result, and the memory and live maps
+/// afterwards (`answers`), are those of an update (`Updates`) with these inputs, the memory and the live maps (`site_of`), and with the key
+/// and value at these offsets (`pair_there`). `asks`: the trace gets only ranges in the part, and no step.
 fn put(
     map: MapKey,
     at: Offsets,
@@ -93,11 +94,12 @@ fn put(
     }
 }
 
-/// bpf_map_update_elem (2): stores a value under a key, and returns 0. `map` is the position of the map among those of the run
-/// (`caller.bind`, all live), counted from 1. The key and the value are at the addresses `at`. `flags` are those of bpf(2): any key (0),
-/// only an absent one (1), only a present one (2). With an error nothing changes, and it returns the error's number, negated; this is
-/// EINVAL for other flags, and if there is no such map, or the bytes of the key or of the value don't lie in the tenant's part. The ranges
-/// added to the trace lie in that part (`asks`). Runs of accepted programs call `update_inside`, which does not test map and addresses.
+/// bpf_map_update_elem (2) with tests of its arguments: stores a value under a key, and returns 0. `map` is the position of the map among
+/// those of the run (`caller.bind`, all live), counted from 1. The key and the value are at the addresses `at`. `flags` are those of
+/// bpf(2): any key (0), only an absent one (1), only a present one (2). With an error nothing changes, and the error's number is returned,
+/// negated; it is EINVAL for other flags, and if there is no such map, or the bytes of the key or of the value don't lie in the tenant's
+/// part. The ranges added to the trace lie in that part (`asks`). Only `call` uses this function, since it takes any words as arguments;
+/// runs of accepted programs use `update_inside`, which does not test map and addresses.
 pub(crate) fn update(
     map: u64,
     at: Addresses,
@@ -132,9 +134,10 @@ pub(crate) fn update(
 }
 
 /// bpf_map_update_elem (2) without tests: stores a value under a key, by `flags`, those of bpf(2), and returns 0. With an error nothing
-/// changes, and it returns the error's number, negated. `named` requires what `update` tests, and each call of an accepted program meets
-/// it: `map` is the position of a map among those of the run, from 1, and the bytes of the key and of the value, at the addresses `at`, lie
-/// in the tenant's part. `asks`: the trace gets only ranges of this part.
+/// changes, and it returns the error's number, negated. `caller` has the number of the run's tenant, whose part is in the arena (`part`),
+/// and the handles of the run's maps (`bind`), all live (`live`). `named` requires what `update` tests, and each call of an accepted
+/// program meets it: `map` is the position of one of these maps, from 1, and the bytes of the key and of the value, at the addresses `at`,
+/// lie in the tenant's part. `asks`: the trace gets only ranges of this part.
 #[inline(always)]
 pub(crate) fn update_inside(
     map: u64,

@@ -64,9 +64,9 @@ with_entry t key p = record { shape = t.shape; entries = with_key key p t.entrie
 -- the claim of an element for `key`, the first step of an update, may return `answer` and change
 -- the table from `old` to `new`. The first argument is the verdict on the update. `Refused`: the
 -- claim returns the fault, and the table is unchanged. `Present`: it returns p, the element that
--- the key has, and the table is unchanged. `New`: it returns any element p that is not in use, and
--- the key is added at the end, with p; the claim can't fail then (⊥), since the verdict for an
--- absent key of a full map is `Refused`
+-- the key has, and the table is unchanged. `New`: it returns any element p that no key has and that
+-- is not kept apart (`IsFree`), and the key is added at the end, with p. The claim can't fail then
+-- (⊥): if no element is free, the verdict on an update of an absent key is `Refused`
 abbrev pub Claims : Verdict ℕ → List ℕ → KeyTable → Result ℕ MapFault → KeyTable → Type 0
 Claims (Refused fault) key old answer new = (answer ≡ Err fault) × (new ≡ old)
 Claims (Present p) key old answer new = (answer ≡ Ok p) × (new ≡ old)

@@ -36,11 +36,11 @@ impl BpfMap {
         }
     }
 
-    /// Makes a map of this shape: an array with all its indices, or a hash map without keys (`new_keys`). A hash map reuses the memory and
-    /// the seed of one of `spares`, the hash maps that are no longer live, if one has its key size and `max_entries`. Else it takes new
-    /// memory, with `seed`, after spare maps are freed while they, the live hash maps (`live`) and the new map are together more than 16,
-    /// or the sum of their `max_entries` is above `MOST_ENTRIES_TOGETHER` (`SpareMaps`). An array takes neither memory nor seed.
-    /// `AllocError`: out of memory for a hash map.
+    /// Makes a map of this shape: an array with all its indices, or a hash map without keys (`new_keys`). A hash map takes the memory of
+    /// one of `spares`, the tenant's hash maps that are no longer live, if one has its key size and `max_entries`. It has that map's seed,
+    /// which equals `seed`, since `Maps` has one for all. Else it takes new memory; before that, spare maps are freed until those left, the
+    /// live hash maps (`live`) and the new one are at most `MAPS`, and the sum of their `max_entries` is at most `MOST_ENTRIES_TOGETHER`,
+    /// or none is left. An array takes neither memory nor seed. `AllocError`: out of memory for a hash map.
     pub(crate) fn with_spares(
         alloc: Global,
         shape: MapShape,
@@ -77,8 +77,9 @@ impl BpfMap {
         }
     }
 
-    /// The key after that of `element` in the order of the map's keys, or the first key if no element is given, with the element of the key
-    /// that is returned. `None` if no key follows, or if no key has `element`.
+    /// The key after that of `element`, or the first key if `element` is `None`, with the element of the returned key; so a save reads all
+    /// entries. The order is that of the indices in an array, and that of insertion in a hash map. `None` if no key follows, or if no key
+    /// has `element`. The contract sees the key as its bytes (`shown_entry`).
     pub(crate) fn entry_after(&self, element: Option<u32>) -> Option<(KeyRef<'_>, u32)>
         ensures { option_map shown_entry result ≡ next_entry element (keys_in self.now).entries }
     {
@@ -102,8 +103,10 @@ impl ValueMap for BpfMap {
         }
     }
 
-    // Claims an element for a key: its own, or a free one. `Invalid` for unknown flags; `Exists` for a present key with `NOEXIST`;
-    // `NoEntry` for an absent key of a hash map with `EXIST`; `TooBig` for an index out of range or a full hash map.
+    // Claims an element for a key of the size of the map's keys, and returns it; the caller then writes the value there. A present key
+    // keeps its element; an absent key of a hash map gets a free one, and becomes the last. The error, with which nothing changes, is
+    // `Invalid` for unknown flags, `Exists` for a present key with `NOEXIST`, `NoEntry` for an absent key of a hash map with `EXIST`, and
+    // `TooBig` for an index out of range, or if no element is free for an absent key.
     #[inline(always)]
     fn claim(&mut self, key: &[u8], flags: u64) -> Result<u32, MapFault> {
         match self {

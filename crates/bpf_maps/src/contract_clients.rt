@@ -76,7 +76,7 @@ fn is_unchanged(maps: &Maps, map: MapKey, before: &[u8], after: &[u8])
 }
 
 /// Creates a tenant's first map: it has handle 0 (`first`), and there is room for it (`room`), so the only error is `Memory`. `part` is the
-/// tenant's part, `PART` bytes.
+/// tenant's part, `PART` bytes. The seed has two words 0, since no clause depends on it.
 fn make_first(alloc: Global, shape: MapShape, part: &mut [u8]) -> Result<MapKey, MapFault>
     requires { length part.old ≡ PART }
     ensures room { result ≢ Err NoSpace }

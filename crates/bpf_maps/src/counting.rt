@@ -57,8 +57,8 @@ impl Maps {
     }
 
     /// What the creation of a map of this `kind` has to know of the live hash maps. For a hash map it is how many of them are live, and the
-    /// sum of their `max_entries`: both numbers decide whether spare maps, which are no longer live, are freed for it (`SpareMaps`). For an
-    /// array both are 0, since no spare map is freed for an array.
+    /// sum of their `max_entries`. Both decide which spare maps are freed before it takes memory (`SpareMaps`). A spare map is a hash map
+    /// that is no longer live, whose memory a new one may reuse. For an array both are 0, and are not read: it takes no memory.
     pub(crate) fn live_hash_maps_for(&self, kind: MapKind) -> LiveHashMaps {
         match kind {
             MapKind::Array => NO_HASH_MAPS,

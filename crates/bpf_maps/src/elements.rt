@@ -46,10 +46,10 @@ impl Elements {
         u64::from(self.count) + 0x1_0000_0000 * u64::from(self.stride)
     }
 
-    /// The inverse of `Elements::word`, for any number (`word`): `count` is the number's low 32 bits, `stride` its high 32 bits. A run's
-    /// table of maps has one number for each map, which `Elements::of` and `Elements::word` made of the map's shape. The result is then the
-    /// `Elements` of this shape (`elements`), and if `count` is not 0, the map is an array, since a hash map has count 0; so its keys have
-    /// `INDEX_SIZE` bytes (`size`).
+    /// The inverse of `Elements::word`, for any number (`word`): its low 32 bits are `count`, how many elements a run finds without the
+    /// map, and its high 32 bits `stride`, the distance from one value to the next in bytes. A run's table of maps has such a number for
+    /// each map, made of its shape; the result is then the `Elements` of this shape (`elements`). A hash map has count 0, since only the
+    /// map finds the element of a key; so if `count` is not 0, the map is an array, whose keys have `INDEX_SIZE` bytes (`size`).
     #[inline(always)]
     pub fn of_word(word: u64) -> Elements
         ensures word { word_of result ≡ word }

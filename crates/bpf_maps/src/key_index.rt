@@ -28,8 +28,8 @@ pub enum KeyIndex {
 impl KeyIndex {
     /// Makes an index without keys (`entries`), into which keys of `key_size` bytes (`takes`) and elements less than `bound`, the map's
     /// `max_entries`, can be inserted. It is `Words` for keys of at most `LONGEST_WORD` bytes, `Middle` for at most `LONGEST_MIDDLE`, else
-    /// `Long`; no shape has a `key_size` above `LONGEST_LONG`. Allocates memory for `bound` keys, which are hashed with the seed.
-    /// `AllocError`: out of memory.
+    /// `Long`; no shape has a `key_size` above `LONGEST_LONG`. Only `Words` is given the size: it keeps a key as a number, which does not
+    /// have the key's length. Allocates memory for `bound` keys, which are hashed with the seed. `AllocError`: out of memory.
     pub(crate) fn new(
         alloc: Global,
         key_size: usize,
@@ -65,7 +65,8 @@ impl KeyIndex {
         }
     }
 
-    /// Returns the element of a key, which has the size of the map's keys (`TakesKeys`: the index can have it); `None` if it is absent.
+    /// Returns the element of a key; `None` if the index does not have the key. The precondition (`TakesKeys`) is that this variant of the
+    /// index can have keys of this size; the callers pass a key of the size of the map's keys.
     #[inline(always)]
     pub(crate) fn get(&self, key: &[u8]) -> Option<u32>
         requires { TakesKeys self.now (length key.now) }

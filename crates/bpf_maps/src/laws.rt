@@ -21,8 +21,9 @@ pub fn writes_refine_values()
 {}
 
 /// Laws: if two functions give the same value to each element that a key of a table has, the maps from keys to values that they make of the
-/// table are equal: `numbers` states this for values that are numbers, `bytes` for values that are lists of bytes. In a sound table
-/// (`IsSound`), an element that a key has, or that is kept apart, is less than `max_entries` (`within`).
+/// table are equal. `numbers` states this for values that are numbers, `bytes` for values that are lists of bytes. In a sound table
+/// (`IsSound`), an element that a key has, or that is kept apart, is less than `max_entries` (`within`). So two contents of a tenant's part
+/// give the same map if the values of all elements below `max_entries` have the same bytes in both.
 pub fn values_agree()
     ensures numbers { ValuesAgree ℕ }
     ensures bytes { ValuesAgree (List ℕ) }

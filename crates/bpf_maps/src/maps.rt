@@ -128,10 +128,10 @@ impl Maps {
         &self.maps[key]
     }
 
-    /// The offset of an element's value in the tenant's part, in bytes, for callers that have found the map in the slab. `stored` is this
-    /// live map, which has the element, a number less than its `max_entries`; its handle, `map`, is only for the contract. The value lies
-    /// in the part after the stack and the context, and the offset is a multiple of eight (`inside`). By `laid` the values of all live maps
-    /// lie in the part and do not overlap.
+    /// The offset of an element's value in the tenant's part, in bytes. `stored` is the live map that has the element, a number less than
+    /// its `max_entries`. The callers have found `stored` by its handle, `map`, which is here only for the contract, so a map is not looked
+    /// up twice. The value lies in the part after the stack and the context, and the offset is a multiple of eight (`inside`). By `laid`
+    /// the values of all live maps lie in the part and do not overlap.
     #[inline(always)]
     fn offset_in(&self, map: MapKey, stored: &StoredMap, element: u32) -> usize
         requires stored { live_at self.now map ≡ Some (live_of stored.now) }
@@ -230,10 +230,10 @@ impl Maps {
     }
 
     /// Drops one reference to a live map (`less`); the last (`references_at`, their number, is at most 1) frees the map, its handle and
-    /// area. In `part`, the tenant's part of `PART` bytes, the later areas then move down by the size of that area (`moved`). Other maps
-    /// keep their elements, keys and values (`others`, `values`, `maps`), as does the map if it has more references (`kept`); then no area
-    /// changes. `without_area_at` is a map without its area: its table of keys, and `references_at`. The stack, the context and `refused`
-    /// do not change.
+    /// area. The memory of a freed hash map is kept for new ones (`spares`). In `part`, the tenant's part of `PART` bytes, the later areas
+    /// then move down by the size of that area (`moved`). Other maps keep their elements, keys and values (`others`, `values`, `maps`), as
+    /// does the map if it has more references (`kept`); then no area changes. `without_area_at` is a map without its area: its table of
+    /// keys, and `references_at`. The stack, the context (`front`) and the flag of refused memory (`refused`) do not change.
     pub fn release(&mut self, map: MapKey, part: &mut [u8])
         requires live { IsSome (live_at self.old map) }
         requires length { length part.old ≡ PART }
@@ -289,7 +289,8 @@ impl Maps {
     pub fn is_live(&self, map: MapKey) -> bool
         ensures { result ≡ is_some (live_at self.now map) }
     {
-        // For the proof, which has the invariant of the type from this read: a handle with a key of the slab has a map.
+        // `keys` has, for each handle with a map, the number that the slab `maps` chose for the map and finds it by: here called its key.
+        // This read is for the proof, which has the invariant of the type from it: the slab has a map for each of these numbers.
         let _ = &self.maps;
         self.keys.get(map.handle).is_some()
     }

@@ -83,7 +83,8 @@ impl SlabKeys {
         self.words[handle] = key;
     }
 
-    /// Removes the slab's key of a handle, which is less than `MAPS`: the handle then has none.
+    /// Removes the key of `handle`, the number under which the slab has stored its map: the handle then has no map (`None`), and a new map
+    /// can get it. `release` of `Maps` calls this after it has removed the map from the slab. `handle` is less than `MAPS`.
     pub(crate) fn clear(&mut self, handle: usize)
         requires { handle < most_maps }
         ensures { self.new ≡ slice_set self.old handle None }

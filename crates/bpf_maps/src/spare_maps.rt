@@ -32,8 +32,9 @@ pub(crate) const NO_HASH_MAPS: LiveHashMaps = LiveHashMaps {
 
 impl LiveHashMaps {
     /// The counts of these live hash maps and one more, whose `max_entries` is `entries`: one more map, and a sum of all `max_entries` that
-    /// is greater by `entries`. The additions saturate, but a tenant has at most `MAPS` live maps, each with a `max_entries` of 32 bits, so
-    /// its sums never reach the largest number.
+    /// is greater by `entries`. They decide which spare maps are freed for a new hash map (`SpareMaps::hash_map`), which counts too.
+    /// The additions saturate, but a tenant has at most `MAPS` live maps, each with a `max_entries` of 32 bits, so its sums never reach
+    /// the largest number.
     pub(crate) fn with(self, entries: u32) -> LiveHashMaps {
         LiveHashMaps {
             maps: self.maps.saturating_add(1),
@@ -139,17 +140,18 @@ impl SpareMaps {
             && self.max_entries_sum().saturating_add(live.entries) <= MOST_ENTRIES_TOGETHER
     }
 
-    /// By how much the sum of the `max_entries` of the spare maps and of the maps that `live` counts exceeds `MOST_ENTRIES_TOGETHER`; 0 if
-    /// it does not. `next_to_free` chooses a spare map whose `max_entries` is at least the result, if there is one.
+    /// By how much the sum of the `max_entries` of the spare maps and of the hash maps that `live` counts, the live ones and the new one,
+    /// exceeds `MOST_ENTRIES_TOGETHER`; 0 if it does not. `next_to_free` chooses a spare map whose `max_entries` is at least the result, if
+    /// there is one.
     fn excess(&self, live: LiveHashMaps) -> usize {
         let entries = self.max_entries_sum().saturating_add(live.entries);
         entries.saturating_sub(MOST_ENTRIES_TOGETHER)
     }
 
-    /// Frees spare maps until they and the maps that `live` counts, the live hash maps and the new one, have room together (`has_room`), or
-    /// no spare map is left. They have room if they are at most `MAPS` and the sum of their `max_entries` is at most
-    /// `MOST_ENTRIES_TOGETHER`. Each turn of the loop frees at most one map, and once a turn frees none, no later turn does; so as many
-    /// turns suffice as there are spare maps.
+    /// Frees spare maps until they and the maps that `live` counts, the live hash maps and the new one, are at most `MAPS` and the sum of
+    /// their `max_entries` is at most `MOST_ENTRIES_TOGETHER` (`has_room`), or no spare map is left. Each turn of the loop frees one until
+    /// then, so as many turns suffice as there are spare maps. `next_to_free` chooses it, if possible a map whose `max_entries` is at least
+    /// the excess of the sum. The last spare map takes its place in the list, whose order has no meaning.
     fn make_room(&mut self, live: LiveHashMaps) {
         for _ in 0..self.maps.len() {
             if !self.maps.is_empty() && !self.has_room(live) {
@@ -159,11 +161,11 @@ impl SpareMaps {
         }
     }
 
-    /// The index of the spare map to free next, if the `max_entries` of the spare maps and of the live hash maps have a sum that is too
+    /// The index of the spare map to free next, if the `max_entries` of the spare, the live and the new hash maps have a sum that is too
     /// large by `excess`. If `excess` is 0, only the number of maps is too large. A map suffices if its `max_entries` is at least `excess`
-    /// (`HasEntries`). Of the spare maps that suffice, the result is the one whose keys take the least memory when it is full; if none
-    /// suffices, the one with the greatest `max_entries`. By `suffices`, the result suffices if a spare map at any index (`at`) does. The
-    /// caller has found that there is a spare map.
+    /// (`HasEntries`). Of the spare maps that suffice, the result is the one whose keys take the least memory when it is full, so that
+    /// most is left for later maps; if none suffices, the one with the greatest `max_entries`, so that few are freed. By `suffices`, the
+    /// result suffices if a spare map at any index (`at`) does. The caller has found that there is a spare map.
     fn next_to_free(&self, excess: usize) -> usize
         requires { 0 < vec_len self.now.maps }
         ensures within { result < vec_len self.now.maps }
@@ -180,11 +182,12 @@ impl SpareMaps {
     }
 }
 
-/// Whether `next_to_free` chooses a map of `shape` rather than one of `other`, if the sum of all `max_entries` is too large by `excess`. A
-/// map suffices if its `max_entries` is `excess` or more: without this map the sum is small enough. If only the number of maps is too
-/// large, `excess` is 0, and each map suffices. If both suffice, the one is chosen whose keys take less memory (`key_memory`), else the one
-/// with the greater `max_entries`; if they are equal in that, `other` (false). `freed`, `stays`: the map that is chosen, `shape` if true
-/// and `other` if false, suffices if at least one of the two does.
+/// Whether `next_to_free` chooses a map of `shape` rather than one of `other`; `excess` is by how much the sum of the `max_entries` of the
+/// spare maps, the live hash maps and the new one exceeds `MOST_ENTRIES_TOGETHER`, 0 if only the number of maps is too large. A map
+/// suffices if its `max_entries` is at least `excess`: without it the sum is small enough. If both suffice, the one is chosen whose
+/// keys take less memory (`key_memory`), so that more is kept for reuse. Otherwise it is the one with the greater `max_entries`. If they
+/// are equal in this, it is `other` (false). `freed`, `stays`: the map that is chosen, `shape` if true and `other` if false, suffices if at
+/// least one of the two does.
 fn is_freed_before(shape: MapShape, other: MapShape, excess: usize) -> bool
     ensures freed { result ≡ true → excess ≤ other.max_entries → excess ≤ shape.max_entries }
     ensures stays { result ≡ false → excess ≤ shape.max_entries → excess ≤ other.max_entries }
@@ -198,8 +201,8 @@ fn is_freed_before(shape: MapShape, other: MapShape, excess: usize) -> bool
 }
 
 /// The memory for the keys of a full map of this shape, in bytes: `max_entries` keys, each in a number or an array of `room_of` bytes, as
-/// the index of the map keeps it. If either of two maps is enough to free, `is_freed_before` chooses the one with the smaller result. The
-/// product fits in 64 bits, as a key takes at most `LONGEST_LONG` bytes.
+/// the index of the map keeps it. If freeing either of two spare maps makes enough room for a new map, the one with the smaller result is
+/// freed (`is_freed_before`). The product fits in 64 bits, as `max_entries` has 32 bits, and `room_of` is at most `LONGEST_LONG`.
 fn key_memory(shape: MapShape) -> u64 {
     KeyIndex::room_of(shape.key_size as usize) as u64 * shape.max_entries as u64
 }

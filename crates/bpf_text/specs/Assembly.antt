@@ -30,8 +30,9 @@ line_slots (Some blank) = 0
 line_slots (Some (label n)) = 0
 line_slots (Some (code form n)) = form_slots form
 
--- the number of slots of all instructions on these lines. A line without an instruction counts 0:
--- a blank one, a label, and None, a line that has none of the forms
+-- the number of slots of all instructions on these lines. A line without an instruction counts 0: a
+-- blank one, a label, and None, a line that has none of the forms. Of all lines of a text it is the
+-- size of the program, and of those before a line the slot of the line's instruction or label
 unfoldable pub slots_on : List (Option Line) → ℕ
 slots_on [] = 0
 slots_on (line ∷ lines) = line_slots line + slots_on lines

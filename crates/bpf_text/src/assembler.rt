@@ -33,6 +33,7 @@ fn read_lines<'a>(alloc: Global, text: &'a [&'a str]) -> Result<Vec<Option<Line<
 {
     let mut lines = Vec::new(alloc);
     for line in text {
+        // The proof of the loop cites the arm `Ok` and the call of `extend_from_slice` by name, so `?` and `push` need another proof.
         let found = match read_line(alloc, line) {
             Ok(found) => found,
             Err(error) => return Err(error),

@@ -208,7 +208,8 @@ fn write_store(
 }
 
 /// Appends the line of the atomic operation `op` with register `src`, on `size` bytes at the address in register `dst` plus `off`, without
-/// a line feed. For example, an addition of eight bytes is `lock *(u64 *)(r10 - 8) += r1`.
+/// a line feed. The size has the name of a load without sign extension (`false`), and both registers have their names of 64 bits, also for
+/// an operation on four bytes. For example, an addition of eight bytes is `lock *(u64 *)(r10 - 8) += r1`.
 #[tactic(auto, unfolding(text_line::specs::Written::printed_insn))]
 fn write_atomic(
     text: &mut String,
@@ -227,7 +228,8 @@ fn write_atomic(
     write!(text, "lock *({size} *)({base} {sign} {offset}) {op} {src}")
 }
 
-/// Appends the line, without a line feed, of a wide load of the map with descriptor `fd` into register `dst`, as `r1 = map_fd 3 ll`.
+/// Appends the line, without a line feed, of a wide load of the map with descriptor `fd` into register `dst`, as `r1 = map_fd 3 ll`. The
+/// descriptor is the signed immediate of the first slot. Decoding does not check it, so `fd` may be negative, and then has a minus.
 #[tactic(auto, using(crate::proofs::Printing::laid_out_constant), unfolding(text_line::specs::Written::printed_insn))]
 fn write_map_fd(text: &mut String, dst: Reg, fd: i32) -> Result<(), AllocError>
     ensures { OnOk result (string_bytes text.new ≡ string_bytes text.old

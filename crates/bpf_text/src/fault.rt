@@ -87,14 +87,14 @@ impl From<AllocError> for TextFault {
     ghost from_gives = { λ _ e. e ≡ memory_fault };
 
     /// `OUT_OF_MEMORY`, which is at line 0, the whole text. It is the result for every error, since an `AllocError` has no data. The
-    /// contract is `from_gives`, in which `e` is the result.
+    /// contract is `from_gives` of this impl: its first argument, `_`, is the error, and its second, `e`, the result.
     fn from(_e: AllocError) -> TextFault {
         OUT_OF_MEMORY
     }
 }
 
 /// For `?` after a call of std that is refused memory for a value and gives this value back in its error, `AllocFailed`: the error becomes
-/// the fault `Memory` at line 0 (`from_gives`), and the value is dropped.
+/// the fault `Memory` at line 0, which is the whole text (`from_gives`), and the value is dropped.
 impl<T: Drop> From<AllocFailed<T>> for TextFault {
     ghost use Rattle.bpf_text.specs.Fault.{memory_fault};
 

@@ -19,15 +19,18 @@ abbrev pub host_of : Option Session → HostState
 host_of None = new_host 0
 host_of (Some s) = s.host
 
--- the states of the tenants of the host in a handle's session, by tenant number; no states for an
--- empty handle, which has no session (None)
+-- the states of the host's tenants, by tenant number. The argument is what a handle leads to: a
+-- session, which is a host with its last reply and the last part of a save; or None, if the handle
+-- is empty, and then the list is empty
 abbrev pub states : Option Session → List TenantState
 states None = []
 states (Some s) = s.host.states
 
--- The bytes `reply` are the session's last reply: all bytes of its vector, which begins at address
--- `at` and has `length` bytes. The session owns the vector, and the handle owns the session. False
--- for an empty handle (None).
+-- The bytes `reply` are the last reply of a session, which is a host with its last reply and the
+-- last part of a save. They are all bytes of the reply's vector, which begins at address `at` and
+-- has `length` bytes. The handle owns the session, and the session the vector, so the caller in C
+-- can read the reply there, without a copy, until the next call changes it. False for an empty
+-- handle (None).
 abbrev pub IsReplyAt : Option Session → List ℕ → Ptr → ℕ → Type 0
 IsReplyAt None reply at length = ⊥
 IsReplyAt (Some s) reply at length =

@@ -78,7 +78,7 @@ abbrev pub install_code : Option Session → Option Accepted → ℤ
 install_code session program =
     if is_none session then ERR_NO_HOST else (if is_none program then ERR_NO_PROGRAM else DONE)
 
--- the handle has a prepared program (not None), and this fits the tenant in this state: each
+-- C's handle of a prepared program has one (not None), and this fits the tenant in this state: each
 -- descriptor of the program's maps names a map of the shape with which the program was accepted. A
 -- tenant that is not served has no state (None): then any program fits, since none is opened there.
 -- If an install returns DONE, this holds; if it returns ERR_STALE, this does not hold

@@ -36,9 +36,9 @@ impl Handle {
         }
     }
 
-    /// Makes a handle that owns the session of a box; `put` stores the handle. `raw` is this box as a raw pointer (`RawBox::from_box`), and
-    /// `raw.value` its session. The handle has this pointer as a pointer to bytes. `into_raw_box` is the inverse; a handle that is dropped
-    /// frees its session.
+    /// Makes a handle, for `put`, that owns the session of a box: a host with its last reply and the last part of a save. `raw` is this box
+    /// as a raw pointer (`RawBox::from_box`), which is cast to a pointer to bytes, and `raw.value` the session. `into_raw_box` is the
+    /// inverse; a handle that is dropped frees its session.
     pub(crate) fn from_raw_box(raw: RawBox<Session, Global>) -> Handle
         ensures { result.session ≡ Some raw.value }
     {
@@ -49,9 +49,10 @@ impl Handle {
         }
     }
 
-    /// Consumes the handle, and returns the box of its session as a raw pointer. The caller then owns the session, and makes the pointer a
-    /// box again by `into_box`: `take` returns this box, and `drop` frees it. `None` if the handle is empty: its pointer is null. By the
-    /// contract, the box has the session that the handle had (`self.session`, `None` if it was empty).
+    /// Consumes the handle, and returns the box of its session, a host with its last reply and last saved part, as a raw pointer. The
+    /// caller then owns the session, and makes the pointer a box again by `into_box`: `take` returns this box, and `drop` frees it. `None`
+    /// if the handle is empty: its pointer is null. By the contract, the box has the session that the handle had (`self.session`, `None` if
+    /// it was empty).
     pub(crate) fn into_raw_box(self) -> Option<RawBox<Session, Global>>
         ensures { option_map (λ raw. raw.value) result ≡ self.session }
     {
@@ -66,8 +67,8 @@ impl Handle {
     }
 
     /// Takes the session out of the handle and returns it in a box (`session`), so that the handle is empty (`empty`); `None` if it was
-    /// empty before. A function of the library takes the session for its work, and then puts it back (`put`). `alloc` only fills a field of
-    /// the empty handle.
+    /// empty before. A handle has only a raw pointer, so each function of the library that needs the session, even to read it, takes it
+    /// out, and then puts it back (`put`). `alloc` only fills a field of the empty handle.
     pub(crate) fn take(&mut self, alloc: Global) -> Option<Box<Session>>
         ensures session { option_map (λ b. b.value) result ≡ self.old.session }
         ensures empty { self.new.session ≡ None }
@@ -78,8 +79,9 @@ impl Handle {
         }
     }
 
-    /// Makes `session` the session of the handle. A session that the handle had would be freed, but in each call of the library the handle
-    /// is empty here, since `take` was used before.
+    /// Makes `session`, a host with its last reply and the last part of a save, the session of the handle. The functions for C call this
+    /// with the session that they took out (`take`), or with a new one if `take` found none, so the handle is empty here. The assignment
+    /// drops the old handle, which would free a session in it.
     pub(crate) fn put(&mut self, session: Box<Session>)
         ensures { self.new.session ≡ Some session.value }
     {

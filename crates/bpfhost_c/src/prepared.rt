@@ -25,7 +25,8 @@ impl Model for Prepared {
 }
 
 impl Prepared {
-    /// A handle with no program: its pointer is null, and it owns nothing. Nothing is allocated; `alloc` only fills the field.
+    /// A handle with no program: its pointer is null, and it owns nothing. `take` and `bpfhost_c_prepared_free` replace with it the
+    /// handle that they are given. Nothing is allocated; `alloc` only fills the field.
     pub(crate) fn empty(alloc: Global) -> Prepared
         ensures { result.program ≡ None }
     {
@@ -36,8 +37,8 @@ impl Prepared {
     }
 
     /// A handle that owns the program of `raw`, a box as a raw pointer, which owned the program before. `program` of the handle, for
-    /// contracts only, is the program in the box (`raw.value`). The pointer is cast to a pointer to bytes, as a handle has it. `put` calls
-    /// this function.
+    /// contracts only, is the program in the box (`raw.value`). The handle is opaque to C, so it has the pointer as one to bytes, which
+    /// `into_raw_box` casts back. `put` calls this function.
     pub(crate) fn from_raw_box(raw: RawBox<Verified, Global>) -> Prepared
         ensures { result.program ≡ Some raw.value }
     {

@@ -56,8 +56,8 @@ pub(crate) struct Ran {
 
 /// The contexts with which `run_bounded` runs the first `count` of the `packets` packets of a batch, as many as a bound on instructions
 /// allows. If `contexts` has one for each packet, the result is its first `count` contexts. Else the result is all of `contexts`: a single
-/// context is for all packets, and with any other number of contexts the batch is rejected as a whole. `count` is what
-/// `Session::allowed_packets` returns, so it is at most `packets`.
+/// context is for all packets, and with any other number of contexts the batch is rejected. `count` is what `Session::allowed_packets`
+/// returns: at most `packets`. For a batch that is to be rejected it is `packets`, as fewer packets could have one context each.
 fn front_contexts(
     contexts: &[[u32; GIVEN_WORDS]],
     packets: usize,
@@ -220,9 +220,11 @@ impl Session {
 
     /// Runs the program at descriptor `fd` of a tenant on the first packets of a batch, as many as `allowed_packets` returns for `bound`.
     /// This is a bound on the instructions that all runs together may execute, in which a call of a helper counts for more than one; one
-    /// packet is always allowed, and 0 is no bound. The results are written to the front of `results`, and `Ran` has status 0 and the
-    /// number of these packets. If `run_packets` rejects these packets, `Ran` has the status of the error, its negated number, and 0
-    /// packets; then nothing has changed. The record of births, which a save needs, never changes (`births`).
+    /// packet is always allowed, and 0 is no bound. If the batch has a context for each packet, those of the first packets are taken; a
+    /// single context is for all (`front_contexts`). With any other number of contexts no packet is left out, and `run_packets` rejects the
+    /// batch. The results are written to the front of `results`, and `Ran` has status 0 and the number of packets that were run. If
+    /// `run_packets` rejects them, `Ran` has the status of the error, its negated number, and 0 packets; then nothing has changed. The
+    /// record of births, which a save needs, never changes (`births`).
     pub(crate) fn run_bounded(
         &mut self,
         tenant: usize,
@@ -250,11 +252,13 @@ impl Session {
         Ran { status, packets }
     }
 
-    /// Runs the program at descriptor `fd` of a tenant on the first packets of a batch: as many as `bound`, a number of instructions,
-    /// allows (`allowed_packets`); 0 is no bound. Each context has `batch.size` words, and a run is given `GIVEN_WORDS`: missing words are
-    /// 0, and words beyond that number are left out, and have to be 0 (`contexts_of`). Returns `Ran` with status 0 and the number of
-    /// packets that were run; their results are at the front of `results`. If `run_bounded` rejects the batch, `Ran` has the negated error
-    /// number and 0 packets, and nothing has changed (`done`). No births of the host change, since a run opens nothing (`births`).
+    /// Runs the program at descriptor `fd` of a tenant on the first packets of a batch. `bound` limits the instructions that these runs
+    /// together may execute, in which a call of a helper counts for more than one; one packet is always allowed, and 0 is no bound
+    /// (`allowed_packets`). Each context has `batch.size` words, and a run is given `GIVEN_WORDS`: missing words are 0, and words beyond
+    /// that number are left out, and have to be 0 (`contexts_of`). Returns `Ran` with status 0 and the number of packets that were run;
+    /// their results are at the front of `results`, which needs room only for these. If `run_bounded` rejects the batch, `Ran` has the
+    /// negated error number and 0 packets, and nothing has changed (`done`). No births of the host change, since a run opens nothing
+    /// (`births`).
     ///
     /// `Err`: the code that C gets. `ERR_SIZE`: the size is 0 or the last context is cut off. `ERR_TOO_BIG`: a context has a word that no
     /// run is given and that is not 0. `ERR_NO_MEMORY`: out of memory, for contexts without these faults (`code`). After `Err` nothing is

@@ -61,7 +61,8 @@ impl Descriptors {
     }
 
     /// The open descriptors with what each names, a map of some shape or a program, in the order in which the lines opened them. One that
-    /// two lines opened is listed twice, and the verifier takes its first object. Players verify programs with this list.
+    /// two lines opened is listed twice, and the verifier takes its first object. With this list the type that plays the lines (`Player`)
+    /// verifies the programs of later lines, or makes their logs.
     pub fn named(&self) -> &[Named] {
         &self.named
     }
@@ -73,10 +74,11 @@ impl Descriptors {
         Ok("open".to_string(self.alloc)?)
     }
 
-    /// Plays a line `map FD:KIND:KEY:VALUE:MAX` or `program FD`, which opens a descriptor, or a line `new`, which closes all. Returns the
-    /// text that is written below the line: `open`, or for `new` the text `none open`. `UnknownWord` if the line has another first word.
-    /// The errors of a `map` line are `Notation`, `Map` and `Number` (`named_map`), that of a `program` line is `Number` (`named_program`);
-    /// any line may be out of memory (`Memory`).
+    /// Plays a line `map FD:KIND:KEY:VALUE:MAX` or `program FD`, which opens the descriptor FD, or a line `new`, which closes all. KIND is
+    /// `array` or `hash`, KEY and VALUE are the sizes of a key and of a value in bytes, and MAX is `max_entries`. Returns the text that is
+    /// written below the line: `open`, or for `new` the text `none open`. The error is `UnknownWord` for another first word, `Notation` if
+    /// the text after `map` has no colon, `Map` if the text after FD is no shape that a map may have, `Number` if FD is no number of 32
+    /// bits, `Memory` if out of memory.
     pub fn play(&mut self, line: &str) -> Result<String, CaseError> {
         let (word, rest) = first_word(line);
         match word {

@@ -87,9 +87,9 @@ fn append_times(
 }
 
 /// Appends the bytes of a repetition, `{COUNT*PART}`, and of the text after the repetition. `text` is what follows the `{`, up to the next
-/// `{` or the end. The bytes of PART are appended COUNT times, and each `#` in them becomes the number of repetitions before. `Notation` if
-/// the `}` or the `*` is missing, COUNT is no number or above `MOST_TIMES`, or two bytes can't be split off after a `\x`; `Digits` if the
-/// two bytes are no hex digits; `Memory` if out of memory.
+/// `{` or the end. The bytes of PART are appended COUNT times, and each `#` in them, even one that `\x23` gives, becomes the number of
+/// repetitions before, in decimal digits. `Notation` if the `}` or the `*` is missing, COUNT is no number or above `MOST_TIMES`, or two
+/// bytes can't be split off after a `\x`; `Digits` if the two bytes are no hex digits; `Memory` if out of memory.
 fn append_repeated(alloc: Global, bytes: &mut Vec<u8>, text: &str) -> Result<(), CaseError> {
     let (repetition, rest) = text.split_once('}').ok_or(CaseError::Notation)?;
     let (digits, part) = repetition.split_once('*').ok_or(CaseError::Notation)?;
@@ -118,15 +118,16 @@ pub fn written(alloc: Global, text: &str) -> Result<Vec<u8>, CaseError> {
     Ok(bytes)
 }
 
-/// The bytes as text; `NoText` if they are not UTF-8. Callers have the bytes of `written`, in which `\xHH` may give any byte, or those that
-/// a program has written, and need text to read or to print.
+/// The bytes as text; `NoText` if they are not UTF-8. Callers have the bytes of `written`, in which `\xHH` may give any byte, and need text
+/// to parse; or they have what a tested command line has written (as `run_words` of `host`), and need text to print.
 pub fn text_of(bytes: &[u8]) -> Result<&str, CaseError> {
     str::from_utf8(bytes).map_err(|_| CaseError::NoText)
 }
 
 /// The bytes of the hex digits that `text` represents in the notation of cases (`written`): a repetition may give digits, as `{2*0a}` gives
-/// `0a0a`, two bytes. Blanks between the digits are left out. The errors are those of `written`, then `NoText` if the bytes that `written`
-/// returns are not UTF-8, then `Digits` if one of their characters is neither a blank nor a hex digit, or if the number of digits is odd.
+/// `0a0a`, two bytes. Spaces between the digits are left out. `Notation` or `Digits` if `text` is not in the notation; then `NoText` if the
+/// bytes that it gives are not UTF-8; then `Digits` if one of their characters is neither a space nor a hex digit, or if the number of
+/// digits is odd. Out of memory is `Digits` in the decoder of the digits (`hex::decode`), else `Memory`.
 pub fn bytes_of(alloc: Global, text: &str) -> Result<Vec<u8>, CaseError> {
     let text = written(alloc, text)?;
     let digits = text_of(&text)?;

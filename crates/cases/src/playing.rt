@@ -22,7 +22,8 @@ fn print_indented<R: Print>(rt: &R, answer: &str) -> io::Result<()> {
 
 /// Plays the lines of standard input: writes each line, and below it, indented, its outcome or its error, which `player` returns. A remark,
 /// which is an empty line or one that begins with `#`, is written, but not played. After the error of a line the next line is played.
-/// Returns an error only if standard input or output fails: then no further line is played.
+/// Returns an error only if standard input or output fails: then no further line is played. `rt`, the runtime that `main` was given, has
+/// the standard streams and the allocator.
 pub fn play_lines<R: AllocGlobal + Input + Print, P: Player>(
     rt: &R,
     player: &mut P,

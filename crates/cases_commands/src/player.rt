@@ -30,7 +30,7 @@ impl CommandPlayer {
     /// these three numbers and the payload HEX, as hex digits (`shown`, which shortens a long text). The error is the first that applies:
     /// `Number` if the tenant or the command is no number of 16 bits; `Notation`, `NoText` or `Digits` if HEX is not an even number of hex
     /// digits in the notation of cases; `OutOfRange` if the payload is longer than `LONGEST_PAYLOAD`; `Number` if the status is no signed
-    /// number of 32 bits. `Memory` if out of memory.
+    /// number of 32 bits. If out of memory, the error is `Memory`, or `Digits` from the decoder of HEX.
     fn reply(&mut self, rest: &str) -> Result<String, CaseError> {
         let (tenant, rest) = first_word(rest);
         let (command, rest) = first_word(rest);
@@ -57,7 +57,8 @@ impl CommandPlayer {
         }
     }
 
-    /// The number that descriptor `fd` names, as text; `nothing` if `fd` is not open. The objects of this player's table are numbers.
+    /// The number that descriptor `fd` names, as decimal text; the text `nothing` if `fd` is not open. In the table of this player
+    /// descriptors name plain numbers, no maps or programs. `AllocError`: out of memory for the text.
     fn get(&self, fd: u32) -> Result<String, AllocError> {
         match self.numbers.get(fd) {
             Some(number) => number.to_string(self.alloc),
@@ -98,10 +99,12 @@ impl CommandPlayer {
 }
 
 impl Player for CommandPlayer {
-    // Plays a line: its first word selects what is called, with the rest of the line. `head` and `parse` read a frame in hex digits, and
-    // `reply` makes the bytes of a reply. For each number in the rest, `each` opens a descriptor, or reads or closes one. `full` returns
-    // `true` if no descriptor is free, else `false`, and does not read the rest. `UnknownWord` for any other word; the other errors are
-    // those of the function that is called, and out of memory.
+    // Plays a line and returns its outcome as text. Its first word selects what is called, with the rest of the line. Of a frame in hex
+    // digits `head` returns the tenant and the command number, `parse` the command with its fields, or why it has none. `reply` returns the
+    // hex digits of a reply. For each number in the rest `place` opens a descriptor, which then names it. `get` and `close` take
+    // descriptors, and return the numbers that these name; `close` also closes them. `full` returns `true` if no descriptor is free, else
+    // `false`, and does not read the rest. `UnknownWord` for any other word; the other errors are those of the function that is called, and
+    // out of memory.
     fn play(&mut self, line: &str) -> Result<String, CaseError> {
         let (word, rest) = first_word(line);
         match word {

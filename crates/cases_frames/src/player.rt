@@ -116,8 +116,8 @@ impl HostPlayer {
         })
     }
 
-    /// Lets the host handle a frame, and returns the reply as hex digits, in groups of `GROUP` bytes. `AllocError`: out of memory for the
-    /// reply's buffer or for the digits.
+    /// Lets the host handle a frame, which has no length field here, and returns the reply, with its length field, as hex digits in groups
+    /// of `GROUP` bytes. `AllocError`: out of memory for the reply's buffer or for the digits.
     fn reply(&mut self, frame: &[u8]) -> Result<String, AllocError> {
         let mut reply = ReplyBuf::new(self.alloc)?;
         self.host.handle(frame, &mut reply);
@@ -169,9 +169,10 @@ impl HostPlayer {
         self.command(tenant, MAP_CREATE, kind, &bytes)
     }
 
-    /// The reply to MAP_UPDATE_ELEM, as hex digits, for the words of a line: a tenant, a descriptor and the flags, in decimal digits, and
-    /// the bytes of the key and then the value, in hex digits. `Number` if the flags are no number of 64 bits, the tenant none of 16 bits,
-    /// or the descriptor none of 32 bits; other errors are those of `bytes_of` for the key and the value, and `Memory` if out of memory.
+    /// The reply to MAP_UPDATE_ELEM, as hex digits. `rest` has the words of a line after `update`: a tenant, a descriptor and the flags, in
+    /// decimal digits, and the bytes of the key and then the value, in hex digits. `Number` if the flags are no number of 64 bits, the
+    /// tenant none of 16 bits, or the descriptor none of 32 bits; other errors are those of `bytes_of` for the key and the value, and
+    /// `Memory` if out of memory.
     fn update(&mut self, rest: &str) -> Result<String, CaseError> {
         let (tenant, rest) = first_word(rest);
         let (descriptor, rest) = first_word(rest);
@@ -221,10 +222,11 @@ impl HostPlayer {
         self.command(tenant, PROG_TEST_RUN, descriptor, &input)
     }
 
-    /// The reply of this player's host, as hex digits, to the frame that a line asks for, a line of its own or one in a line `rounds`.
-    /// `word` is the line's first word, `rest` the text after it. `UnknownWord` if a line with this first word asks for no frame; else
-    /// `Number` if a number is missing or wrong, `Notation`, `Digits` or `NoText` if hex digits or a program's text break the notation of
-    /// cases, `Text` if the text does not assemble, and `Memory` if out of memory.
+    /// The reply of this player's host, as hex digits, to the frame that a line asks for; the line may be one of those that a line `rounds`
+    /// repeats. `word` is its first word, `rest` the text after it: for `frame` the frame in hex digits, for any other word the tenant and
+    /// the fields of a command. A program is loaded by `load` from its text, by `slots` from its slots in hex digits. `UnknownWord` if a
+    /// line with this first word asks for no frame; else `Number` if a number is missing or wrong, `Notation`, `Digits` or `NoText` if hex
+    /// digits or a program's text break the notation of cases, `Text` if the text does not assemble, and `Memory` if out of memory.
     fn reply_to_line(&mut self, word: &str, rest: &str) -> Result<String, CaseError> {
         match word {
             "frame" => self.reply_to_digits(rest),
@@ -241,9 +243,10 @@ impl HostPlayer {
         }
     }
 
-    /// Plays one round of a line `rounds`: the lines that `lines` has, with `|` between them, each a first word and the text after it.
-    /// Returns their replies as hex digits, also with `|` between them. The error is that of the first line that has one (`reply_to_line`),
-    /// as `UnknownWord` if its first word asks for no frame; `Memory` if out of memory.
+    /// Plays the lines of a line `rounds` once; such a line repeats them to show that earlier rounds change no reply. `lines` has them with
+    /// `|` between them, each a first word and the text after it. Returns their replies as hex digits, with ` | ` between them. The error
+    /// is that of the first line that has one (`reply_to_line`), for example `UnknownWord` if its first word asks for no frame; `Memory` if
+    /// out of memory.
     fn round(&mut self, lines: &str) -> Result<String, CaseError> {
         let mut replies = String::new(self.alloc);
         for line in lines.split('|') {
@@ -299,8 +302,8 @@ impl HostPlayer {
 
     /// Sets the bytes of the context words in the frames of later test runs; their number is not checked. `digits` has these bytes as hex
     /// digits in the notation of cases. `Notation` if that notation is wrong, `NoText` if what it gives is not UTF-8, `Digits` if a
-    /// character is no hex digit or the number of digits is odd, `Memory` if out of memory; after an error the words are unchanged. Returns
-    /// the empty text, since this line has no output.
+    /// character is neither a space nor a hex digit, or the number of digits is odd. Out of memory is `Digits` in the decoder of the
+    /// digits, else `Memory`. After an error the words are unchanged. Returns the empty text, since this line has no output.
     fn set_words(&mut self, digits: &str) -> Result<String, CaseError> {
         self.words = bytes_of(self.alloc, digits)?;
         Ok(String::new(self.alloc))

@@ -24,8 +24,8 @@ fn end_of(alloc: Global, end: Result<u32, ServeFault>) -> Result<String, AllocEr
 }
 
 /// How a stream ended, as text (`ok` or the fault line, with the number of frames that had a reply), and in the next line the hex digits of
-/// `output`, the bytes that were written. `end` is the result of `serve`: the number of frames that had a reply, or the fault.
-/// `AllocError`: out of memory for the text.
+/// `output`, the bytes that were written, with a blank between groups of `GROUP` bytes. `end` is the result of `serve`: the number of
+/// frames that had a reply, or the fault. `AllocError`: out of memory for the text.
 fn ended(alloc: Global, end: Result<u32, ServeFault>, output: &[u8]) -> Result<String, AllocError> {
     let end = end_of(alloc, end)?;
     let output = hex_groups(alloc, output, GROUP)?;
@@ -83,10 +83,11 @@ pub fn cut(alloc: Global, line: &str) -> Result<String, CaseError> {
     served(alloc, &mut host, limit, &input)
 }
 
-/// A case of `Counted`, as a reader and as a writer: reads up to `ROOM` of the bytes of hex `digits` by one call, writes the bytes read by
-/// one call, and flushes. Returns the text `WRITTEN of READ [HEX]`: how many bytes the writer took, how many the reader gave, and all bytes
-/// that the writer has. If a call fails, the text is `no read`, `no write` or `no flush`, and not an error. The errors are those of
-/// `bytes_of`, for example `Digits` if a character is no hex digit, and `Memory` if out of memory.
+/// A case of `Counted`, which has to pass each call on to the reader or writer in it: reads up to `ROOM` of the bytes of hex `digits` by
+/// one call, writes the bytes read by one call, and flushes. Returns the text `WRITTEN of READ [HEX]`: how many bytes the writer took, how
+/// many the reader gave, and all bytes that the writer has. If a call fails, the text is `no read`, `no write` or `no flush`, and not an
+/// error; but only a write out of memory can fail here, and `failing_io` tests how failures are counted. The errors are those of
+/// `bytes_of`, for example `Digits` if a character is no hex digit, and `Memory` if out of memory elsewhere.
 pub fn relay(alloc: Global, digits: &str) -> Result<String, CaseError> {
     let input = bytes_of(alloc, digits)?;
     let mut reader = Counted::new(input.as_slice());
@@ -133,9 +134,9 @@ fn ran(alloc: Global, words: &[&str], input: &[u8]) -> Result<String, CaseError>
 
 /// Plays a line `program`: calls `run_words`, the host's command line, and returns as text how it ended: the exit status, the output in hex
 /// digits, and the fault line (`ran`). `line` is the line of the case after its first word: the arguments, separated by blanks, then `<`
-/// and the input in hex digits. The argument `""` is empty. `Notation` if there is no `<`, or the input breaks the notation of cases;
-/// `Digits` if it is not hex digits, or their number is odd; `NoText` if the input or the fault line is not UTF-8; `Memory` if out of
-/// memory.
+/// and the input as hex digits, which a repetition, as `{2*0a}`, may give (`bytes_of`). The argument `""` is empty. `Notation` if there is
+/// no `<`; `Notation`, `NoText` or `Digits` if the input breaks the notation or is not hex digits, two for each byte (`bytes_of`); `NoText`
+/// if the fault line is not UTF-8. If out of memory, `Memory`, or `Digits` from the decoder of the digits.
 pub fn program(alloc: Global, line: &str) -> Result<String, CaseError> {
     let (words, digits) = input_of(line)?;
     let words: Vec<&str> = words.split_whitespace().map(word_of).collect(alloc)?;

@@ -13,7 +13,8 @@ pub struct LogPlayer {
 }
 
 impl LogPlayer {
-    /// A player with no open descriptor.
+    /// A player for a file of cases, before the first line: no descriptor is open. The lines `map` and `program` open descriptors, with
+    /// which the programs of later lines are verified (`Descriptors`).
     pub fn new(alloc: Global) -> LogPlayer {
         LogPlayer {
             alloc,

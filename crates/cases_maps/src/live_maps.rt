@@ -64,8 +64,8 @@ impl LiveMapsPlayer {
         })
     }
 
-    /// Plays the line `maps new`: the lines that follow find no live maps, a part of zero bytes, and numbers of maps that begin again at 0.
-    /// Returns the empty text, since this line has no output. `Memory` if out of memory.
+    /// Plays the line `maps new`: the lines that follow find no live maps, a part whose bytes are all 0, and numbers of maps that begin
+    /// again at 0. Returns the empty text, since this line has no output. `Memory` if out of memory.
     fn begin(&mut self) -> Result<String, CaseError> {
         *self = LiveMapsPlayer::new(self.alloc)?;
         Ok(nothing(self.alloc))
@@ -117,8 +117,9 @@ impl LiveMapsPlayer {
     }
 
     /// Drops one reference to the map whose number in the lines is `number`, the index of its handle in `handles`. Returns `live` if the
-    /// map has another reference, or `gone` if that was the last one, so that the map is freed. `NoMap` if `handles` has no such index, or
-    /// the map is not live; `Number` if `number` is no number; `Memory` if out of memory for the text.
+    /// map has another reference, or `gone` if that was the last one. Then the map is freed, and the areas of later maps move down in part
+    /// 0, the only part of the arena. `NoMap` if `handles` has no such index, or the map is not live; `Number` if `number` is no number;
+    /// `Memory` if out of memory for the text.
     fn release(&mut self, number: &str) -> Result<String, CaseError> {
         let map = self.live_map(number)?;
         // A law, which does nothing when it runs: the size of the memory is that of its part.
@@ -168,10 +169,11 @@ impl LiveMapsPlayer {
         Ok(format!(in self.alloc; "at {offset}")?)
     }
 
-    /// The value of a key in a live map, as hex digits in groups of `GROUP` bytes; `absent` if the map does not have the key. The words of
-    /// `rest` are the map's number in the lines and the key as hex digits. `Number` if the first word is no number, `NoMap` if no live map
-    /// has this number. For the key, `Size` if it has not the size of the map's keys; `Digits` if a character is no hex digit or the number
-    /// of digits is odd; `Notation` or `NoText` if it is not in the notation of cases. `Memory` if out of memory.
+    /// The value of a key in a live map, as hex digits in groups of `GROUP` bytes, with a blank between them; `absent` if the map does not
+    /// have the key. `rest` is the map's number in the lines, a blank, and the key's hex digits in the notation of cases. `Number` if the
+    /// first word is no number, `NoMap` if no live map has this number. Then for the key: `Notation` if the notation is wrong; `NoText` if
+    /// the text that it gives is not UTF-8; `Digits` if a character of this is neither a blank nor a hex digit, or the number of digits is
+    /// odd; `Size` if it has not the size of the map's keys. If out of memory, `Memory`, or `Digits` from the decoder of the digits.
     fn find(&self, rest: &str) -> Result<String, CaseError> {
         let (number, digits) = first_word(rest);
         let map = self.live_map(number)?;
@@ -212,10 +214,11 @@ impl LiveMapsPlayer {
         }
     }
 
-    /// Removes a key from a live map. The words of the line are the map's number in the lines, and the key in hex digits. Returns
-    /// `removed`, or the name of the map's fault: `Invalid` for an array, `NoEntry` if the key is absent. The error is `Number` if the
-    /// first word is no number, `NoMap` if no live map has it, `Notation`, `NoText` or `Digits` if the digits are wrong (`bytes_of`),
-    /// `Size` if the key has not the size of the map's keys, and `Memory` if out of memory.
+    /// Removes a key from a live map. The key's element is kept apart, so no other key gets it before a line `end` or `run` for this map.
+    /// The words of the line are the map's number in the lines, and the key in hex digits. Returns `removed`, or the name of the map's
+    /// fault: `Invalid` for an array, `NoEntry` if the key is absent. The error is `Number` if the first word is no number, `NoMap` if no
+    /// live map has it, `Notation`, `NoText` or `Digits` if the digits are wrong (`bytes_of`), and `Size` if the key has not the size of
+    /// the map's keys. If out of memory, it is `Memory`, or `Digits` from the decoder of the digits.
     fn remove(&mut self, rest: &str) -> Result<String, CaseError> {
         let (number, digits) = first_word(rest);
         let map = self.live_map(number)?;
@@ -227,7 +230,8 @@ impl LiveMapsPlayer {
     /// follows. The words of a line are the map's number in the lines, which is no handle (`live_map`), and the key in hex digits. Without
     /// a key, or if the map does not have the key, the result is the map's first key. `Number` if the first word is no number, `NoMap` if
     /// no live map has this number, `Size` if a key is given that is longer or shorter than the map's keys. If the key is not hex digits in
-    /// the notation of cases, the error is `Notation`, `NoText` or `Digits` (`bytes_of`). `Memory` if out of memory.
+    /// the notation of cases, the error is `Notation`, `NoText` or `Digits` (`bytes_of`). If out of memory, `Memory`, or `Digits` from the
+    /// decoder of the digits.
     fn next(&self, rest: &str) -> Result<String, CaseError> {
         let (number, digits) = first_word(rest);
         let map = self.live_map(number)?;
@@ -251,10 +255,10 @@ impl LiveMapsPlayer {
     }
 
     /// Verifies a program, runs it on a live map and a packet, and returns the result of the run in decimal digits. The words of `rest` are
-    /// the map's number in the lines (`live_map`), the packet as hex digits, and the program's text. The map has descriptor 3, and no other
-    /// descriptor is open. `NoMap` if no live map has the number, or the program loads no map; `Refused` if the verifier rejects the
-    /// program, for example since it loads another map; `OutOfRange` if the packet is longer than `LONGEST_PACKET`. Other errors are those
-    /// of `live_map`, `bytes_of` and `run_text`.
+    /// the number that `create` returned for the map, the packet as hex digits, and the program's text. The map has descriptor 3, and no
+    /// other descriptor is open. Before the run, elements of the map that are kept apart become free. `NoMap` if no live map has the
+    /// number, or the program loads no map; `Refused` if the verifier rejects the program, for example since it loads another map;
+    /// `OutOfRange` if the packet is longer than `LONGEST_PACKET`. Other errors are those of `live_map`, `bytes_of` and `run_text`.
     fn run(&mut self, rest: &str) -> Result<String, CaseError> {
         let (number, rest) = first_word(rest);
         let (packet, text) = first_word(rest);
@@ -276,8 +280,9 @@ impl LiveMapsPlayer {
 
     /// Plays a call on live maps, given by its name (`call`) and further words (`rest`). Returns the outcome as text. `new` drops all maps,
     /// `create` makes one, `release` drops a reference; `shape` returns a map's shape, `at` the offset of an element's value; `find` looks
-    /// a key up, `claim` updates, `remove` deletes, `next` returns the next key; `run` is a test run, `end` ends one; `refused` is whether
-    /// a map was refused memory. `UnknownWord` for any other name; else the errors of the call's function.
+    /// a key up, `claim` updates, `remove` deletes, `next` returns the next key; `end` frees the elements of removed keys, as the end of a
+    /// run does; `run` is a whole test run; `refused` is whether memory was refused to a map since `new`. `UnknownWord` for any other name;
+    /// else the errors of the call's function.
     pub fn play(&mut self, call: &str, rest: &str) -> Result<String, CaseError> {
         match call {
             "new" => self.begin(),

@@ -73,9 +73,10 @@ impl MemoryPlayer {
         Ok(nothing(self.alloc))
     }
 
-    /// Plays a line `memory load`, in which `rest` has the address and the size. Returns the little-endian number that a load of so many
-    /// bytes reads there, in decimal digits, or `outside` if the memory does not have all these bytes. `Number` if the address does not
-    /// parse; `OutOfRange` if an address with `+` is 2^64 or more, or the size is not 1, 2, 4 or 8; `Memory` if out of memory.
+    /// Plays a line `memory load`, in which `rest` has the address and the size. The address is a number, or `+` and a distance from the
+    /// memory's first address (`BASE`). Returns the little-endian number of so many bytes there, in decimal digits, or `outside` if the
+    /// memory does not have all these bytes. `Number` if the number or the distance does not parse; `OutOfRange` if `BASE` and the distance
+    /// add up to 2^64 or more, or the size is not 1, 2, 4 or 8; `Memory` if out of memory.
     fn load(&self, rest: &str) -> Result<String, CaseError> {
         let (at, size) = first_word(rest);
         match self
@@ -116,9 +117,9 @@ impl MemoryPlayer {
     }
 
     /// Loads bytes one by one from an address on. Returns them as decimal numbers with spaces between, or the text `outside` if the memory
-    /// does not have one of them. `rest` has the words of the line: the address, a number or `+` and a distance from `BASE`, and how many
-    /// bytes, 0 to 255. The error is `Number` if a word is no such number, `OutOfRange` if `BASE` and the distance add up to 2^64 or more,
-    /// `Memory` if out of memory. The sum in the loop never overflows, since no memory reaches up to 2^64.
+    /// does not have one of them. `rest` has the words of the line: the address, a number or `+` and a distance from the memory's first
+    /// address (`BASE`), and how many bytes, 0 to 255. The error is `Number` if a word is no such number, `OutOfRange` if `BASE` and the
+    /// distance add up to 2^64 or more, `Memory` if out of memory. The sum in the loop never overflows, since no memory reaches up to 2^64.
     fn bytes(&self, rest: &str) -> Result<String, CaseError> {
         let (from, count) = first_word(rest);
         let from = address(from)?;

@@ -9,10 +9,11 @@ use seeded_hash::HashSeed;
 use std::alloc::Global;
 
 /// Finds a key in a map. Returns the text `element` with the number of its element, or `absent` if the map does not have the key. `digits`
-/// is the key, as hex digits in the notation of cases, which blanks may separate. `size` is the size of the map's keys in bytes, which
-/// `ValueMap::find` requires of a key. The error is `Notation` if a repetition is wrong or a `\x` is cut off; `NoText` if the bytes that
-/// `digits` gives (`written`) are not UTF-8; `Digits` if a character is neither a blank nor a hex digit, or the number of digits is odd;
-/// `Size` if the key has more or fewer bytes than `size`; `Memory` if out of memory.
+/// is the key, as hex digits in the notation of cases: blanks may separate them, and a repetition `{COUNT*PART}` or a `\xHH`, a byte by two
+/// digits, may give them. `size` is the size of the map's keys in bytes, which `ValueMap::find` requires of a key. `Notation` if a
+/// repetition is wrong or a `\x` is cut off; `NoText` if the bytes that `digits` gives (`written`) are not UTF-8; `Digits` if a character,
+/// also after a `\x`, is no hex digit, or the number of digits is odd; `Size` if the key has more or fewer bytes than `size`. If out of
+/// memory, `Memory`, or `Digits` from the decoder of the digits.
 fn find<M: ValueMap>(alloc: Global, map: &M, size: u32, digits: &str) -> Result<String, CaseError>
     requires { size ≡ (M.keys map.now).shape.key_size }
 {
@@ -27,7 +28,7 @@ fn find<M: ValueMap>(alloc: Global, map: &M, size: u32, digits: &str) -> Result<
 /// a present one), a blank, and the key as hex digits; `size` is the size of the map's keys in bytes. Returns the text `claimed`, without
 /// the element, or the name of the map's fault. `Number` if the flags are no number of 64 bits. For the key, `Size` if it has more or fewer
 /// bytes, `Digits` if it has a character that is no hex digit or an odd number of digits, `Notation` or `NoText` if the notation of cases
-/// is wrong or gives no text. `Memory` if out of memory.
+/// is wrong or gives no text. If out of memory, `Memory`, or `Digits` from the decoder of the digits.
 fn claim<M: ValueMap>(
     alloc: Global,
     map: &mut M,
@@ -43,9 +44,10 @@ fn claim<M: ValueMap>(
 }
 
 /// Plays a line `map remove`: removes a key, given as hex digits, from a map. Returns the text `removed`, or the name of the map's fault:
-/// `Invalid` for an array, `NoEntry` if the key is absent. `size` is the size of the map's keys in bytes. `Size` if the digits give more or
-/// fewer bytes, `Digits` if they are no hex digits or their number is odd, `Notation` or `NoText` if they break the notation of cases
-/// (`bytes_of`), `Memory` if out of memory.
+/// `Invalid` for an array, `NoEntry` if the key is absent. `size` is the size of the map's keys in bytes. `Notation` if a repetition in
+/// `digits` is wrong or a `\x` is cut off; `NoText` if the bytes that `digits` gives are not UTF-8; `Digits` if these, without blanks, are
+/// no hex digits or an odd number of them; `Size` if the key has more or fewer bytes. If out of memory, `Memory`, or `Digits` from the
+/// decoder of the digits.
 fn remove<M: ValueMap>(
     alloc: Global,
     map: &mut M,
@@ -61,8 +63,8 @@ fn remove<M: ValueMap>(
 /// Returns the hex digits of the key that follows a key in the map, in groups of `GROUP` bytes; if no key follows, or the map has no key,
 /// the name of the map's fault, `NoEntry`. `digits` are the hex digits of the key that it follows. If there are none, or the map does not
 /// have that key, the result is the first key. `size` is the size of the map's keys in bytes, by the precondition. The errors are those of
-/// `bytes_of` (`Notation`, `NoText`, `Digits` or `Memory`), then `Size` if there are digits, but of more or fewer bytes than `size`;
-/// `Memory` also if out of memory for the text.
+/// `bytes_of` (`Notation`, `NoText`, `Digits` or `Memory`, each of the last two also if out of memory), then `Size` if there are digits,
+/// but of more or fewer bytes than `size`; `Memory` also if out of memory for the text.
 fn next<M: ValueMap>(alloc: Global, map: &M, size: u32, digits: &str) -> Result<String, CaseError>
     requires { size ≡ (M.keys map.now).shape.key_size }
 {
@@ -126,11 +128,12 @@ impl OneMapPlayer {
         Ok(nothing(self.alloc))
     }
 
-    /// Plays a line `map CALL REST`. If `call` is `new`, `rest` is a shape, `KIND:KEY:VALUE:MAX`: the map is made, and the result is the
-    /// empty text. Else `call` is `find`, `claim`, `remove`, `next` or `end`, and `rest` has the words of its arguments: this function of
-    /// the map is called, and the result is what it returns, as text. `NoMap` before the first `new`; `UnknownWord` for another `call`;
-    /// `Map` if `rest` is no shape; `Number` for wrong flags; `Notation`, `NoText`, `Digits` or `Size` for a wrong key; `Memory` if out of
-    /// memory.
+    /// Plays a line `map CALL REST`, of which it gets `call` and `rest`, the text after it. `new` with a shape `KIND:KEY:VALUE:MAX` makes
+    /// the map, which replaces the one before, and the result is the empty text. `find KEY`, `claim FLAGS KEY`, `remove KEY`, `next KEY` (or
+    /// `next` for the first key) and `end` call the map's function, and the result is what it returns, as text (`play_call`); a key is hex
+    /// digits in the notation of cases. `NoMap` before the first `new`; `UnknownWord` for another `call`; `Map` if `rest` is no shape;
+    /// `Number` for wrong flags; `Notation`, `NoText`, `Digits` or `Size` for a wrong key (`bytes_of_size`). If out of memory, `Memory`, or
+    /// `Digits` from the decoder of a key's digits.
     pub fn play(&mut self, call: &str, rest: &str) -> Result<String, CaseError> {
         if call == "new" {
             return self.begin(rest);

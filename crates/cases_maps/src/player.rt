@@ -15,8 +15,8 @@ pub struct MapPlayer {
 }
 
 impl MapPlayer {
-    /// A player before its first line: it has no map (`one`), no live maps (`live`), and a memory of one part of one byte (`memory`).
-    /// `AllocError`: out of memory.
+    /// A player before its first line: it has no map (`one`), no live maps (`live`), and the smallest memory that `Arena` allows, one part
+    /// of one byte (`memory`). `AllocError`: out of memory.
     pub fn new(alloc: Global) -> Result<MapPlayer, AllocError> {
         Ok(MapPlayer {
             one: OneMapPlayer::new(alloc),
@@ -27,9 +27,9 @@ impl MapPlayer {
 }
 
 impl Player for MapPlayer {
-    /// Plays a line by its first word, which names the object of the call: `map` one map, `maps` the live maps of a tenant, `memory` a
-    /// memory. The second word is the call, the rest its arguments. Returns the call's outcome or its error; `UnknownWord` for any other
-    /// first word.
+    /// Plays a line by its first word, which names the object of the call: `map` one map, `maps` the live maps of a tenant, `memory` an
+    /// arena of its own, which has no maps. The second word is the call, the rest its arguments. Returns the call's outcome or its error;
+    /// `UnknownWord` for any other first word.
     fn play(&mut self, line: &str) -> Result<String, CaseError> {
         let (word, rest) = first_word(line);
         let (call, rest) = first_word(rest);

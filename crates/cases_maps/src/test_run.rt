@@ -41,9 +41,9 @@ fn accepted(alloc: Global, text: &str, shape: MapShape) -> Result<Verified, Case
 /// Runs a program on `packet` and returns its outcome. `text` is the program's text in the notation of cases. The words of the context are
 /// the packet's length and `GIVEN_WORDS` zeros. `map` is live (`live`), and the program has to load it, by `DESCRIPTOR`. Before the run,
 /// the last run on the map is ended, since no element of a map may be kept apart when a run begins. The map's values are in part 0 of the
-/// arena, whose parts have `PART` bytes before and after the run (`IsPartOf`). Errors: `Notation`, `Digits`, `NoText` or `Memory` if `text`
-/// can't be read, `Text` if it does not assemble, `Refused` if the program is rejected, `NoMap` if it loads no map, and `OutOfRange` if the
-/// packet is longer than `LONGEST_PACKET`.
+/// arena, whose parts have `PART` bytes before and after the run (`IsPartOf`). `Notation` or `Digits` if the notation is wrong, `NoText` if
+/// it gives no UTF-8, `Memory` if out of memory for its bytes. `Text` if the program does not assemble, `Refused` if it is rejected, these
+/// two also if out of memory there. `NoMap` if it loads no map, `OutOfRange` if the packet is longer than `LONGEST_PACKET`.
 pub fn run_text(
     alloc: Global,
     text: &str,

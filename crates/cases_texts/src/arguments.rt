@@ -28,7 +28,8 @@ pub fn program_ended(alloc: Global, case: &str) -> Result<String, CaseError> {
 
 /// Plays a line `map`: reads `argument` as the program `bpfhost` reads the argument for a map (`read_shape` of `host`), a descriptor,
 /// `array` or `hash`, the sizes of a key and of a value, and `max_entries`, with colons between them. Returns the descriptor and the shape
-/// as Rust prints them for debugging. `Map` if the argument names no map, `Memory` if out of memory.
+/// as Rust prints them for debugging. `Map` if `read_shape` rejects the argument, for its form or for its numbers; `Memory` if out of
+/// memory.
 pub fn printed_map(alloc: Global, argument: &str) -> Result<String, CaseError> {
     let map = read_shape(argument)?;
     Ok(format!(in alloc; "{map:?}")?)

@@ -38,9 +38,9 @@ pub fn decoded(alloc: Global, text: &str) -> Result<String, CaseError> {
 }
 
 /// The outcome of the line `dis`: the text of the program that the bytes spell, on one line, with `;` for each line feed (`shown`). `text`
-/// has the bytes as hex digits in the notation of cases. `Slots`, with the fault and its slot, if the bytes spell no program, or if reading
-/// it is out of memory; `Notation`, `NoText` or `Digits` if `text` is not hex digits in that notation (`bytes_of`); else `Memory` if out of
-/// memory.
+/// has the bytes as hex digits in the notation of cases. `Slots`, with the fault and its slot, if the bytes spell no program; `Notation`,
+/// `NoText` or `Digits` if `text` is not hex digits in that notation (`bytes_of`). If out of memory, `Memory`, but `Digits` from the
+/// decoder of the digits, and `Slots` from reading the program.
 pub fn disassembled(alloc: Global, text: &str) -> Result<String, CaseError> {
     let bytes = bytes_of(alloc, text)?;
     let program = read_program(alloc, &bytes)?;
@@ -49,8 +49,8 @@ pub fn disassembled(alloc: Global, text: &str) -> Result<String, CaseError> {
     Ok(answer)
 }
 
-/// The instructions of a program, in order; the caller makes a second program of them. At the second slot of a wide instruction none
-/// begins, so `get` returns `None` there. `AllocError`: out of memory.
+/// The instructions of a program, in order. The caller makes a second program of them, to test `Program::new`. At the second slot of a
+/// wide instruction none begins, so `get` returns `None` there. `AllocError`: out of memory.
 fn insns_of(alloc: Global, program: &Program) -> Result<Vec<Insn>, AllocError> {
     let mut insns = Vec::new(alloc);
     for slot in 0..program.slots() {
@@ -77,7 +77,8 @@ fn append_slot(text: &mut String, program: &Program, slot: usize) -> Result<(), 
 /// The outcome of a line `places`, as `0: Exit; 1: none`: for each slot of a program, and for the slot after its last one, the instruction
 /// that begins there, or `none`. `text` has the program's slots as hex digits. They are decoded, and a second program is made of the
 /// instructions and cloned. The outcome is that of the clone, so that `Program::new` and `clone` are tested too. `Slots` if the bytes spell
-/// no program, `Memory` if out of memory, and the errors of `bytes_of`.
+/// no program; `Notation`, `NoText` or `Digits` if `text` is no hex digits in the notation of cases (`bytes_of`). If out of memory,
+/// `Memory`, but `Digits` from the decoder of the digits, and `Slots` from reading or making a program.
 pub fn places(alloc: Global, text: &str) -> Result<String, CaseError> {
     let bytes = bytes_of(alloc, text)?;
     let program = read_program(alloc, &bytes)?;

@@ -17,8 +17,9 @@ fn program_of(alloc: Global, text: &str) -> Result<Program, CaseError> {
 }
 
 /// `asm`: assembles the program whose text is given in the notation of cases, and returns its hex lines on one line: `;` for each line
-/// feed, and equal lines as a repetition (`shown`). `Notation` or `Digits` if the text is not in the notation, `NoText` if its bytes are
-/// not UTF-8, `Text` if it does not assemble, also if the assembler is out of memory, and `Memory` if another call is.
+/// feed, and equal lines, one after another, as a repetition (`shown`). `Notation` if a repetition in `text` is wrong or a `\x` is cut off,
+/// `Digits` if the two bytes after a `\x` are no hex digits, `NoText` if the bytes of the program's text are not UTF-8. `Text` if this does
+/// not assemble, also if the assembler is out of memory, and `Memory` if another call is.
 pub fn assembled(alloc: Global, text: &str) -> Result<String, CaseError> {
     let program = program_of(alloc, text)?;
     let lines = hex_lines(alloc, &program)?;
@@ -26,9 +27,10 @@ pub fn assembled(alloc: Global, text: &str) -> Result<String, CaseError> {
     Ok(answer)
 }
 
-/// `round`: disassembles the program whose text is given in the notation of cases, and returns the text that the disassembler prints, on
-/// one line (`shown`). This text is assembled again: if that gives other slots, the result is `another program`. `Text` if one of the two
-/// texts does not assemble, else the errors of `program_of`, or out of memory.
+/// The outcome of a line `round`: `text`, the line after this word, is a program's text in the notation of cases. The program is
+/// disassembled, and the result is the text that this prints, on one line (`shown`). That text is assembled again: if this gives other
+/// slots, the result is `another program`. `Notation` or `Digits` if `text` is not in the notation, `NoText` if its bytes are not UTF-8,
+/// `Text` if one of the two texts does not assemble or the assembler is out of memory, and `Memory` if another call is.
 pub fn printed(alloc: Global, text: &str) -> Result<String, CaseError> {
     let program = program_of(alloc, text)?;
     let text = disassemble(alloc, &program)?;
@@ -40,10 +42,11 @@ pub fn printed(alloc: Global, text: &str) -> Result<String, CaseError> {
     Ok(answer)
 }
 
-/// The outcome of a line `hex`: `text`, the line after this word, is hex lines in the notation of cases, and the result is the bytes of
-/// their slots as hex digits, with a blank after each slot but the last. `Notation` or `Digits` if `text` is not in the notation
-/// (`written`), `NoText` if the hex lines are not UTF-8, `Text` if one of them has a fault, there is no slot, or `from_hex_lines` is out of
-/// memory; `Memory` if out of memory otherwise.
+/// The outcome of a line `hex`. `text`, what follows this word, gives hex lines in the notation of cases: each has the sixteen hex digits
+/// of one slot, blanks at its ends apart, or is blank. The result is the bytes of these slots as hex digits, with a blank after each slot
+/// but the last. `Notation`, or `Digits` for a `\x` without two hex digits, if `text` is not in the notation (`written`); `NoText` if the
+/// hex lines are not UTF-8; `Text` if one of them has a fault, there is no slot, or `from_hex_lines` is out of memory; `Memory` if out of
+/// memory otherwise.
 pub fn read_hex_lines(alloc: Global, text: &str) -> Result<String, CaseError> {
     let text = written(alloc, text)?;
     let bytes = from_hex_lines(alloc, text_of(&text)?)?;

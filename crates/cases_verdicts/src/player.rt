@@ -45,16 +45,19 @@ impl VerdictPlayer {
 
     /// Verifies the program that has the instructions of `text`, in the notation of cases, and then `r0 = 0; exit`, which a case thus need
     /// not have. Returns the word `accepted` if it is accepted; `Refused`, with slot and reason, if it is rejected. `Notation`, `Digits` or
-    /// `NoText` if `text` is not in this notation, `Text` if the program does not assemble, `Memory` if out of memory.
+    /// `NoText` if `text` is not in this notation, `Text` if the program does not assemble. Out of memory is `Text` from the assembler,
+    /// `Refused` from the verifier, else `Memory`.
     fn verdict_with_exit(&self, text: &str) -> Result<String, CaseError> {
         let whole = format!(in self.alloc; "{text}; r0 = 0; exit")?;
         self.verdict(whole.as_str())
     }
 
-    /// The word `accepted` if the verifier accepts a program of `MAX_SLOTS` slots that has a conditional jump in every second slot
-    /// (`jumping`). `text` is a number and an instruction: each jump skips this number of slots, or goes to the last slot if it would go
-    /// past that; the last slot has the instruction. `Number` if the first word of `text` is no number. The other errors are those of the
-    /// function `accepted`, such as `Refused`, and out of memory.
+    /// The word `accepted` if the verifier accepts a program of `MAX_SLOTS` slots (`jumping`): a load, then conditional jumps, each with a
+    /// move after it, and in the last slot an instruction. `text` is a number and this instruction, in the notation of cases: each jump
+    /// skips this number of slots, or goes to the last slot if it would go past that. `Refused`, with slot and reason, if the program is
+    /// rejected; `Number` if the first word of `text` is no number. `Notation`, `Digits` or `NoText` if the instruction is not in this
+    /// notation, `Text` if the program does not assemble. Out of memory is `Text` from the assembler, `Refused` from the verifier,
+    /// else `Memory`.
     fn verdict_of_longest(&self, text: &str) -> Result<String, CaseError> {
         let (ahead, end) = first_word(text);
         let whole = jumping(self.alloc, ahead.parse()?, end)?;

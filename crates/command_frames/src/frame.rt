@@ -30,9 +30,9 @@ pub fn head(frame: &[u8]) -> Option<Head>
     })
 }
 
-/// Parses the command of a frame, which has at least the `HEAD_LENGTH` bytes of a head: the caller has found one by `head`. Only the
-/// numbers are copied; keys, values, slots and packets are borrowed from the frame. In the contract, `shown_result` has them as lists of
-/// bytes.
+/// Parses the command of a frame, which has at least the `HEAD_LENGTH` bytes of a head, two for the tenant and then two for the number of
+/// the command: the caller has found one by `head`. Only the numbers are copied; keys, values, slots and packets are borrowed from the
+/// frame. In the contract, `shown_result` has them as lists of bytes.
 ///
 /// # Errors
 ///

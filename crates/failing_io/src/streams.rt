@@ -98,8 +98,8 @@ impl Write for Output<'_> {
         Ok(count)
     }
 
-    // Fails if `flushes` is false, so that a test sees how a stream ends then. Else it does nothing: `write` has compared each byte at
-    // once.
+    // Fails if `flushes` is false, so that a test sees how a stream ends if a flush fails. Else there is nothing to do: the writer keeps no
+    // bytes back, since `write` has compared them with `expected` at once.
     fn flush(&mut self) -> io::Result<()> {
         if self.flushes {
             Ok(())
@@ -125,10 +125,11 @@ struct Stream<'a> {
     write_failures: u64,
 }
 
-/// Serves at most `limit` frames of the stream on a new host of two tenants. Asserts that the result is `end`, that as many calls of the
-/// reader and of the writer failed as `read_failures` and `write_failures` say, and that exactly the expected bytes are written: none
-/// differs, and `expected`, from which the writer removes the bytes that agree, is empty. The message of a failed assertion is `case`, the
-/// name of a group of streams, and `number`, the length or other number by which these differ: `room for 12`, for example.
+/// Serves at most `limit` frames of the stream on a new host of two tenants, with any seed, since no frame makes a hash map. Asserts that
+/// the result is `end`, that as many calls of the reader and of the writer failed as `read_failures` and `write_failures` say, and that
+/// exactly the expected bytes are written: none differs, and `expected`, from which the writer removes the bytes that agree, is empty. The
+/// message of a failed assertion is `case`, the name of a group of streams, and `number`, the length or other number by which these differ:
+/// `room for 12`, for example.
 fn assert_ends(rt: &impl Abort, alloc: Global, case: &str, number: usize, stream: Stream<'_>) {
     let Stream {
         input,

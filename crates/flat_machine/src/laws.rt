@@ -69,10 +69,10 @@ fn steps_stay_inside()
     bpf_helpers::laws::stores_keep_simulation();
 }
 
-/// A law with all premises of the proofs of runs and batches: the laws of a run's steps (`steps_follow`, `steps_stay_inside`), of the
-/// arguments of calls (`calls_name_all`), of its start and its end; that maps that are not bound to the run keep their values
-/// (`others_stay`); that each map that a program loads is listed, once (`maps_are_listed`); and that elements keep their offsets if the
-/// areas are unchanged. Nothing is done when it runs.
+/// A law with all premises of the proofs of runs and batches, so that each takes them by one call: the laws of a run's steps
+/// (`steps_follow`, `steps_stay_inside`), of its start and its end; that the arguments of a call name all that its helper needs
+/// (`calls_name_all`); that maps that are not bound to the run keep their values (`others_stay`); that the list of a program's maps has
+/// each map that the program loads, once (`maps_are_listed`); and that elements keep their offsets if the areas are unchanged.
 pub(crate) fn run_premises()
     ensures { RunLaws }
 {

@@ -15,9 +15,10 @@ pub fn unrefused_are_served_alone()
     tenant::laws::clear_flag_means_alone();
 }
 
-/// A law about a sequence of calls of `Host::handle`; the contract of `Host::handle` is about one call. Each tenant gets replies that its
-/// machine may give to its own frames, and if no memory was refused to it, exactly those of its machine without refusals; and no test
-/// run faults.
+/// A law about a sequence of calls of `Host::handle`, and of no other function, from any states of the tenants; the contract of
+/// `Host::handle` is about one call. Each tenant gets replies that its machine may give to its own frames, as if there were no other
+/// tenant; if no memory was refused to it, exactly those of its machine without refusals; and no test run faults. `serve` promises this of
+/// a stream of frames; a program that calls `handle` itself has it from here.
 pub fn calls_are_served_alone()
     ensures { CallsAreServedAlone }
 {

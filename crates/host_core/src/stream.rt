@@ -40,9 +40,10 @@ pub trait Sink {
     // How many calls failed so far.
     ghost failures: { Self → ℕ };
 
-    /// Writes bytes from the front of `bytes`, and returns how many, at most all (`bound`). `contents`, if known, grows by these bytes; a
-    /// call that returns an error writes none (`bytes`). The call counts as failed if it returns an error, or 0 although `bytes` is not
-    /// empty (`failures`). Fewer than 2^64 - 1 calls have failed before, so that `Counted` can count them in 64 bits.
+    /// Writes bytes from the front of `bytes`, and returns how many, at most all (`bound`). If the bytes written so far are known
+    /// (`contents`), those of this call are appended to them; a call that returns an error writes none (`bytes`). The call counts as failed
+    /// if it returns an error, or 0 although `bytes` is not empty (`failures`). Fewer than 2^64 - 1 calls have failed before, so that
+    /// `Counted` can count them in 64 bits.
     fn write(&mut self, bytes: &[u8]) -> io::Result<usize>
         requires { failures self.old < 2 ^ 64 - 1 }
         ensures bound { WritesAtMost result bytes.now }
@@ -71,7 +72,8 @@ pub struct Counted<T> {
 
 impl<T> Counted<T> {
     /// Wraps `inner`, a reader or a writer of std. The count of failed calls begins at 0 (`failures`). What was written to a writer before
-    /// counts as flushed (`flushed`), but nothing is flushed here.
+    /// counts as flushed (`flushed`), but nothing is flushed here: `serve` promises that everything is flushed at its end only if
+    /// everything was before, and so promises it for a new writer. Of a reader, `is_flushed` means nothing.
     pub fn new(inner: T) -> Counted<T>
         ensures inner { result.inner ≡ inner }
         ensures failures { result.failures ≡ 0 }
@@ -129,7 +131,8 @@ impl<W: Write> Sink for Counted<W> {
     ghost failures = { λ c. c.failures };
 
     /// Writes to the writer of std and returns its outcome. The call counts as failed if the outcome is an error, or 0 although `bytes` is
-    /// not empty: both end a stream. After each call, a failed one too, the output counts as not flushed.
+    /// not empty: both end a stream. Each call, a failed one too, clears `is_flushed`, which only contracts read. A flush that succeeds
+    /// sets it again, since the writer of std may keep bytes in a buffer until then.
     fn write(&mut self, bytes: &[u8]) -> io::Result<usize> {
         self.is_flushed = false;
         let outcome = self.inner.write(bytes);

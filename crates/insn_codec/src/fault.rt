@@ -29,7 +29,8 @@ pub enum FaultKind {
 impl FaultKind {
     ghost use Rattle.insn_codec.specs.Fault.{fault_number};
 
-    /// The number of the kind, 1 to 8. The reason in the reply to a PROG_LOAD with this fault is 100 more.
+    /// The number of the kind, its value in the enum. The reason in the reply to a PROG_LOAD that is rejected for this fault is 100 more.
+    /// No load is rejected for `Memory`: a load to which memory is refused has the status of ENOMEM, and no reason.
     pub fn number(self) -> u16
         ensures { result ≡ fault_number self }
     {

@@ -17,7 +17,8 @@ fn wide(value: u64) -> Insn
     Insn::Const { dst, value }
 }
 
-/// The first kind of fault, `Opcode`, has number 1, and the last one, `Memory`, number 8.
+/// The first kind of fault, `Opcode`, has number 1, and the last one, `Memory`, number 8. A refusal for such a fault gives 100 more than
+/// this number as its reason (`Cause::number` of `verifier`).
 fn kinds_of_faults() {
     let (first, last) = (FaultKind::Opcode.number(), FaultKind::Memory.number());
     prove!(first == 1);

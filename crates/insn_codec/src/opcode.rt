@@ -46,10 +46,10 @@ impl SourceBit {
         }
     }
 
-    /// The second operand of a slot that is decoded: its immediate if this is `Imm`; if it is `Reg`, `src`, the register of its source
-    /// field. Callers have tested that the field that is not used is zero (`listed`), so the operand determines the source bit and both
-    /// fields (`source`, `src`, `imm`). They have also tested that the register's number is at most 10 (`bound`): by `value` (`IsOperand`)
-    /// the operand is one that an instruction can have.
+    /// The second operand of a slot that is decoded: its immediate if this is `Imm`, `src` if it is `Reg`. `src` is the register of the
+    /// slot's source field, which `read_operation` also uses for a move that extends a sign. Callers have tested that the
+    /// field that is not used is zero (`listed`), so the operand determines the source bit and both fields (`source`, `src`, `imm`), and
+    /// that the register's number is at most 10 (`bound`): by `value` (`IsOperand`) the operand is one that an instruction can have.
     pub(crate) fn operand(self, slot: &RawSlot, src: Reg) -> Operand
         requires listed { IsTrue (one_operand self (fields slot.now)) }
         requires src { (fields slot.now).src ≡ src }

@@ -87,10 +87,11 @@ fn read_class_ld(
 }
 
 /// Reads the instruction whose first slot is `slot` into `entry`, by its class, the opcode's low three bits (RFC 9669, section 3.3). The
-/// classes 0 to 7 are LD, LDX, ST, STX, ALU, JMP, JMP32 and ALU64. `rest` are the bytes after that slot. Returns the second slot, at the
-/// front of `rest` (`second`), if the instruction is wide, else `None`. The instruction's numbers are in their ranges (`value`), and these
-/// slots spell it (`slots`). The error is the first fault that applies (`fault`): `Opcode` if no instruction has the opcode, `Reserved` for
-/// a field's value that the opcode does not allow, `Register` for a register above 10, `SecondSlot` if the second slot is missing or wrong.
+/// classes 0 to 7 are LD, LDX, ST, STX, ALU, JMP, JMP32 and ALU64; for the last four, `true` is a width of 64 bits (JMP and ALU64), and
+/// `false` of 32. `rest` are the bytes after that slot. Returns the second slot, at the front of `rest` (`second`), if the instruction is
+/// wide, else `None`. The instruction's numbers are in their ranges (`value`), and these slots spell it (`slots`). The error is the first
+/// fault that applies (`fault`): `Opcode` if no instruction has the opcode, `Reserved` for a field's value that the opcode does not allow,
+/// `Register` for a register above 10, `SecondSlot` if the second slot is missing or wrong.
 #[inline(always)]
 #[tactic(auto, unfolding(crate::specs::inside::Form::form_at))]
 fn read_slot(entry: &mut Insn, slot: &RawSlot, rest: &[u8]) -> Result<Option<RawSlot>, FaultKind>

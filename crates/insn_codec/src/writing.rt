@@ -88,8 +88,9 @@ fn jumping_class(wide: bool) -> u8
     if wide { 5 } else { 6 }
 }
 
-/// The opcode of arithmetic or of a jump, from the highest bit on: four bits of `code`, which says the operation or the condition, the bit
-/// `source`, 1 if the second operand is a register and else 0, and three bits of `class` (RFC 9669, section 4).
+/// The opcode of arithmetic or of a conditional jump, from the highest bit on: four bits of `code`, which says the operation or the
+/// condition, the bit `source`, 1 if the second operand is a register and else 0, and three bits of `class` (RFC 9669, section 4). A
+/// byte-order conversion, whose source bit does not say this, has its opcode from `end_opcode`.
 fn opcode(code: u8, source: u8, class: u8) -> u8
     requires code { code < 16 }
     requires source { source ≤ 1 }

@@ -7,8 +7,9 @@ use Rattle.words.specs.declared.operator.ByteOrder.TheVariants.{Little, Big, Swa
 use Rattle.words.specs.declared.stack.AccessSize.{AccessSize}
 use Rattle.words.specs.declared.stack.AccessSize.TheVariants as size
 
--- the opcode of an arithmetic instruction or a jump, section 4: four bits of code, one of source,
--- three of class
+-- the opcode of an arithmetic instruction or a jump, section 4: four bits of code, one of source (1
+-- if the second operand is a register), three of class. A byte-order conversion, whose source bit
+-- has another meaning, has its opcode by `end_opcode`
 abbrev pub opcode : ℕ → ℕ → ℕ → ℕ
 opcode code source class = 16 * code + 8 * source + class
 

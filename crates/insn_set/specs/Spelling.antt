@@ -45,14 +45,14 @@ imm_field (Reg r) = 0
 
 -- an instruction's first slot, by the arguments of `slot`: opcode, destination, source, offset and
 -- immediate; a field that is not used is 0. `opcode` makes an opcode from a code, a source bit and
--- a class. Code 11 is a move, also one with sign extension, which has its number of bits in the
--- offset; 8 is a negation or, in class 5, a call; 9 is the exit; 0 is a jump without a condition,
--- whose distance is in the offset in class 5, in the immediate in class 6. A signed division or
--- remainder has 1 in the offset. A byte-order conversion has its number of bits in the immediate.
--- `memory_opcode` makes an opcode from a mode (3 is MEM, 6 is ATOMIC), a size and a class. An
--- atomic operation has its operator in the immediate. A wide load (0x18) has source 0 for a number,
--- whose low half is the immediate; 1 for a map, 2 for the address of a byte in a map's first value,
--- both with the map's descriptor as immediate
+-- a class (5 is JMP, 6 is JMP32). Code 11 is a move, also one with sign extension, which has its
+-- number of bits in the offset; 8 is a negation or, in class 5, a call; 9 is the exit; 0 is a jump
+-- without a condition, whose distance is in the offset in class 5, in the immediate in class 6. A
+-- signed division or remainder has 1 in the offset. A byte-order conversion has its number of bits
+-- in the immediate. `memory_opcode` makes an opcode from a mode (3 is MEM, 6 is ATOMIC), a size and
+-- a class (1 is LDX, 2 is ST, 3 is STX). An atomic operation has its operator in the immediate. A
+-- wide load (0x18) has source 0 for a number, whose low half is the immediate; 1 for a map, 2 for
+-- the address of a byte in a map's first value, both with the map's descriptor as immediate
 abbrev pub first : Insn → SlotFields
 first (Alu wide op dst src) =
     slot (opcode (alu_number op) (source_bit src) (alu_class wide)) dst (src_field src)

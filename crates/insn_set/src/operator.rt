@@ -68,8 +68,9 @@ pub fn alu_offset(op: AluOp) -> u16
     }
 }
 
-/// The operator with the code `number`, the upper four bits of an opcode, in a slot whose offset field is 0: if two have the code (3, 9),
-/// the unsigned one (`unsigned`). `None` for 8 and for 13 and above, which no operator of two operands has.
+/// The operator with the code `number`, the upper four bits of an opcode, in a slot whose offset field is 0. For 3 (division) and 9
+/// (remainder) it is the unsigned one (`unsigned`); the decoder selects the signed one by the offset field. `None` for 8 (a change of sign)
+/// and 13 (a byte-order conversion), which have one operand, and for greater numbers, which are no codes.
 pub fn alu_by_number(number: u8) -> Option<AluOp>
     ensures value { result ≡ alu_by_number number }
     ensures inverse { IfSome result (λ op. alu_number op ≡ number) }

@@ -108,9 +108,9 @@ impl Insn {
 
     /// The properties of the instruction that no register value affects, for the verifier and its log: its row of the table. The columns
     /// are the registers that it reads first and second (`None` if there is none, as for a constant operand), the register that it writes
-    /// (`None` also for an atomic operation, which writes memory), its successors, what it names outside the registers (a descriptor as an
-    /// unsigned number), and the number of its slots. An exit reads register 0, the program's result. The row of a call has neither the
-    /// arguments of the helper nor registers 0 to 5, which the call changes.
+    /// (`None` also for an atomic operation: those with FETCH are no instructions here), its successors, what it names outside the
+    /// registers (a descriptor as an unsigned number), and the number of its slots. An exit reads register 0, the program's result. The row
+    /// of a call has neither the arguments of the helper nor registers 0 to 5, which the call changes.
     #[inline(always)]
     pub fn profile(&self) -> Profile
         ensures { result ≡ profile self.now }

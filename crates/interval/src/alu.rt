@@ -60,9 +60,10 @@ fn unary64(op: Operator, a: Range, b: Range) -> Range
 }
 
 /// The range of the results of `op` on 32 bits, for first operands in `a` and second ones in `b`. By `exact` it is the range that the table
-/// of ranges (`range_of`) gives, and by `sound` it includes the result for each member of `a` and each of `b`. An operation reads the low
-/// 32 bits of an operand, so a range with a member of 2^32 or more is first replaced by a range of the low halves of its members. But a
-/// byte-order conversion reads all 64 bits of its operand, so its range is that of the operation on 64 bits.
+/// of ranges (`range_of`) gives, and by `sound` it includes the result for each member of `a` and each of `b`. A move and a sign extension
+/// read only `b`, a change of sign and a byte-order conversion only `a`. An operation reads the low 32 bits of an operand, so a range with
+/// a member of 2^32 or more is first replaced by a range of the low halves of its members. But a byte-order conversion reads all 64 bits,
+/// so its range is that on 64 bits. If each range that `op` reads has one member, the result has one: `operate` computes it.
 pub fn alu32(op: Operator, a: Range, b: Range) -> Range
     ensures exact { result ≡ range_of 32 op a b }
     ensures sound { (x y : ℕ) → IsMember x a → IsMember y b → IsMember (operate 32 op x y) result }

@@ -118,7 +118,8 @@ fn if_above(a: Range, b: Range) -> Edge
 }
 
 /// The ranges of the operands on the edge on which the first, of range `a`, is at most the second, of range `b`: the first is also at most
-/// the greatest member of `b`, the second at least the least of `a`. `None` if all members of `a` are above those of `b`.
+/// the greatest member of `b`, the second at least the least of `a`. `None`, an edge that no two members take, if all members of `a` are
+/// above those of `b`.
 fn if_at_most(a: Range, b: Range) -> Edge
     ensures { result ≡ if_at_most a b }
 {

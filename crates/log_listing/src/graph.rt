@@ -79,10 +79,10 @@ fn write_edge(
 }
 
 /// Writes the edges out of the block with the first slot `first`: those of its last instruction, `insn`, which is at `slot`. The two edges
-/// of a conditional jump are named `not taken` and `taken`. `step` has what is new on each edge. It is `None` if the pass did not reach
-/// this instruction, or if an instruction of the block is rejected. Then the edges are written as edges that no run takes or, if there was
-/// no pass (`has_pass`), as edges of which nothing is known. No edge is written to a slot at which no instruction begins: only a program
-/// whose shape has a fault has such edges.
+/// of a conditional jump are named `not taken` and `taken`. `step` has what is new on each edge, and `None` for an edge that no run takes.
+/// `step` is itself `None` if the pass did not reach `insn`, or if an instruction of the block is rejected: then each edge is written as
+/// one that no run takes or, if there was no pass (`has_pass` of `input`), as one of which nothing is known. No edge is written to a slot
+/// at which no instruction begins: only a program whose shape has a fault has such edges.
 fn write_edges(
     text: &mut String,
     input: &ListingInput<'_>,
@@ -217,10 +217,10 @@ impl<'a> Graph<'a> {
     }
 
     /// Writes the instruction `insn`, which is at `slot`, as a line in its block's label; the verdict follows if the instruction is
-    /// rejected. If a block begins at `slot`, the beginning of the block is written first. If the block ends with `insn`, its end and its
-    /// edges follow. The edges of a block with a rejected instruction are written as edges that no run takes or, if the program's shape has
-    /// a fault, so that there was no pass (`has_pass`), as edges of which nothing is known. Slots are passed in ascending order, as
-    /// `step_at` needs.
+    /// rejected. If a block begins at `slot`, its beginning is written first; the pass over the facts reached the block if `insn` has a
+    /// step. If the block ends with `insn`, its end and its edges follow, with what is new on each by the step. Without a step, or if the
+    /// block has the rejected instruction, they are written as edges that no run takes or, if the program's shape has a fault, so that
+    /// there was no pass (`has_pass`), as edges of which nothing is known. Slots are passed in ascending order, as `step_at` needs.
     fn write_slot(
         &mut self,
         text: &mut String,

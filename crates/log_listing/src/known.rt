@@ -174,6 +174,7 @@ fn write_stack_bytes(
     are_lost: bool,
 ) -> Result<(), AllocError> {
     let what = if are_lost { "lost" } else { "written" };
+    // A row without bytes, since `first` is `end`. No stack byte has offset 0, so the first byte that is added begins a row.
     let mut row = Row {
         start,
         first: 0,

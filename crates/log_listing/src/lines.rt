@@ -66,10 +66,11 @@ fn write_note(text: &mut String, line: Line, note: &str) -> Result<(), AllocErro
     text.push_str(note)
 }
 
-/// Writes a note at the end of `line` with the slots of the instructions from which control comes to `slot`, as `from 3, 7, 8`: first the
-/// jumps that a run may take, in the order of their slots, last the instruction on the line before, if a run may fall through from it
-/// (`falls_from` of the cursor). Writes nothing if no such jump leads to `slot`. The jumps of `input` are in the order of their targets,
-/// and the lines in the order of slots, so the jumps to `slot` are the next ones at the cursor, which is moved past them.
+/// Writes a note at the end of `text`, whose last line is that of the instruction at `slot` (`line`: the offsets at which the line begins
+/// and its instruction ends). It has the slots of the instructions from which control comes, as `from 3, 7, 8`: first the jumps that a run
+/// may take, in the order of their slots, last the instruction on the line before, if a run may fall through from it (`falls_from` of the
+/// cursor). Nothing is written if no such jump leads to `slot`. The jumps of `input` are in the order of their targets, and the lines in
+/// the order of slots, so the jumps to `slot` are the next ones at the cursor, which is moved past them.
 fn write_sources(
     text: &mut String,
     line: Line,
@@ -98,11 +99,11 @@ fn write_sources(
     }
 }
 
-/// Writes the note on the edges of a conditional jump, the instruction of `step`, at the end of its line. `falling` and `jumping` of `step`
-/// have what is new on each edge, and are `None` if no run takes the edge. With only the jumping edge the note is `always jumps`, with only
-/// the falling edge `never jumps`. With both it is the target and what is new on the jumping edge, if anything; what is new on the falling
-/// edge is left to the next line. A rejected jump has no edges, and nothing is written. A target is always found: a program with steps has
-/// no fault of its shape.
+/// Writes the note on the edges of a conditional jump, the instruction of `step`, at the end of its line (`line`: the offsets in `text` at
+/// which the line begins and the instruction ends). `falling` and `jumping` of `step` have what is new on each edge, and are `None` if no
+/// run takes the edge. With only the jumping edge the note is `always jumps`, with only the falling edge `never jumps`; a rejected jump has
+/// no edges, and nothing is written. With both edges it is the target and what is new on the jumping edge, if anything; what is new on the
+/// falling edge is left to the next line. A target is always found: a program with steps has no fault of its shape.
 fn write_edges(
     text: &mut String,
     line: Line,
@@ -125,11 +126,11 @@ fn write_edges(
     }
 }
 
-/// Writes the notes on `insn`, an instruction that a run may reach, at the end of its line: the slots from which control comes, if a jump
-/// leads to the instruction; what is new before the instruction, or all that is known (`known` of `step`); and for a conditional jump the
-/// note on its edges (`write_edges`). `line` has the offsets in `text` at which the line begins and the instruction ends. Sets `falls_from`
-/// of the cursor, which the next line needs: to the slot of this instruction if a run may fall through from the instruction, else to
-/// `None`.
+/// Writes the notes on `insn`, an instruction that a run may reach, at the end of its line: the slots from which control comes, if a run
+/// may jump to it; `known` of its `step`, which is what is new before it or, if the log has the whole facts (`is_whole` of `steps_of`), all
+/// that is known; and for a conditional jump the note on its edges (`write_edges`). `line` has the offsets in `text` at which the line
+/// begins and the instruction ends. `cursor` is moved past the jumps of `input` to this instruction. Its `falls_from`, for the next line,
+/// becomes the slot of this instruction if a run may fall through from it, else `None`. The caller moves `cursor` past `step`.
 fn write_step(
     text: &mut String,
     line: Line,
@@ -201,6 +202,7 @@ fn write_line(
 
 /// Appends the line of each instruction that begins at a slot from 0 to `last`, in their order. `last` is the slot of the rejected
 /// instruction; for an accepted program it is past the end, and all lines are written. The second slot of a wide instruction has no line.
+/// `cursor` starts at the first step and the first jump of `input`, and with `None`, since no run falls through to the first line.
 /// `AreLines`: `text`, which `lines_of` passes empty, is empty or ends with a line feed, before the call and after it.
 pub(crate) fn write_lines(
     text: &mut String,

@@ -13,10 +13,11 @@ use std::alloc::{AllocError, Global};
 use tagged_model::Named;
 use verifier::{Cost, VerifyFault};
 
-/// The text of a listing as lines (styles `New` and `Whole`): the lines of the program's instructions, then the verdict. If the program is
-/// rejected (`verdict` is `Err`), the last of these lines is that of the rejected instruction, and `why`, the reason in words, follows the
-/// verdict; for an accepted program `why` is not used. By the clause the text is whole lines, and then the lines of the cost and
-/// `accepted`, or the line of the refusal and any text after it. `AllocError`: out of memory.
+/// The text of a listing as lines: one for each instruction, then the verdict. `input` has the program, and for each instruction that the
+/// pass reached the facts as text: what is new before it (style `New`) or all that is known there (style `Whole`). If the program is
+/// rejected (`verdict` is `Err`), the last line before the verdict is that of the rejected instruction, and `why`, the reason in words,
+/// follows the verdict; for an accepted program `why` is not used. By the clause the text is whole lines, and then the lines of the cost
+/// and `accepted`, or the line of the refusal and any text after it. `AllocError`: out of memory.
 fn lines_of(
     alloc: Global,
     input: &ListingInput<'_>,
@@ -33,11 +34,11 @@ fn lines_of(
 }
 
 /// The listing of `program`, which was verified while descriptors named the objects of `named`. `judged` has the verdict, and the facts
-/// before each instruction that the pass reached. `style` selects lines with what is new before each instruction (`New`), lines with all
-/// facts before it (`Whole`), or a graph (`Graph`). `why` has the reason of a rejection in words and a line feed, and is empty for an
-/// accepted program. Lines end with the verdict and `why`; a graph has both only after a rejection, in the block of the rejected
-/// instruction. Of a text in lines the contract says that it is whole lines and then this verdict (`EndsInVerdict`); of a graph it says
-/// nothing.
+/// before each instruction that the pass reached; a program whose shape has a fault (`is_of_shape`) has no pass, and so no facts. `style`
+/// selects lines with what is new before each instruction (`New`), lines with all facts before it (`Whole`), or a graph (`Graph`). `why`
+/// has the reason of a rejection in words and a line feed, and is empty for an accepted program. Lines end with the verdict and `why`; a
+/// graph has both only after a rejection, in the block of the rejected instruction. Of a text in lines the contract says that it is whole
+/// lines and then this verdict (`EndsInVerdict`); of a graph it says nothing.
 ///
 /// # Errors
 ///

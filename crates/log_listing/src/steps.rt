@@ -102,7 +102,9 @@ impl StepMaker<'_> {
 /// The steps of a program, in the order of `known`: an element of `known` has a slot and the facts before the instruction there, and
 /// becomes one step. `named` lists the open descriptors and their objects. The field `known` of a step is all that is known in these facts
 /// if `is_whole`; else only what is new, or no longer known, since the element before, and for the first element all. The fields `falling`
-/// and `jumping` are what is new on the edges out of the instruction. `AllocError`: out of memory.
+/// and `jumping` are what is new on the edges of a conditional jump, and `None` for an edge that no run takes, or for both if the jump is
+/// rejected. The edge of any other instruction has the empty text, since what the instruction changes is new before the next one; the field
+/// of an edge that it does not have is `None`. `AllocError`: out of memory.
 pub(crate) fn steps_of(
     alloc: Global,
     program: &Program,

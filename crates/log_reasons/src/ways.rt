@@ -37,7 +37,8 @@ pub(crate) fn is_written(facts: &Facts, byte: i64) -> bool {
 
 impl Wanted {
     /// Whether an instruction may read this value by these facts: the kind of the register is not `Unreadable`, or each of the stack bytes
-    /// from `first` to `last` is written on each path (`is_written`). False if one of these bytes is outside the stack.
+    /// at the offsets `first` to `last`, both included, is written on each path (`is_written`). Offsets count from the stack's upper end;
+    /// the result is false if one of these bytes is outside the stack.
     fn is_readable_by(self, facts: &Facts) -> bool {
         match self {
             Wanted::Register(register) => kind_of(facts, register) != Kind::Unreadable,
@@ -164,8 +165,9 @@ impl Finder<'_> {
 
 /// The arrivals before any edge is followed, one for each slot of a program of `slots` slots. No edge to the slot is known on which the
 /// value that the rejected instruction needs is present (`is_present` is false), and none on which it is missing (`lack` is `None`). Slot
-/// 0, at which a run begins, is the exception: its `lack` says that the value was never written. No edge leads to slot 0, so the other
-/// number in this `lack`, the slot from which an edge leads, means nothing: it is 0, and is never used.
+/// 0, at which a run begins, is the exception: its `lack` says that the value was never written. `cause_at` reads it only if the value is
+/// missing there, so not for registers 1 and 10, which have a value from the start. No edge leads to slot 0, so the number in this `lack`,
+/// the slot from which an edge leads, is never used.
 fn first_arrivals(alloc: Global, slots: usize) -> Result<Vec<Arrival>, AllocError> {
     let nothing = Arrival {
         is_present: false,
@@ -179,9 +181,9 @@ fn first_arrivals(alloc: Global, slots: usize) -> Result<Vec<Arrival>, AllocErro
 }
 
 /// Why the value `wanted`, that of a register or of stack bytes, is missing before the rejected instruction; `None` if this value is
-/// present there. `follow` is called for each instruction that the pass over the program reached, in the order of the slots, and records in
-/// `cause` why the value is missing before it. The rejected instruction is the last, so its `cause` is the result. The error is out of
-/// memory.
+/// present there. `follow` is called for each instruction that the pass over the program reached, in the order of the slots. It sets
+/// `cause` to why the value is missing before the instruction, and records in `arrivals` whether the value is present on each edge out of
+/// it. The rejected instruction is the last, so its `cause` is the result. The error is out of memory.
 fn cause_of(refusal: &RefusedProgram<'_>, wanted: Wanted) -> Result<Option<Cause>, AllocError> {
     let (alloc, program, named) = (refusal.alloc, refusal.program, refusal.named);
     let mut finder = Finder {
@@ -222,10 +224,11 @@ fn verbs_of(wanted: Wanted) -> Verbs {
     }
 }
 
-/// Writes why the value that the rejected instruction needs (`wanted`) is missing before this instruction: it was never written, it is
-/// missing on an edge from some slot but present on another edge to the same instruction, the instruction at some slot destroys it, or the
-/// join at some slot loses it. The text is a sentence without its subject, the register or the stack bytes, which the caller has written
-/// before. The caller knows that the value is missing, so `cause_of` finds a cause, and `unwrap_or` does not use its default.
+/// Appends to `text` why the value `wanted`, which the rejected instruction of `refusal` needs, is missing before this instruction. It was
+/// never written, or the instruction at some slot destroys it, or the join at some slot loses it, or it is missing on the edge from some
+/// slot to an instruction to which another edge leads with it. The text is a sentence without its subject, the register or the stack bytes,
+/// which the caller has written before. The caller knows that the value is missing, so `cause_of` finds a cause, and `unwrap_or` does not
+/// use its default.
 pub(crate) fn write_way(
     text: &mut String,
     refusal: &RefusedProgram<'_>,

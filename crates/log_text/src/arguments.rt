@@ -74,8 +74,9 @@ fn with_maps<'a>(alloc: Global, program: Command<'a>) -> Result<Command<'a>, All
     program.arg(maps)
 }
 
-/// Parses the arguments, those after the program's name, with clap. `clap::Error`: clap rejects them, they ask for help or the version, or
-/// out of memory.
+/// Parses the arguments, those after the program's name, with clap: of the options `--all` and `--dot` at most one, of `--hex` and `--text`
+/// at most one, and any number of map arguments, whose fields clap does not read. `clap::Error`: clap rejects them, they ask for help or
+/// the version, or out of memory.
 pub(crate) fn parse_arguments<'a>(
     alloc: Global,
     arguments: &'a [&'a str],
@@ -97,7 +98,8 @@ pub(crate) fn style_of(matches: &ArgMatches<'_>) -> LogStyle {
     }
 }
 
-/// Whether a line consists of hex digits only, at least one.
+/// Whether a line consists of hex digits only, at least one. If no option says how the input is written, `begins_with_hex` asks this of its
+/// first line that is not blank: if true, the input is read as hex lines.
 fn is_hex(line: &str) -> bool {
     !line.is_empty() && line.bytes().all(|byte| byte.is_ascii_hexdigit())
 }

@@ -65,9 +65,10 @@ fn log_output<I: Read + Drop>(
     }
 }
 
-/// The output for the arguments and its exit status: the log of the program in `input` with the status of the verdict (`log_output`), or,
-/// if the arguments ask for it, the text of the help or of the version with status 0. Clap returns such a text as an error, but one that is
-/// not for the error stream (`use_stderr`). `Failure` if clap rejects the arguments, if `log_output` fails, or if memory is refused.
+/// The output for `arguments`, those after the program's name: the log of the eBPF program in `input`, with the exit status 0 if it is
+/// accepted, else 1 (`log_output`), or, if the arguments ask for it, the text of the help or of the version, with the exit status 0. Clap
+/// returns such a text as an error, but one that is not for the error stream (`use_stderr`). `Failure` if clap rejects the arguments, if
+/// `log_output` fails, or if memory is refused.
 fn output_of<I: Read + Drop>(
     alloc: Global,
     arguments: &[&str],

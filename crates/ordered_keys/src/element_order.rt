@@ -57,8 +57,9 @@ impl ElementOrder {
         })
     }
 
-    /// Returns the element for a number in a link: the number itself, or `None` if it is the bound. In the ring the bound is after the last
-    /// element and before the first, so `None` says that no element follows, or that the order has no element.
+    /// Returns the element for a number in a link (`element`): the number itself, or `None` if it is the bound, which is above all elements
+    /// and is none itself. In the ring the bound is after the last element and before the first, so `None` says that no element follows, or
+    /// that the order has no element.
     fn element_or_none(&self, element: u32) -> Option<u32>
         ensures { result ≡ (if nat_eq element self.now.bound then None else Some element) }
     {
@@ -73,7 +74,8 @@ impl ElementOrder {
     pub(crate) fn first(&self) -> Option<u32>
         ensures { result ≡ first_element self.now.elements }
     {
-        // In the ring the first element comes after the bound; without elements the bound comes after itself.
+        // The ring of links begins and ends at the bound, a number above all elements. The first element comes after it; without elements
+        // the bound comes after itself, and the result is `None`.
         let end = self.bound as usize;
         self.element_or_none(self.links[end].after)
     }

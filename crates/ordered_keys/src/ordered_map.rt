@@ -50,9 +50,9 @@ impl<K: Eq + Hash + Copy, S: BuildHasher> Model for OrderedMap<K, S> {
 
 impl<K: Eq + Hash + Copy, S: BuildHasher> OrderedMap<K, S> {
     /// A map without keys, for elements less than `bound`, whose table hashes keys by `hash_builder`. Allocates all memory that the map
-    /// will ever have. The table of keys gets room for four times the bound, since removals take some of its room (head of the crate).
-    /// `rows`, a buffer, gets room for more than half of the bound: a removal that fills the table anew copies the second half of the
-    /// entries to `rows`, and from there back (`rebuild_without`). `AllocError`: out of memory.
+    /// will ever have. A removal may take the room of one entry from the table. When this has room for only `bound` entries in all, a
+    /// removal fills it anew (`rebuild_without`), in many steps; with room for four times the bound at first, that is rare. It copies the
+    /// second half of the entries to `rows`, a buffer with room for more than half of the bound, and back. `AllocError`: out of memory.
     pub fn new(alloc: Global, bound: u32, hash_builder: S) -> Result<OrderedMap<K, S>, AllocError>
     where
         S: Drop,
@@ -153,7 +153,8 @@ impl<K: Eq + Hash + Copy, S: BuildHasher> OrderedMap<K, S> {
         ensures bound { self.new.bound ≡ self.old.bound }
     {
         let index = self.table.get_index_of(key)?;
-        // `take_out` may move entries through `rows`, which is empty before and after.
+        // `take_out` may move entries through `rows`, which is empty before and after. Its third argument is the bound, as `indices` has an
+        // item for each element.
         let (_key, element) = take_out(&mut self.table, &mut self.rows, self.indices.len(), index);
         // The last key has taken the index. If the removed key was the last, `moved` is its element, whose index now means nothing.
         let moved = element_at(&self.table, index, element);
@@ -306,9 +307,10 @@ fn take_at<K: Eq + Hash + Copy, S: BuildHasher>(
 
 /// Takes out the entry at `index`, at which the table has one, and returns it; the last entry gets this index. The capacity of the table,
 /// its entries and the further ones for which it has room (`spare`), does not fall (`room`). With `take_at`, which is quicker, it may fall
-/// by one; so `take_out` calls this function only if it must not fall. The entry is swapped to the end. Then the second half of the entries
-/// is copied to `rows`, removed from the table, which keeps its capacity if at least half of its entries go, and put back without the
-/// entry. `rows` is empty before and after, has room for this half (`requires buffer`), and keeps its capacity (`ensures buffer`). A call
+/// by one; so `take_out` calls this function only if the capacity is not above the map's bound: it has to suffice for the bound, so that no
+/// insertion needs memory. The entry is swapped to the end. Then the second half of the entries is copied to `rows`, removed from the
+/// table, and put back without the entry: by its contract the index map keeps its capacity if at least half of its entries are removed at
+/// once. `rows` is empty before and after, has room for this half (`requires buffer`), and keeps its capacity (`ensures buffer`). A call
 /// takes more steps the more entries there are, but is rare, so the function is out of line.
 #[cold]
 #[inline(never)]

@@ -16,8 +16,8 @@ impl Facts {
     ghost use Rattle.words.specs.declared.stack.TheConstants.{STACK_SLOTS};
     ghost use Rattle.reg_kinds.specs.Kinds.{entry, kind_at, slot_at, with_kind, with_slot};
 
-    /// The facts at program entry: register 1 holds the context, register 10 the upper end of the stack; no other register
-    /// is readable, and no stack byte is written.
+    /// The facts at program entry: register 1 holds the context, register 10 the upper end of the stack, at offset 0 (`Stack(0)`); no other
+    /// register is readable, and no stack byte is written, so the mask of written bytes of each stack slot is 0 (`Bytes(0)`).
     pub fn at_entry() -> Facts
         ensures { result ≡ entry }
     {

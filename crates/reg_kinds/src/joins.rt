@@ -112,9 +112,9 @@ fn holds_range(a: &Range, b: &Range) -> bool
     a.lo <= b.lo && b.hi <= a.hi
 }
 
-/// Joins the kind `edge` into `known`. If both are ranges, or pointers into values of one map, only the bounds in `known` are written;
-/// `join_out_of_line` joins all other kinds. The function is not inlined, since its caller `join_kind`, which is inlined, has already found
-/// the joins that change nothing.
+/// Joins the kind `edge` into `known`, for any two kinds. If both are ranges, or pointers into values of one map, only the bounds in
+/// `known` are written. `join_out_of_line` makes all other joins, so that this function need not save machine registers on the machine's
+/// stack. The function is not inlined, since no join that changes nothing reaches it: `join_kind`, its inlined caller, finds these first.
 #[inline(never)]
 fn join_other_kind(known: &mut Kind, edge: &Kind)
     ensures { known.new ≡ kind_join known.old edge.now }
@@ -229,8 +229,9 @@ fn keep_common(mask: &mut u8, other: u8) -> bool
 
 /// Joins `edge`, what is known of a stack slot on another edge to the same instruction, into `known`. The join of two masks of written
 /// bytes is the mask of the bytes in both; that of two spills is a spill with the join of their kinds. If that join is `Unreadable`, or
-/// only one side is a spill, no byte counts as written (`Bytes(0)`). Returns false only if `known` is unchanged (`stays`). After a join by
-/// `join_spill`, which is not inlined, returns true whether `known` has changed or not.
+/// only one side is a spill, no byte counts as written (`Bytes(0)`). Returns false only if `known` is unchanged (`stays`), from which
+/// `join_group` finds that a group of slots is. Two arms find spills whose join is `known`. All other spills in `known` go to `join_spill`,
+/// which is not inlined and does not say whether it changes anything; so the result is then true.
 #[inline(always)]
 fn join_slot(known: &mut Slot, edge: &Slot) -> bool
     ensures slot { known.new ≡ slot_join known.old edge.now }
@@ -254,9 +255,10 @@ fn join_slot(known: &mut Slot, edge: &Slot) -> bool
 }
 
 /// Joins the stack slot `edge` into `known`. The contract is for any two slots, but the only caller, `join_slot`, has found that `known` is
-/// a spill that the join may change. Two cases, which a program can force in many slots, are joined here: two spilled pointers into values
-/// of one map give the least range of offsets that includes both (`offsets_hull`), and a spill with an `edge` that is no spill gives a slot
-/// without a written byte (`Bytes(0)`). `join_any_slots`, which is not inlined, joins in all other cases.
+/// a spill, a slot that holds a pointer or a map whole, and that the join may change it. Two spilled pointers into values of one map give
+/// the least range of offsets that includes both (`offsets_hull`), and a spill with an `edge` that is no spill gives a slot without a
+/// written byte (`Bytes(0)`). A program can force these two joins in many slots at many of its jumps, so they are done here, in place.
+/// `join_any_slots`, which is not inlined and takes more machine instructions, joins in all other cases.
 #[inline(never)]
 fn join_spill(known: &mut Slot, edge: &Slot)
     ensures { known.new ≡ slot_join known.old edge.now }
@@ -280,9 +282,10 @@ fn join_any_slots(known: &mut Slot, edge: &Slot)
     *known = known.join(*edge);
 }
 
-/// Joins the eight stack slots of `group` in `edge`, the facts on another edge to the same instruction, into those in `facts`; no other
-/// slot and no register changes (`group_joined`). If it returns false, no slot has changed (`stack`), and the verifier keeps the number of
-/// the group (`GROUP_SLOTS`). After true, which does not promise a change, the group gets a new number.
+/// Joins the `GROUP_SLOTS` stack slots of `group` in `edge`, the facts on another edge to the same instruction, into those in `facts`; no
+/// other slot and no register changes (clause `facts`). After false no slot has changed (`stack`); after true one may have. After true the
+/// verifier gives what is known of the group a new number (`NumberedFacts` of `verifier`), by which it recognizes a join that would change
+/// nothing. That is not `group.number`, the position of the group in the stack.
 pub fn join_group(facts: &mut Facts, edge: &Facts, group: StackGroup) -> bool
     ensures facts { facts.new ≡ with_slots facts.old
         (group_joined group.number facts.old edge.now) }

@@ -36,8 +36,9 @@ fn joins() {
     prove!(is_hull);
 }
 
-/// A pointer can be stored whole, with its eight bytes, into the highest stack slot (offset -8 from the stack's upper end). A load of only
-/// some of its bytes, here two from offset -6, without sign extension (`false`), is then rejected: `PartOfSpill`.
+/// A pointer, here `Stack(0)`, to the stack's upper end, can be stored whole, with its eight bytes, into the highest stack slot (offset -8
+/// from this end). A load of only some of its bytes, here two from offset -6, without sign extension (`false`), is then rejected:
+/// `PartOfSpill`.
 fn a_pointer_is_spilled_whole() {
     let mut facts = Facts::at_entry();
     let stored = write_stack(&mut facts, -8, AccessSize::Double, Kind::Stack(0));
@@ -48,8 +49,8 @@ fn a_pointer_is_spilled_whole() {
     prove!(is_refused);
 }
 
-/// If a null test has found that the result of the look-up at slot 5 is not null (`false` in the call of `settle`), a register with this
-/// result, here register 6, is known to be a pointer into a value.
+/// If a null test has found that the result of the look-up at slot 5, in the map of descriptor 3, is not null (`false` in the call of
+/// `settle`), a register with this result, here register 6, is known to be a pointer into a value.
 #[tactic(auto, unfolding(crate::specs::Kinds::tabulate))]
 fn a_null_test_settles() {
     let mut facts = Facts::at_entry();

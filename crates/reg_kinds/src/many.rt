@@ -61,8 +61,9 @@ fn start_of(offset: i32, count: u32) -> Option<usize>
     }
 }
 
-/// Whether the stack slot is a spill that an access touches. `touched` is whether the access touches a byte of the slot.
-/// `bytes_touch_spill` needs this of the slots with bytes that a helper reads: a helper may not read any byte of a spill (`PartOfSpill`).
+/// Whether the stack slot is a spill (its eight bytes hold a pointer or a map, whole) that an access touches. `touched` is whether the
+/// access touches a byte of the slot. A helper may not read any byte of a spill (`PartOfSpill`), since no single byte of a pointer or a map
+/// can be read; `bytes_touch_spill` asks this of each slot with bytes that the helper reads.
 fn is_touched_spill(slot: Slot, touched: bool) -> bool
     ensures { result ≡ is_touched_spill slot touched }
 {
@@ -73,7 +74,8 @@ fn is_touched_spill(slot: Slot, touched: bool) -> bool
 }
 
 /// Whether one of the bytes of a stack slot that are in the mask `bits` (bit k for byte k) may be unwritten, so that a helper may not read
-/// them. The mask of `Slot::Bytes` has the bytes that are written; of a spill all bytes are written.
+/// them. The mask of `Slot::Bytes` has the bytes that are written. The result is false for a spill, since all its bytes are written;
+/// `check_read` has then already rejected a read that touches a spill (`PartOfSpill`).
 fn lacks(slot: Slot, bits: u8) -> bool
     ensures { result ≡ lacks slot bits }
 {
@@ -95,7 +97,8 @@ fn end_of_touched_slots(start: usize, count: usize) -> usize
 
 /// Whether the `count` stack bytes from byte index `start` on touch a spill; if so, `check_read` rejects a helper's read of them. The
 /// contract is about all `stack_slots` stack slots (`any_below`). The loop leaves out those that end before the bytes or begin after them,
-/// since the bytes do not touch these. If `count` is 0, the stack slot of byte `start` counts as touched, unless this byte is its first.
+/// since the bytes do not touch these. Helpers read keys and values, of at least one byte. With `count` 0 the stack slot of byte `start`
+/// counts as touched, unless this byte is its first: `touches` only compares both ends of the bytes with those of the slot.
 fn bytes_touch_spill(facts: &Facts, start: usize, count: usize) -> bool
     requires { start + count ≤ stack_size }
     ensures { result ≡ any_below stack_slots
@@ -126,7 +129,8 @@ fn is_any_unwritten(facts: &Facts, start: usize, count: usize) -> bool
 }
 
 /// Checks a helper's read of `count` stack bytes at `offset` from the stack's upper end. The error is the first that applies: the bytes
-/// don't all lie in the stack (`OutsideStack`), they touch a spill (`PartOfSpill`), one may be unwritten (`UnwrittenStack`).
+/// don't all lie in the stack (`OutsideStack`); they touch a spill, a stack slot that holds a pointer or a map whole, of which a helper may
+/// read no byte (`PartOfSpill`); one may be unwritten (`UnwrittenStack`).
 pub fn check_read(facts: &Facts, offset: i32, count: u32) -> Result<(), Reason>
     ensures { result ≡ stack_input facts.now offset count }
 {
@@ -177,11 +181,12 @@ fn filled_slot(slot: Slot, start: usize, least: usize, most: usize, index: usize
     }
 }
 
-/// Changes the facts to what is known of each stack slot after a write of at least `least` and at most `most` bytes from byte index `start`
-/// on. A slot for which `touches` is false has none of the first `most` bytes and is unchanged. Of any other slot (`bytes_over`), the bytes
-/// that are among the first `least` (`bits_in`) count as written, and other written bytes are still written; but a spill is lost, and its
-/// other bytes count as unwritten. `within`: `start_of` has checked that `most` bytes lie in the stack. `least` comes from a `u32`, so its
-/// sum with `start` can't overflow.
+/// Changes the facts to what is known of each stack slot after a helper's write from byte index `start` on. Its length is a register's
+/// number, of which only a range is known: at least `least` and at most `most` bytes. A slot for which `touches` is false is unchanged. Of
+/// any other slot (`bytes_over`), the bytes that are among the first `least` (`bits_in`) count as written, and other written bytes are
+/// still written; but a spill, a pointer or a map stored whole, is lost, and its other bytes count as unwritten. With `most` 0 the slot
+/// with byte `start` counts as touched, unless this is its first byte, so a spill there is lost too. `within`: `start_of` has checked that
+/// `most` bytes lie in the stack. `least` comes from a `u32`, so its sum with `start` can't overflow.
 fn fill_slots(facts: &mut Facts, start: usize, least: usize, most: usize)
     requires least { least < 2 ^ 32 }
     requires within { start + most ≤ stack_size }

@@ -64,7 +64,8 @@ fn settle_kind(kind: &mut Kind, site: usize, null: bool)
 
 /// Settles a stack slot, if it has a spilled copy of the result of the look-up at program slot `site`, after a test that found the result
 /// null (`null`) or not. If `null`, the stack slot has eight written bytes (the mask 0xff), as after a store of a number; else it has a
-/// pointer to the start of a value. Any other stack slot, also with the result of another look-up, is unchanged.
+/// pointer to the start of a value: its least and its greatest offset are 0. Any other stack slot, also with the result of another look-up,
+/// is unchanged.
 #[inline(always)]
 fn settle_slot(slot: &mut Slot, site: usize, null: bool)
     ensures { slot.new ≡ slot_settled site null slot.old }

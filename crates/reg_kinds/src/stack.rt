@@ -133,8 +133,9 @@ fn zero_extended(size: AccessSize) -> Range
 
 /// What is known of `slot`, a stack slot, after a store of a value of kind `value` to its bytes of the mask `bits` (bit k for byte k),
 /// which are `size` bytes. If the value is a number, these bytes are written, and a spill that was in the slot is lost (`bytes_over`). If
-/// it is a pointer or a map, the slot is a spill of it after a store of eight bytes; after one of fewer bytes the error is `PartOfSpill`.
-/// The contract allows an unreadable value, too, which would count as a number, but `write_stack` has rejected it before.
+/// it is a pointer, the result of a look-up before its null test, or a map (`is_pointer`), the slot is a spill of it after a store of eight
+/// bytes; after one of fewer bytes the error is `PartOfSpill`. The contract allows an unreadable value, too, which would count as a number,
+/// but `write_stack` has rejected it before.
 fn slot_written(slot: Slot, bits: u8, size: AccessSize, value: Kind) -> Result<Slot, Reason>
     ensures { result ≡ slot_written slot bits size value }
 {
@@ -148,9 +149,9 @@ fn slot_written(slot: Slot, bits: u8, size: AccessSize, value: Kind) -> Result<S
 }
 
 /// What is known of `slot`, a stack slot, after a write of numbers to its bytes of the mask `bits` (bit k for byte k). These bytes are
-/// written. If `slot` was no spill, its other bytes are as before, written or not. A spill is lost: its bytes that are not in `bits` count
-/// as unwritten. Of a write whose length is not known, `bits` has only the bytes that are certainly written (`filled_slot`), so it may be
-/// 0.
+/// written. If `slot` was no spill, its other bytes are as before, written or not. A spill, which is a pointer or a map in all eight bytes,
+/// is lost: its bytes that are not in `bits` count as unwritten, so that no load reads the rest of a pointer as a number. Of a write whose
+/// length is not known, `bits` has only the bytes that are certainly written (`filled_slot`), so it may be 0.
 pub(crate) fn bytes_over(slot: Slot, bits: u8) -> Slot
     ensures { result ≡ bytes_over slot bits }
 {

@@ -64,7 +64,8 @@ impl Births {
         })
     }
 
-    /// The births, the oldest first. Contracts see them in the reverse order, with the latest first.
+    /// The births, the oldest first: in this order a save creates the objects, so that a program's maps are there before it is loaded.
+    /// Contracts see the list reversed, the latest first: there a new birth comes in front of the older ones.
     pub(crate) fn oldest_first(&self) -> &[Birth]
         ensures { result.now ≡ reverse self.now }
     {

@@ -99,9 +99,10 @@ impl FrameWriter {
         }
     }
 
-    /// Appends the frame, after its length, by which the tenant closes descriptor `fd` (`written`). `number`, the tenant's number, is
-    /// unchanged. In a save this frame closes the descriptor that the object of the next frame then gets, or a descriptor that is not open
-    /// in the saved tenant. `AllocError`: out of memory.
+    /// Appends the frame, with its length before it, by which the tenant closes descriptor `fd` (`written`). `number`, the tenant's number,
+    /// is unchanged. The first part of a save opens a program at each descriptor (`append_filling`), so none is free. A later part closes
+    /// the descriptor that the object of the next frame then gets, and the last part those that are not open in the saved tenant.
+    /// `AllocError`: out of memory.
     fn append_close(&mut self, fd: u32) -> Result<(), AllocError>
         ensures written { OnOk result (self.new.frames.items
             ≡ self.old.frames.items ++ framed (frame_of self.old.number (close fd))) }
@@ -327,8 +328,12 @@ impl FrameWriter {
         }
     }
 
-    /// Appends the frames of `wanted`, one part of a save of `tenant`. They have the commands that `part_commands` defines from the
-    /// tenant's state: they open a program at each descriptor, create the object of a birth, put keys into a map, or close descriptors.
+    /// Appends the frames of `wanted`, one part of a save of `tenant`, whose commands are `part_commands` of the tenant's state. `Filling`
+    /// opens a program at each descriptor, so that each object created later gets the descriptor that was closed just before. `Creation`
+    /// closes the descriptor of a birth and creates the object there. `Keys` puts at most `KEYS_PER_SAVE_PART` keys of the map with handle
+    /// `map`, from the one with index `first` on, into the map at descriptor `fd`. `Closing` closes the descriptors that are not open in
+    /// `tenant`.
+    ///
     /// Each frame is for the tenant with the writer's `number`, and has its length before it (`frames_of`). The argument `part` is no part
     /// of a save: it has the tenant's `PART` bytes of the arena, among them the values of maps. `AllocError`: out of memory.
     pub(crate) fn write(

@@ -32,10 +32,11 @@ pub fn alike_states_reply_alike()
     alike_is_bisimulation();
 }
 
-/// A law, the half of the invariant of `SavableTenant` about births; `maps_are_held` is the other half. A birth has the descriptor at which
-/// a map was created, or a program loaded. A new tenant has no births (`new`). If a list has the births of the live maps and open programs
-/// before a command, the latest first (`AreBirths`), then `births_after` is the list of those after the command (`kept`). There are at most
-/// `MOST_BIRTHS` (`few`), so the room that `Births::new` allocates is enough.
+/// A law, the half of the invariant of `SavableTenant` about births. A birth has the descriptor at which a map was created, or a program
+/// loaded. A new tenant has no births (`new`). Take a state in which exactly the maps that an open object names are live (`HoldsItsMaps`),
+/// and the list of the births of its live maps and open programs, the latest first (`AreBirths`). Then `births_after` is the list of those
+/// after a command (`kept`). The list has at most `MOST_BIRTHS` (`few`), so the room that `Births::new` allocates is enough. The law
+/// `maps_are_held`, the other half of the invariant, is called for the proof: by it `HoldsItsMaps` also holds after the command.
 pub fn births_are_kept()
     ensures { BirthsAreKept }
 {

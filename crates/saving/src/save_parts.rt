@@ -77,10 +77,11 @@ fn part_of_birth(tenant: &Tenant, birth: Birth, index: usize) -> Option<SavePart
     }
 }
 
-/// What part `index` of a save does, if the tenant has these births, the oldest first; `None` after the last part. Part 0 opens a program
-/// at each descriptor. Then come the parts of each birth: one creates its object and, if that is a map, each other one puts at most
-/// `KEYS_PER_SAVE_PART` of its keys. The last part closes the descriptors that are not open in the tenant. In the contract, `ordered_parts`
-/// lists the commands of all parts of the save; `part` is no part of a save but the tenant's bytes of the arena, which may be any.
+/// What part `index` of a save does, if the saved tenant has these births, the oldest first; `None` after the last part. Part 0 opens a
+/// program at each descriptor of the new tenant. Then come the parts of each birth: one closes its descriptor, then the only free one, so
+/// that the object that it creates gets it; if that is a map, each other one puts at most `KEYS_PER_SAVE_PART` of its keys. The last part
+/// closes the descriptors that are not open in the saved tenant. In the contract, `ordered_parts` lists the commands of all parts of the
+/// save; `part` is no part of a save but the saved tenant's bytes of the arena, which may be any.
 pub(crate) fn part_at(tenant: &Tenant, births: &[Birth], index: usize) -> Option<SavePart>
     ensures { (part : List ℕ) → option_map (part_commands (state_in part tenant.now)) result
         ≡ slice_get (ordered_parts (state_in part tenant.now) births.now) index }

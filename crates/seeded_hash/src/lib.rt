@@ -117,10 +117,11 @@ impl Hasher for SeededHasher {
         self.state
     }
 
-    // Mixes the bytes into the state (`written`). Their number is added to the state first, since the reads below overlap: bytes of two
-    // lengths may be read as the same words, and without their number they would have the same hash. Up to eight bytes take one product.
-    // More take a product for each block of sixteen that does not reach the last byte, one for the last sixteen bytes, and one more by
-    // `factor`.
+    // Mixes the bytes into the state (`written`); `factor` is the second word of the seed. The number of bytes is added to the state first,
+    // since the reads below overlap: bytes of two lengths may be read as the same words, and without their number they would have the same
+    // hash. Up to eight bytes take one product with their word in both factors, its halves exchanged in the second. More take a product for
+    // each block of sixteen that does not reach the last byte, one for the last sixteen bytes, and one more by `factor`. Only one
+    // product would be linear in the key, and could leave keys that differ by equal steps in few groups of a table.
     #[inline(always)]
     fn write(&mut self, bytes: &[u8]) {
         let len = bytes.len();

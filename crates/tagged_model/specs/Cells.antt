@@ -48,7 +48,8 @@ number_from size signed o = option_map (λ bs. Scalar (widened size signed (numb
 -- fault. A cell that keeps a pointer or a map v whole (`holds v`) gives v to a load of a double
 -- word, for which j is 0, since loads are aligned; a load of a smaller size is a fault. From a cell
 -- of bytes the load gets the little-endian number of its bytes, sign-extended if `signed` is true,
--- else zero-extended; it is a fault if one of these bytes is absent
+-- else zero-extended; it is a fault if one of these bytes is absent: not written in this run, or
+-- lost with a value that was kept whole
 abbrev pub read_cell : Cell → ℕ → AccessSize → Bool → Option Tagged
 read_cell (holds v) j Double signed = Some v
 read_cell (holds v) j _ signed = None

@@ -24,7 +24,8 @@ use Rattle.tagged_model.specs.Helpers.{number_given, length_given, map_given, co
 
 -- ---- the number
 
--- what `find` returns passes the test
+-- `find` returns the first element of xs that passes the test; so if it returns x, x passes it. By
+-- this `number_of_found` knows the number of a helper, since the test compares numbers
 found_passes : {A : Type 0} (test : A → Bool) (xs : List A) (x : A)
     → find test xs ≡ Some x
     → test x ≡ true

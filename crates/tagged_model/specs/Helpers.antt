@@ -148,7 +148,8 @@ map_given (Map m) = Some m
 map_given _ = None
 
 -- for an argument that must be the context, as the first one of a load of bytes: Some, without
--- content, if the value is a pointer to the first byte of the context; None for any other value
+-- content, if the value is a pointer to the first byte of the context (its offset x is 0); None,
+-- which makes the call a fault, for any other value
 abbrev pub context_given : Tagged → Option (Unit {0})
 context_given (Pointer object.Context x) = if int_eq x (pos 0) then Some tt else None
 context_given _ = None

@@ -121,7 +121,8 @@ impl MapShape {
     }
 
     /// The number of bytes that the values of a map of this shape take, each rounded up to a multiple of eight: at most `LARGEST_AREA`
-    /// (`bound`). This follows from `listed`, by which a shape is within its limits; so the product does not overflow.
+    /// (`bound`). This follows from `listed`, a field of each shape that only contracts see: the other fields and the area are within their
+    /// limits. So the product does not overflow.
     pub fn area(&self) -> u32
         ensures value { result ≡ area self.now.value_size self.now.max_entries }
         ensures bound { result ≤ largest_area }

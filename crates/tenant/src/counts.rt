@@ -24,7 +24,7 @@ pub struct Counts {
     pub programs: u32,
     /// How many descriptors are open: 0 to 64.
     pub descriptors: u32,
-    /// Whether memory was ever refused to a load or a new map.
+    /// Whether memory was ever refused to a load, the install of a prepared program, or a new map.
     pub memory_refused: bool,
 }
 

@@ -74,10 +74,11 @@ fn maps_named(
 }
 
 impl Tenant {
-    /// Makes a loaded program of `program` and the handles of its maps, for a load or an install. `program` was accepted with the objects
-    /// that are open now (`accepted`), and has a list of those that its maps' descriptors name (`objects`). So these maps are live
-    /// (`there`) and have the shapes with which `program` was accepted (`bound`). The result has its instructions (`insns`), and is that of
-    /// the tenant's machine (`found`). `part` may be any bytes: only values depend on it. `AllocError`: out of memory.
+    /// Makes a loaded program of `program` and the handles of its maps, for a load or an install. The maps get no reference here, but from
+    /// `open_program`. `program` was accepted with the objects that are open now (`accepted`), and has a list of those that its maps'
+    /// descriptors name (`objects`). So these maps are live (`there`) and have the shapes with which `program` was accepted (`bound`). The
+    /// result has the instructions of `program` (`insns`), and is that of the tenant's machine (`found`). `part` may be any bytes: only
+    /// values depend on it. `AllocError`: out of memory.
     pub(crate) fn loaded(
         &self,
         alloc: Global,
@@ -99,11 +100,12 @@ impl Tenant {
         Ok(LoadedProgram::new(program, maps))
     }
 
-    /// Verifies the program that the slots spell, with the tenant's open descriptors, in the memory `working`. Returns it (`judges`) with
-    /// the handles of its maps (`found`) if it is accepted, else why the slots are rejected (`refused`). `AllocError`: out of memory. The
-    /// maps of an accepted program are live (`there`), and have the shapes with which it was verified (`bound`). The clauses hold for any
-    /// bytes of the tenant's part of the arena (`part`). By the clause `slot` the slot of a refusal is at most the number of slots. `load`
-    /// needs this for its clause `writable`, since a reply has four bytes for the slot.
+    /// Verifies the program that the slots spell, with the tenant's open descriptors. `working` is memory to work in, which the next load
+    /// of any tenant can use again; its contents mean nothing. Returns the program (`judges`) with the handles of its maps (`found`) if it
+    /// is accepted, else why the slots are rejected (`refused`). `AllocError`: out of memory. The maps of an accepted program are live
+    /// (`there`), and have the shapes with which it was verified (`bound`). The clauses hold for any bytes of the tenant's part of the
+    /// arena (`part`). By the clause `slot` the slot of a refusal is at most the number of slots. `load` needs this for its clause
+    /// `writable`, since a reply has four bytes for the slot.
     fn program_of(
         &self,
         slots: &[u8],

@@ -79,16 +79,17 @@ impl Tenant {
         }
     }
 
-    /// How many keys the map of handle `map` has; 0 if the map is not live. A save divides the keys into parts by this number.
+    /// How many keys the map of handle `map` has; 0 if the map is not live. From this number a save computes how many parts the keys take.
     pub fn key_count(&self, map: MapKey) -> u32
         ensures { result ≡ length (keys_at self.now.live map).entries }
     {
         self.maps.key_count(map)
     }
 
-    /// The entry of a map after the key whose element is `after`, or the first entry if `after` is `None`. Its value is borrowed from
-    /// `part`, the tenant's part of `PART` bytes. `None` if no entry follows, if no key has this element, if the map is not live, and for
-    /// a part of another size. `once`: no two keys have the same element, so `after` means one key.
+    /// The entry of a map after the key whose element is `after`, or the first entry if `after` is `None`. The order is that of the indices
+    /// in an array, and that of insertion in a hash map; a save gets all entries by passing the element of each result to the next call.
+    /// The value is borrowed from `part`, the tenant's part of `PART` bytes. `None` if no entry follows, if no key has this element, if the
+    /// map is not live, and for a part of another size. `once`: no two keys have the same element, so `after` means one key.
     pub fn map_entry<'a>(
         &'a self,
         map: MapKey,

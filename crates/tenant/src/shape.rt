@@ -19,12 +19,13 @@ fn map_kind(number: u32) -> Option<MapKind>
     }
 }
 
-/// The shape with these fields of MAP_CREATE: `kind` is the type of a map in bpf(2), and the sizes are in bytes.
+/// The shape with these fields of MAP_CREATE: `kind` is the number of a map's type in bpf(2), and the sizes are in bytes.
 ///
 /// # Errors
 ///
-/// `Invalid` if `kind` is no such type, a size or `max_entries` is outside its limits, or a flag is set; else `TooBig` if the values take
-/// too many bytes. `no_fault`: never `BadAddress`, the error of a run that faults.
+/// `Invalid` if `kind` is the number of neither hash maps nor arrays (`map_kind`), a size or `max_entries` is outside its limits, or a flag
+/// is set; else `TooBig` if the map's area would have more than `LARGEST_AREA` bytes. `no_fault`: never `BadAddress`, the error of a run
+/// that faults.
 pub fn asked_shape(
     kind: u32,
     key_size: u32,

@@ -93,7 +93,9 @@ operation_layout wide dst (operation.End how bits) =
 -- those of what follows the value on the line: a space and `ll`. A number n is one token, as `5`. A
 -- map is `map_fd` and its descriptor fd, as `map_fd 3`. A byte of a map's value is `map_value`, the
 -- map's descriptor, `+` and the byte's offset `off`, as `map_value 3 + 4`. A descriptor has a minus
--- if it is negative. From 2 ^ 64 on, n and `off` are None, and so are the numbers in their tokens
+-- if it is negative. In the list `Some` is a token, and None the space between two (`word`, `sign`
+-- and `space` give them). n and `off` are options too: a text may have a number from 2 ^ 64 on, and
+-- then they are None; no instruction has such a value, so none is printed
 abbrev pub value_layout : WideValue → TokenLayout → TokenLayout
 value_layout (value.Number n) rest = Some (number n) ∷ rest
 value_layout (value.MapFd fd) rest = word (codes "map_fd") ∷ space ∷ constant fd rest
@@ -105,9 +107,10 @@ value_layout (value.MapValue fd off) rest =
 -- the grammar. On reading, spaces are ignored (`tokens_of`). `label` is the name of the label to
 -- which the form jumps; a form without a jump, or with a jump by a number of slots, does not use
 -- it. `wide`: registers are r0 to r10 (64 bits), else w0 to w10 (low 32 bits); accesses and wide
--- loads have only r (`reg true`). `long`: the jump is `gotol`, else `goto`. `signed`: the size of a
--- load has an s, as s32, else a u, as u32; that of a store or an atomic operation has a u (false).
--- An atomic operation begins with `lock`, and a wide load ends with `ll`
+-- loads have only r (`reg true`). `long`: the jump is `gotol`, else `goto`. `at`: the base register
+-- and the byte offset of an access. `signed`: the size of a load has an s, as s32, else a u, as
+-- u32; that of a store or an atomic operation has a u (false). An atomic operation begins with
+-- `lock`, and a wide load ends with `ll`
 abbrev pub layout : Form → List ℕ → TokenLayout
 layout (form.Operation wide dst o) label = reg wide dst ∷ space ∷ operation_layout wide dst o
 layout (form.Jump long to) label = word (jump_name long) ∷ space ∷ destination to label

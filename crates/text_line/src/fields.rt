@@ -309,9 +309,9 @@ impl Form {
     }
 
     /// The instruction of this form, which is one that a line can have: `insn`, the only caller, has tested the precondition (`IsForm`) by
-    /// `is_possible`. `found`: the instruction is written as this form with 0 for each number -0, and with `distance` for a label
-    /// (`resolved`). `distance` is the number of slots from the next slot to the label that a jump names. The result is `None` if a number
-    /// is out of the range of its field (`none`), and only then (`fits`).
+    /// `is_possible`. `distance` is the number of slots from the next slot to the label that its jump names; it has no effect if it names
+    /// none. `found`: the instruction is written as this form with 0 for each number -0, and with `distance` for a label (`resolved`). The
+    /// result is `None` if a number is out of the range of its field (`none`), and only then (`fits`).
     fn listed_insn(self, distance: i16) -> Option<Insn>
         requires { IsForm self }
         ensures found { IfSome result (λ insn. written insn ≡ resolved distance self) }

@@ -198,8 +198,9 @@ fn assigned(tokens: &[Token<'_>]) -> Option<Form>
 }
 
 /// Parses a conditional jump from the tokens after `if`, as `r1 == 0 goto +2` or `w1 < w2 goto out`. Returns its form, and the name of the
-/// label to which it jumps: the empty text if its target is a number of slots, which has a sign. Returns `None` if the tokens are anything
-/// else. In the contract, `seen_destination` and `shown_tokens` replace borrowed texts by their bytes.
+/// label to which it jumps: the form has only `Label` as its target. If the target is a number of slots, which has a sign, the form has the
+/// number, and the name is empty. Returns `None` if the tokens are anything else. In the contract, `seen_destination` and `shown_tokens`
+/// replace borrowed texts by their bytes.
 #[tactic(auto, unfolding(crate::specs::inside::Reading::parsed_branch))]
 fn branch<'a>(tokens: &[Token<'a>]) -> Option<(Form, &'a str)>
     ensures { seen_destination result ≡ parsed_branch (shown_tokens tokens.now) }

@@ -121,7 +121,8 @@ pub(crate) fn constant<'t, 'a>(tokens: &'t [Token<'a>]) -> Option<(Number, &'t [
 }
 
 /// A number after its sign, `+` or `-`, as the offset of an address and the target of a jump are written, and the tokens after the number.
-/// `None` if the tokens do not begin with a sign and then a number.
+/// `None` if the tokens do not begin with a sign and then a number. The first argument of `number_from` is whether the sign is a minus. The
+/// contract has the result and the tokens as definitions have them (`seen_pair`, `shown_tokens`).
 #[tactic(auto, unfolding(crate::specs::inside::Reading::leading_signed_number))]
 pub(crate) fn signed<'t, 'a>(tokens: &'t [Token<'a>]) -> Option<(Number, &'t [Token<'a>])>
     ensures { seen_pair result ≡ leading_signed_number (shown_tokens tokens.now) }

@@ -71,9 +71,8 @@ enum ByteClass {
 impl ByteClass {
     ghost use Rattle.text_line.specs.inside.Class.{in_class};
 
-    /// Whether the byte is of this class. `Blank`: a space, a tab or a carriage return. `Name`: a byte that a name may have after its first
-    /// one, which is a letter of ASCII, `_` or a decimal digit. `Digit`: a decimal digit. `HexDigit`: a hexadecimal digit, in upper or
-    /// lower case.
+    /// Whether the byte is of this class. `Blank`: a space, a tab or a carriage return. `Name`: a letter of ASCII, `_` or a decimal digit,
+    /// as a name may have after its first byte. `Digit`: a decimal digit. `HexDigit`: a hexadecimal digit, in upper or lower case.
     fn contains(self, byte: u8) -> bool
         ensures { result ≡ in_class self byte }
     {
@@ -150,9 +149,10 @@ fn symbol(text: &str) -> Option<(Token<'_>, &str)>
     Some((Token::Symbol(symbol), rest))
 }
 
-/// The name at the front, a letter or `_` and the letters, digits and `_` after it, as a token, and the text after it (`value`). `None` if
-/// the text does not begin with a letter or `_`. The text is ASCII, as `tokens` has checked, so it can be split at any byte. The text after
-/// the name is ASCII too (`ascii`), and shorter (`shorter`), so that the loop of `tokens` ends.
+/// The name at the front, a letter or `_` and the letters, digits and `_` after it, as a token, and the text after it (`value`). All words
+/// of a line are names: registers, mnemonics, sizes and labels, as `r1`, `goto`, `u8` or `out`. `None` if the text does not begin with a
+/// letter or `_`. The text is ASCII, as `tokens` has checked, so it can be split at any byte. The text after the name is ASCII too
+/// (`ascii`), and shorter (`shorter`), so that the loop of `tokens` ends.
 #[tactic(auto, unfolding(crate::specs::inside::Tokens::name_at))]
 fn name(text: &str) -> Option<(Token<'_>, &str)>
     requires { IsAscii text.now }

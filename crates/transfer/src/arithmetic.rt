@@ -120,7 +120,8 @@ fn value_by(
 
 /// The kind of `pointer`, a pointer into a value of a map, after a number in `range` is added to it (`way` is `Forwards`) or subtracted
 /// from it (`Backwards`). The number is read as signed: from 2^63 on it is negative. `OffsetTooLarge` if the offset may then be more than
-/// `FARTHEST_OFFSET` bytes from 0, or if the range has numbers of both signs.
+/// `FARTHEST_OFFSET` bytes from 0. A range with numbers of both signs always gives this error: its ends are unsigned, so it contains
+/// 2^63 - 1.
 fn value_moved(way: Direction, pointer: ValuePointer, range: Range) -> Result<Kind, Reason>
     ensures { result ≡ value_moved way pointer range }
 {
@@ -135,8 +136,8 @@ fn value_moved(way: Direction, pointer: ValuePointer, range: Range) -> Result<Ki
 
 /// The kind of `pointer` after it is moved by a number in `range`, read as signed: forwards in a sum, backwards in a difference (`way`).
 /// Only a pointer into a value may be moved, and, if `range` has only one number, a stack pointer; in all other cases the error is
-/// `PointerArithmetic`. It is `OffsetTooLarge` if the moved offset may be more than `FARTHEST_OFFSET` bytes from 0, or if `range` has
-/// numbers of both signs.
+/// `PointerArithmetic`. It is `OffsetTooLarge` if the moved offset may be more than `FARTHEST_OFFSET` bytes from 0. A `range` with
+/// numbers of both signs moves a pointer too far: its ends are unsigned, so it contains 2^63 - 1.
 fn pointer_moved(way: Direction, pointer: Kind, range: Range) -> Result<Kind, Reason>
     ensures { result ≡ pointer_moved way pointer range }
 {
@@ -182,9 +183,10 @@ pub(crate) fn of_scalar(wide: bool, op: Operator, kind: Kind) -> Result<Kind, Re
     of_scalars(wide, op, kind, kind)
 }
 
-/// The kind of a 64-bit sum, of two numbers or of a pointer and a number in either order. Only a pointer into a value may be moved, and, if
-/// the range of the number has only one number, a stack pointer: `PointerArithmetic` for any other operands. `OffsetTooLarge` if the moved
-/// offset may be more than `FARTHEST_OFFSET` from 0, or if the range has numbers of both signs.
+/// The kind of a sum of 64 bits (`true` for `of_scalars`), of two numbers or of a pointer and a number in either order. Only a pointer into
+/// a value may be moved, and, if the range of the number has only one number, a stack pointer: `PointerArithmetic` for any other operands.
+/// The number that moves a pointer is read as signed. `OffsetTooLarge` if the moved offset may be more than `FARTHEST_OFFSET` from 0. This
+/// is so for each range with numbers of both signs: as a range of unsigned numbers, it has the greatest and the least signed number.
 fn sum(a: Kind, b: Kind) -> Result<Kind, Reason>
     ensures { result ≡ sum_kind a b }
 {
@@ -222,9 +224,10 @@ fn is_maybe_value(kind: Kind) -> bool
 /// The kind of an operator's result, of 64 bits (`wide`) or 32, on the destination, of kind `a`, and the source, of kind `b`. A move does
 /// not read the destination, and for it `a` is the kind of the number 0. The caller has found both readable, which is not required: a
 /// 64-bit move would copy an unreadable kind, and the other operators reject it. Allowed are a 64-bit move of any value, each operator on
-/// two numbers, and 64-bit sums and differences that move a pointer into a value by a number, or a stack pointer by a constant. `MaybeNull`
-/// if an operand of a 64-bit sum or difference is a look-up's result that may be null. `OffsetTooLarge` if such a pointer's offset may then
-/// be more than `FARTHEST_OFFSET` from 0, or the number may have either sign. `PointerArithmetic` for all other operands.
+/// two numbers, and 64-bit sums and differences that move a pointer into a value by a number, or a stack pointer by a number whose range
+/// has one member. `MaybeNull` if an operand of a 64-bit sum or difference is a look-up's result that may be null; `OffsetTooLarge` if the
+/// offset of the moved pointer may be more than `FARTHEST_OFFSET` from 0, or if the number, read as signed, may have either sign;
+/// `PointerArithmetic` for all other operands.
 pub(crate) fn arithmetic(wide: bool, op: AluOp, a: Kind, b: Kind) -> Result<Kind, Reason>
     ensures { result ≡ arithmetic_kind wide op a b }
 {

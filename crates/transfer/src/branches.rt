@@ -58,8 +58,9 @@ pub fn set_ranges(facts: &mut Facts, dst: Reg, src: &Operand, pair: (Range, Rang
     }
 }
 
-/// Whether a comparison of register `dst` with `src` compares a register with itself; false if `src` is a constant. If it does,
-/// `compare_numbers` refines no range, and both edges count as possible.
+/// Whether a comparison of register `dst` with `src` compares a register with itself; false if `src` is a constant. If it does, the
+/// register would get two ranges on an edge, and `set_ranges` would leave it only the second. So `compare_numbers` refines no range, and
+/// both edges count as possible.
 fn is_same(dst: Reg, src: Operand) -> bool
     ensures { result ≡ is_same dst src }
 {
@@ -91,8 +92,8 @@ fn compared(
 /// The edges of a comparison of two numbers of 64 bits (`wide`) or 32, `dst` in the range `a` and `src` in the range `b`. On each edge both
 /// ranges are refined; the edge is `None` only if it can't be taken. If a register is compared with itself, no range changes, and both
 /// edges count as possible (`Either`), even if the condition never or always holds. For any facts `f` before the jump, the edges are those
-/// of the definition (`edges`). In `stack`, which `apply` needs, `f` is both before and after the jump, since a comparison changes no
-/// facts.
+/// of the definition (`edges`). `stack`, which `apply` needs, says that no stack slot changes: `KeepsStack` takes the facts before and
+/// after the comparison, and both are `f`, since only the facts on an edge get the refined ranges.
 #[inline(always)]
 fn compare_numbers(
     wide: bool,

@@ -116,8 +116,8 @@ fn output(facts: &mut Facts, named: &[Named], length: Range, kind: Kind) -> Resu
     }
 }
 
-/// The range of an argument that has to be a number: the flags of an update, or the offset of a load of bytes. Any number is allowed, so
-/// `call` ignores the range. `HelperArgument` if the argument is no number.
+/// Checks that an argument of this kind is a number: the flags of an update, or the offset of a load of bytes. `HelperArgument` if it is
+/// none. The result is the number's range only because the definition `number_range` has it: any number is allowed, so `call` ignores it.
 fn check_number(kind: Kind) -> Result<Range, Reason>
     ensures { result ≡ number_range kind }
 {
@@ -155,7 +155,7 @@ fn check_context(kind: Kind) -> Result<(), Reason>
     }
 }
 
-/// The kind of a number of 64 bits that may be any: the result of each helper but a look-up.
+/// The kind of a number of which only the width is known, 64 bits (`true`): the result of each helper but a look-up.
 fn any_number() -> Kind
     ensures { result ≡ any_number }
 {

@@ -331,9 +331,10 @@ fn assign(facts: &mut Facts, dst: Reg, kind: Kind) -> Flow
     Flow::Falls
 }
 
-/// The flow after a store or an atomic operation: `WritesSlot` if it may change only the stack slot `slot`, `Falls` if it changes none
-/// (`None`). Both have only the falling edge, with the facts `f` after the instruction (`edges`). `stack`: if facts `g` after it differ
-/// from facts `f` before it at most in that stack slot (`ChangesAtMost`), the flow allows this difference (`KeepsStack`).
+/// The flow after a store or an atomic operation, which is the edges out of it and the stack slots that it may change: `WritesSlot` if it
+/// may change only the stack slot `slot`, `Falls` if it writes into a map's value and changes none (`None`). Both have only the falling
+/// edge, with the facts `f` after the instruction (`edges`). `stack`: if facts `g` after it differ from facts `f` before it at most in that
+/// stack slot (`ChangesAtMost`), the flow allows this difference (`KeepsStack`).
 #[inline(always)]
 fn flow_after_write(slot: Option<usize>) -> Flow
     ensures edges { (f : AnyFacts) → edges_of result f ≡ edges_of Falls f }
@@ -394,8 +395,9 @@ fn operate_on_any(
 /// Updates the facts for an operator of two operands, of 64 bits (`wide`) or 32: only the kind of `dst`, no stack slot (`stack`). The new
 /// facts, on the falling edge (`ok`), or the error (`refused`) are those of `operator_edges`; after an error no fact has changed (`stays`).
 /// It is `UnreadableRegister` if the operator reads an operand that may not be read, else that of `arithmetic`: `MaybeNull` if an operand
-/// of a 64-bit sum or difference may be null, `OffsetTooLarge` if a pointer may be moved too far, or `PointerArithmetic`. This function
-/// does a 64-bit move itself, and if both operands are numbers, any operator but a move; `operate_on_any`, not inlined, does the rest.
+/// of a 64-bit sum or difference may be null, `OffsetTooLarge` if a pointer may be moved too far, or `PointerArithmetic` if an operand is
+/// no number and the operator does not take it. Inlined are only a 64-bit move and, if both operands are numbers, any operator but a move,
+/// so that these need no call; `operate_on_any`, not inlined, does the rest.
 #[inline(always)]
 fn operate(facts: &mut Facts, wide: bool, op: AluOp, dst: Reg, src: Operand) -> Result<(), Reason>
     ensures ok { OnOk result (operator_edges wide op dst src facts.old ≡ falls facts.new) }

@@ -10,9 +10,12 @@ ghost use Rattle.transfer.specs.Effects.{effect};
 ghost use Rattle.transfer.specs.Reasons.{TransferReasons};
 ghost use Rattle.transfer.specs.Sound.{TransferIsSound, TransferKeepsWellFormed, CallsAreSound};
 
-/// A law, soundness: if well-formed facts admit a state and allow an instruction that does not jump below slot 0, its step on tagged values
-/// is no fault, and the facts on the edge that it takes admit the state after it. `verifier` applies this law to each step of a run, so no
-/// run of an accepted program faults.
+/// A law, soundness. Take an instruction, the facts before it, well formed at its slot (`AreWellFormedAt`: ranges end below 2^64, masks of
+/// stack slots have eight bits, look-ups whose results may be null were at lower slots), and a state at this slot that they admit, with a
+/// map of each shape (`Describes`). If the transfer function allows the instruction, its step on tagged values is no fault, and the facts
+/// on the edge that it takes admit the state after it. A jump to before slot 0, which is a fault, is excluded: the transfer function does
+/// not test the target, but the rules for a program's shape do. `verifier` applies this law to each step of a run, so no run of an accepted
+/// program faults.
 pub fn transfer_is_sound()
     ensures { TransferIsSound }
 {
@@ -50,8 +53,8 @@ pub fn transfer_reasons()
     ensures { TransferReasons }
 {}
 
-/// A law: if the definition of the effect of instruction `i` at slot `at`, with the facts `f` before it (`effect`), has a reason for which
-/// it may not be run, this is never `Memory`. So a verifier that returns `Memory` is itself out of memory.
+/// A law: if the transfer function (`effect`) rejects instruction `i` at slot `at` with the facts `f` before it, the reason is never
+/// `Memory`. `shapes` has, by descriptor, the shapes of the maps. So a verifier that returns `Memory` is itself out of memory.
 pub fn effects_need_no_memory()
     ensures { (shapes : Shapes) (at : ℕ) (i : Insn) (f : Facts) (reason : Reason)
         → effect shapes at i f ≡ Err reason → reason ≢ Memory }
@@ -62,7 +65,8 @@ pub fn effects_need_no_memory()
 /// A law, soundness of calls, which `transfer_is_sound` uses. Suppose that facts describe a state (`Describes`: they admit it, its numbers
 /// are in range, and it has the maps of the shapes), that they allow a call of a helper, and that their sites, the slots of look-ups, are
 /// all below the state's slot. Then the call is no fault in this state, and the facts after the call describe the state after it, by a
-/// witness that may be another one.
+/// witness that may be another one: after a look-up it also has the look-up's result, at the state's slot. As no site is that slot, what
+/// the facts say of older results still holds.
 pub fn calls_are_sound()
     ensures { CallsAreSound }
 {

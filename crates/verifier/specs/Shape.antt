@@ -40,7 +40,8 @@ abbrev pub jumps_into : Insn → ℕ → ℕ → Bool
 jumps_into insn n i = jumps insn && is_number (jumps_to insn n) i && nat_lt n i
 
 -- an edge of the instruction at slot n, falling or jumping, leads to slot i; false if no
--- instruction begins at slot n (None). A jump to slot n or an earlier one is no edge
+-- instruction begins at slot n (None). A jump to slot n or an earlier one is a fault of the
+-- program, and no edge, so all edges lead to later slots
 abbrev pub leads_into : Option Insn → ℕ → ℕ → Bool
 leads_into None n i = false
 leads_into (Some insn) n i = falls_into insn n i || jumps_into insn n i

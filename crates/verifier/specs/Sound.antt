@@ -26,9 +26,11 @@ use Rattle.verifier.specs.Verdict.{HasNoFault, IsAccepted}
 
 -- ---- one step
 
--- in a program without a fault of its shape: if the facts before a slot describe a state there, and
--- let the instruction be run, the machine has a step; the next state has a map of each shape again,
--- and the facts on the edge that the step takes admit it
+-- in a program without a fault of its shape: if an instruction begins at a slot, the facts before
+-- it describe a state there that has a map of each shape that the program's descriptors name, and
+-- they let the instruction be run, the machine has a step. Either the run ends, with a number of 32
+-- bits, or the next state has a map of each shape again, and the facts on the edge that the step
+-- takes admit it
 abbrev pub StepIsSound : Type 0
 StepIsSound =
     (code : List Insn) (named : List Named) (witness : Witness) (s : RunState) (i : Insn)

@@ -132,9 +132,10 @@ impl Paths {
         }
     }
 
-    /// Whether a path from slot 0 leads to `slot`, the slot at which the pass is. The path to slot 0 has no instruction, any other has
-    /// (`have_instructions`). A path that ends with a jump to `slot` counts only after `join`. No clause requires that the pass is at
-    /// `slot`: the caller requires that the result is then `is_reachable` (`LeadTo`).
+    /// Whether a path from slot 0 leads to `slot`, the slot at which the pass is: `Paths` does not store it. The path to slot 0 has no
+    /// instruction; on any other, `here` counts at least one (`have_instructions`). Paths that end with a jump to `slot` are in `here`
+    /// only once `join` has been called. That the result is `is_reachable` of `slot` is no clause here, but a precondition of the caller
+    /// (`LeadTo`).
     #[inline(always)]
     pub(crate) fn lead_to(&self, slot: usize) -> bool
         ensures { result ≡ (nat_lt 0 self.now.here.instructions || slot == 0) }
@@ -144,8 +145,8 @@ impl Paths {
 
     /// Whether a path with at least one instruction leads to the slot at which the pass is; the instruction at that slot is not counted. By
     /// the clause the most instructions on a path there (`here`) are more than 0. A path that ends with a jump to this slot counts only
-    /// after the call of `join`. `false` at slot 0: the only path there has no instruction. `is_simple` calls this, a quick test without
-    /// the slot's number; `lead_to` is also true at slot 0.
+    /// after the call of `join`. `false` at slot 0: the only path there has no instruction. `is_simple` takes this as the test that the
+    /// instruction can be reached, without the slot's number. Slot 0 so gets all checks, among them `lead_to`, which is true there.
     #[inline(always)]
     pub(crate) fn have_instructions(&self) -> bool
         ensures { result ≡ nat_lt 0 self.now.here.instructions }

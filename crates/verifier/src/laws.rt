@@ -79,10 +79,10 @@ pub fn same_shapes_are_accepted()
     ensures { SameShapesAreAccepted }
 {}
 
-/// A law: take a program whose shape has no fault, and a state at a slot. The state's numbers are in range, the state has a map of each
-/// shape, and the facts before the slot admit it (`Describes`) and let the instruction be run (`effect`). Then the machine has a step.
-/// Unless this ends the run, the next state has numbers in range and a map of each shape again, and the facts on the edge that the step
-/// takes admit it.
+/// A law of one step: take a program whose shape has no fault, and a state at a slot at which an instruction begins. The facts before the
+/// slot describe the state (`Describes`): they admit it, its numbers are in range, and each descriptor of the program's maps has a map of
+/// its shape. They also let the instruction be run (`effect`). Then the machine has a step. If this ends the run, the result has 32 bits;
+/// else the facts on the edge that the step takes describe the next state.
 pub fn step_is_sound()
     ensures { StepIsSound }
 {

@@ -46,8 +46,9 @@ impl NumberedFacts {
     }
 
     /// Gives the group of eight stack slots that has stack slot `slot`, 0 to 63, the new number `fresh`, since the slot may have changed:
-    /// groups with one index and one number have to be equal in all facts of a pass. Also records that since then no group has been joined
-    /// into this group: its `includes` becomes 0. No fact and no other group changes (`group_renumbered`).
+    /// groups with one index and one number have to be equal in all facts of a pass. The group's `includes`, the number of the group that
+    /// was joined into it last, becomes 0: none has been joined into it since the change. No fact and no other group changes
+    /// (`group_renumbered`).
     #[inline(always)]
     fn renumber_group(&mut self, slot: usize, fresh: usize)
         requires { slot < stack_slots }
@@ -58,12 +59,12 @@ impl NumberedFacts {
         self.includes[group] = 0;
     }
 
-    /// Gives the new number `fresh` to each group of eight stack slots into which an instruction with this flow may have written, since
-    /// groups with one index and one number have to be equal in all facts of a pass; also 0 in `includes`, as no group has been joined into
-    /// it since. No clause requires that `fresh` is new: the only caller passes 8 * n + 3 for the instruction at slot n, which no other
-    /// change of a group gives. For `WritesSlot` this is the group of that stack slot, one of the 64 (`IsInStack`); for `Writes` these are
-    /// all groups. Other flows change nothing (`writes_renumbered`); a null test changes the stack only on its edges, for which
-    /// `leave_null_test` gives new numbers.
+    /// Gives the new number `fresh` to each group of eight stack slots into which an instruction with this flow may have written: for
+    /// `WritesSlot` the group of that stack slot, one of the 64 (`IsInStack`), for `Writes` all groups. Groups with one index and one
+    /// number have to be equal in all facts of a pass. The group's `includes`, the number of the group that was joined into it last,
+    /// becomes 0: none has been joined into it since the write. No clause requires that `fresh` is new: the only caller passes 8 * n + 3
+    /// for the instruction at slot n, which no other change of a group gives. Other flows change nothing (`writes_renumbered`); a null test
+    /// changes the stack only on its edges, for which `leave_null_test` gives new numbers.
     #[inline(always)]
     pub(crate) fn renumber_written(&mut self, flow: &Flow, fresh: usize)
         requires { IsInStack flow.now }
@@ -82,10 +83,11 @@ impl NumberedFacts {
     }
 
     /// Joins the group of eight stack slots of index `group` in `edge`, the facts on another edge to the same instruction, into the group
-    /// of this index in `self`. If the join changes the latter, it gets the new number `fresh`: groups with one index and one number have
-    /// to be equal in all facts of a pass. Changed or not, this group then has in `includes` the number of the group in `edge`, by which a
-    /// second join with that group is recognized. Not inlined, unlike its only caller, `join_stack_group`, which leaves out a second join,
-    /// since it would change nothing. The contract is that of the caller, so it also allows to leave out such a join.
+    /// of this index in `self`. If the join may change the latter, it gets the new number `fresh`: groups with one index and one number
+    /// have to be equal in all facts of a pass. In any case this group then has in `includes` the number of the group in `edge`, by which
+    /// the only caller, `join_stack_group`, leaves out a second join with that group, since it would change nothing. The caller is inlined,
+    /// and this function is not, so that the loop of `join` has only the caller's test. The contract is that of the caller, so it also
+    /// allows to leave out such a join.
     #[inline(never)]
     fn join_other_group(&mut self, edge: &NumberedFacts, fresh: usize, group: usize)
         requires { group < stack_groups }
@@ -114,7 +116,8 @@ impl NumberedFacts {
 
     /// Joins `edge`, the facts on another edge to the same instruction, into these (`IsJoin`): the kind of each register, and each group of
     /// eight stack slots. Each group that the join changes gets the new number `fresh`, since groups of one index and one number have to be
-    /// equal in all facts of a pass. A group is left out if by `includes` the join would only repeat the last one into this group.
+    /// equal in all facts of a pass. A group of `edge` is left out if it has the number in `includes`, that of the group that was joined
+    /// last into the one of its index here: it equals that group, and a second join with it would change nothing.
     pub(crate) fn join(&mut self, edge: &NumberedFacts, fresh: usize)
         ensures { IsJoin fresh self.old edge.now self.new }
     {

@@ -42,12 +42,13 @@ pub(crate) struct Pass {
     taken: NumberedFacts,
 }
 
-/// Passes the facts in `hand`, those before a comparison of `dst` with `src`, along its jumping edge. `jumps` has the ranges of both
-/// operands on this edge; if it is `None`, the edge can't be taken, and nothing is done. Else the operands in `hand` get these ranges, and
-/// `hand` is joined into the facts that `entries` has for `target` (`sent`). A target is a slot of the program (`lands`), since the
-/// program's shape has no fault; for `None`, a jump to below slot 0, nothing is joined. Each group of eight stack slots that the join
-/// changes at the target gets the new number `fresh`. `hand`: only the ranges of the operands have changed, since with equal ranges `q` for
-/// them `hand` is as before. The caller then sets those of the falling edge. The error is out of memory.
+/// Passes the facts in `hand`, those before a comparison of `dst` with `src`, along its jumping edge. `jumps` has the ranges of `dst` and
+/// of `src` on this edge; if it is `None`, the edge can't be taken, and nothing is done. Else the operands in `hand` get these ranges, and
+/// `hand` is joined into the facts that `entries` has for the slot `target` (`sent`). Each group of eight stack slots that the join changes
+/// there gets the new number `fresh`. `target` is below `MAX_SLOTS` (`lands`), as each slot of a program. `None` is a jump to below slot 0,
+/// a fault of the program's shape, which a program in the pass does not have; nothing is joined then. By the clause `hand` only the ranges
+/// of the operands have changed in `hand`: with any ranges `q` for them it is as it was with `q`. The caller then sets those of the falling
+/// edge. The error is out of memory.
 #[inline(always)]
 fn send_compared(
     hand: &mut NumberedFacts,
@@ -312,9 +313,10 @@ impl Pass {
     /// has the facts before the instruction. If it has none, no run reaches the instruction, and nothing is done. Otherwise the watcher
     /// gets them (`seen`). Then `falling` has the facts on the falling edge, or none if this edge can't be taken, and those on the jumping
     /// edge, if there is one, are joined into those that `entries` has for the target (`past`), a slot of the program, as the shape has no
-    /// fault (`lands`). `Ok` means that the instruction may be run with the facts before it (`ok`). The error (`refused`) is why it may
-    /// not, after the watcher got the facts (`SeesFault`), or out of memory, before or after that (`StopsWatching`). `named` has the
-    /// program's maps. By `room` the new numbers of groups of stack slots, at most `8 * slot + 6`, don't overflow.
+    /// fault (`lands`). `taken` is space for the facts on the jumping edge of a null test; no clause is about it. `Ok` means that the
+    /// instruction may be run with the facts before it (`ok`). The error (`refused`) is why it may not, after the watcher got the facts
+    /// (`SeesFault`), or out of memory, before or after that (`StopsWatching`). `named` has the program's maps. By `room` the new numbers
+    /// of groups of stack slots, at most `8 * slot + 6`, don't overflow.
     #[inline(always)]
     fn run_past_if_reached<W: Watcher>(
         &mut self,

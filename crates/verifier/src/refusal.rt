@@ -75,7 +75,8 @@ impl fmt::Display for Refusal {
 
     ghost output = { λ refusal. Some (refusal_text refusal) };
 
-    /// Writes the line that `verify` and the log write for a rejection, without its line feed. `number` is below 100 for a rule that the
+    /// Writes the line that `verify` and the log write for a rejection, without its line feed. `slot` is the first slot of the instruction
+    /// at fault (the field `slot` also has the cases without one). `number` is the number of the cause: below 100 for a rule that the
     /// program breaks, and above 100 for slots that are no program.
     fn fmt<W: fmt::Write>(&self, f: &mut fmt::Formatter<W>) -> fmt::Result {
         let (slot, number) = (self.slot, self.cause.number());

@@ -159,11 +159,12 @@ fn shape_fault_of(
     }
 }
 
-/// Checks the instruction at `slot` by all rules of shape; `check_and_add` calls this if the instruction is not simple (`is_simple`). The
-/// error is the first fault (`refused`). Without a fault (`fine`) the instruction is added to the counts in `paths`, the most instructions
-/// and calls on the paths that lead to `slot`. If it may jump, the new counts are joined into those of its target in `jumping`, which has,
-/// for each slot of the program (`long`), the counts on the paths that end with a jump there (`added`). By `reached`, `paths` shows whether
-/// `slot` can be reached; by `few`, no sum overflows.
+/// Checks the instruction at `slot` by all rules of shape; `check_and_add` calls this if the instruction is not simple (`is_simple`).
+/// `named` has the open descriptors with their objects. The error is the first fault (`refused`). Without a fault (`fine`) the instruction
+/// is added (`added`) to the counts in `paths`, the most instructions and calls on the paths that lead to `slot`. If it may jump, the new
+/// counts are joined into those of its target in `jumping`, which has, for each slot of the program (`long`), the counts on the paths that
+/// end with a jump there; if it is an exit, into those at the exits. Then `paths` has the counts along the falling edge, `NO_COUNTS` if
+/// there is none. By `reached`, `paths` shows whether `slot` can be reached; by `room` and `few`, no sum overflows.
 #[inline(always)]
 fn check_and_count(
     program: &Program,
@@ -194,11 +195,12 @@ fn check_and_count(
 }
 
 /// Checks the shape of `insn`, the instruction at `slot` (at most `MAX_SLOTS`: `room`), whose profile is `row`. `named` has the open
-/// descriptors with their objects. The error is the first fault of shape (`refused`). An instruction without a fault (`fine`) is added to
-/// `paths` (`added`): the most instructions and calls on the paths that lead to `slot`, neither above `MAX_SLOTS` (`few`). `slot` is
-/// reachable exactly if it is 0 or these paths have an instruction (`reached`). A simple instruction (`is_simple`) is added unchecked,
-/// since no such instruction has a fault. `jumping` has, for each slot (`long`), the most instructions and calls on the paths that end with
-/// a jump to that slot; if the instruction may jump, the counts with the instruction are joined into those for its target.
+/// descriptors with their objects. The error is the first fault of shape (`refused`). `paths` has the most instructions and calls on the
+/// paths to `slot`, neither above `MAX_SLOTS` (`few`); `slot` is reachable exactly if it is 0 or these paths have an instruction
+/// (`reached`). `jumping` has, for each slot (`long`), the most on the paths that end with a jump there. Without a fault (`fine`) the
+/// counts with the instruction are passed on (`added`): `paths` gets those on the falling edge or at an exit, and those on a jump are
+/// joined into its target's in `jumping`. A simple instruction (`is_simple`) can be reached, has only the next slot of the program as its
+/// successor, names nothing and does not write `FRAME_POINTER`; so it has no fault, and is added unchecked.
 #[inline(always)]
 fn check_and_add(
     program: &Program,

@@ -147,9 +147,9 @@ impl TargetFacts {
         Ok(())
     }
 
-    /// Appends `None` to the list of facts until `slot` is one of its indices (`within`); a list that is long enough is unchanged. By
-    /// `entries` no slot's facts change, since `entry_of` gives `None` past the end too. `slot` is a slot of a program, below `MAX_SLOTS`,
-    /// so `slot + 1` can't overflow. The error is out of memory.
+    /// Appends empty entries (`None`), of slots without facts on jumps to them, until the list has an entry for `slot` (`within`); a list
+    /// that is long enough is unchanged. No slot's facts change (`entries`), since a slot past the end of the list has an empty entry too
+    /// (`entry_of`). `slot` is a slot of a program, below `MAX_SLOTS`, so `slot + 1` can't overflow. The error is out of memory.
     fn reach(&mut self, slot: usize) -> Result<(), AllocError>
         requires { slot < MAX_SLOTS }
         ensures within { OnOk result (slot < length self.new) }
@@ -160,8 +160,9 @@ impl TargetFacts {
 
     /// Joins `facts`, those on a jump to the slot `target`, into the facts on the earlier jumps to this slot, or copies them if there are
     /// none. `target` is a slot of the program, so below `MAX_SLOTS`, since the program's shape has no fault. `None` is a target below slot
-    /// 0, which would be such a fault; nothing is done then. Each group of eight stack slots that a join changes gets the new number
-    /// `fresh`, since groups with one index and one number are equal in all facts of a pass (`NumberedFacts`). The error is out of memory.
+    /// 0, which would be such a fault; nothing is done then. Each group of eight stack slots that the join changes gets the number `fresh`,
+    /// which is new in the pass: groups with one index and one number must be equal in all its facts, so that a join that would change
+    /// nothing is recognized by the numbers (`NumberedFacts`). The error is out of memory.
     pub(crate) fn send(
         &mut self,
         target: Option<usize>,
@@ -195,9 +196,10 @@ impl TargetFacts {
     }
 
     /// Joins `facts`, those on a jump to `slot`, into the entry of this slot: the facts on the earlier jumps to it. If there are none
-    /// (`None`), the entry gets a copy of `facts`. The caller `put` has lengthened the list, so that it has an entry for the slot. Each
-    /// group of eight stack slots that the join changes gets the new number `fresh`: groups with one index and one number are the same in
-    /// all facts (`NumberedFacts`). Entries of other slots are unchanged (`IsPut`). The error is out of memory.
+    /// (`None`), the entry gets a copy of `facts`, in the box of an earlier entry (`spare`) or else in a new one. The caller `put` has
+    /// lengthened the list, so that it has an entry for the slot. Each group of eight stack slots that the join changes gets the new number
+    /// `fresh`: groups with one index and one number are the same in all facts (`NumberedFacts`). Entries of other slots are unchanged
+    /// (`IsPut`). The error is out of memory for a new box.
     fn put_within(
         &mut self,
         slot: usize,

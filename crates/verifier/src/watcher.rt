@@ -30,7 +30,8 @@ pub trait Watcher {
 pub(crate) struct Unwatched;
 
 impl Watcher for Unwatched {
-    /// Ignores the facts, and never fails.
+    /// Ignores the facts, and never fails: `verify` and `verify_slots` use this watcher, since they return no facts. Its `seen` is
+    /// always `None`, so it meets the contract although it stores nothing.
     #[inline(always)]
     fn before(&mut self, _slot: usize, _facts: &Facts) -> Result<(), AllocError> {
         Ok(())

@@ -20,7 +20,8 @@ pub struct WorkingMemory {
 }
 
 impl WorkingMemory {
-    /// Memory for verifications. Allocates nothing: each verification requests what is missing.
+    /// Memory for verifications, of which nothing is allocated yet: no entry of `jumping`, and no facts of a pass (`None`). Each
+    /// verification requests from `alloc` what is missing.
     pub fn new(alloc: Global) -> WorkingMemory {
         WorkingMemory {
             jumping: Vec::new(alloc),

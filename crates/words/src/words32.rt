@@ -266,7 +266,8 @@ pub fn common_bit(a: u64, b: u64) -> bool
 }
 
 /// The result of an operator of two operands on the low halves of two words: `a` has the destination's value, `b` the source's, and 32 in
-/// the contract is the width. A quotient by 0 is 0, a remainder by 0 is the low half of `a`, and a move does not read `a`.
+/// the contract is the width. A quotient by 0 is 0, and a remainder by 0 is the low half of `a`. The signed quotient of -2^31 by -1 wraps
+/// to -2^31. A shift is by `b % 32` bits, and a move does not read `a`.
 #[inline(always)]
 pub fn alu(op: AluOp, a: u64, b: u64) -> u64
     ensures { result ≡ operate 32 (Binary op) a b }

@@ -64,7 +64,8 @@ fn serve_subcommand<'a>(alloc: Global) -> Result<Command<'a>, AllocError>
 }
 
 /// The subcommand `verify`, as `parse_arguments` gives it to clap: any number of positional arguments, one for each map, which clap
-/// collects under the name `map`. By the clause it is `verify_command` for clap's definitions (`app_of`). `AllocError`: out of memory.
+/// collects under the name `map`. By the clause its settings and arguments, which `app_of` of clap's definitions gives, are those of
+/// `verify_command`. `AllocError`: out of memory.
 fn verify_subcommand<'a>(alloc: Global) -> Result<Command<'a>, AllocError>
     ensures { IfOk result (λ command. app_of command ≡ verify_command) }
 {
@@ -259,11 +260,11 @@ fn run<I: Read + Drop, O: Write + Drop>(
 
 /// Runs bpfhost on its arguments, those after its name, and returns its exit status: 1 if the input or the program in it is rejected, 2 if
 /// arguments are wrong, 3 if a call of the input or the output failed, or if there is no seed for the maps of `serve`, 4 if out of memory,
-/// else 0. Arguments are wrong if they name no task, or a map argument is wrong (`AreWrongArguments`). Status 2 is only for these
-/// (`wrong`), and they end with 2, or with 4 if out of memory (`refused`). A fault, which a verdict of `verify` is not, is one line on
-/// `faults`; if that line can't be written, the status is still the fault's. `seed` is `None` if none could be drawn; only `serve` needs
-/// it. `accepted`: after status 0 for `verify`, the input has a program that is accepted with the maps of the arguments; nothing is
-/// promised of a reader whose bytes contracts do not know.
+/// else 0. Arguments are wrong (`AreWrongArguments`) if clap rejects them, `serve` has no number of tenants from 1 to `MOST_TENANTS`, or an
+/// argument of `verify` names no map, or the descriptor of an earlier one. Status 2 is only for these (`wrong`), and they end with 2, or
+/// with 4 if out of memory (`refused`). A fault, which a verdict of `verify` is not, is one line on `faults`; if that line can't be
+/// written, the status is still the fault's. `seed` is `None` if none could be drawn; only `serve` needs it. `accepted`: after status 0 for
+/// `verify`, the input has a program that is accepted with the maps of the arguments, if contracts know the bytes of the reader.
 pub fn run_words<I: Read + Drop, O: Write + Drop, F: Write + Drop>(
     alloc: Global,
     seed: Option<HashSeed>,

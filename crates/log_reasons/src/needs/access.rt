@@ -203,8 +203,8 @@ fn spill_among(facts: &Facts, first: i64, last: i64) -> Option<(i64, Kind)> {
     None
 }
 
-/// Writes the end of a sentence: the eight stack bytes from the offset `lowest` on are a spilled pointer of the kind `kind`, and only a
-/// load of all eight reads it.
+/// Writes the end of a sentence: the eight stack bytes from the offset `lowest` on are a spilled pointer, with its kind (`kind`), and only
+/// a load of all eight reads it. A spilled map is called a pointer too. `lowest` is negative, so the addition never saturates.
 fn write_spill(text: &mut String, lowest: i64, kind: Kind) -> Result<(), AllocError> {
     let highest = lowest.saturating_add(7);
     write!(
@@ -215,9 +215,10 @@ fn write_spill(text: &mut String, lowest: i64, kind: Kind) -> Result<(), AllocEr
     text.push_str("), which a load of these 8 bytes alone reads")
 }
 
-/// Writes which stack bytes the instruction reads, writes or changes (`verb`): those from offset `first` to offset `last`. Then writes
-/// which spilled pointer overlaps them, of several the lowest (`spill_among`), and that only a load of all its eight bytes reads it. One
-/// overlaps them, since the reason of the rejection is `PartOfSpill`; the arm `None` can't occur.
+/// Writes which stack bytes the instruction, or the helper that it calls, reads or changes (`verb`): those from offset `first` to offset
+/// `last`. Then writes which spill of `facts`, those before the instruction, overlaps them, of several the lowest (`spill_among`), and that
+/// only a load of all its eight bytes reads it. The text says `spilled pointer` of a spilled map, too. Some spill overlaps the bytes, since
+/// the reason of the rejection is `PartOfSpill`; the arm `None` can't occur.
 pub(crate) fn write_part_of_spill(
     text: &mut String,
     facts: &Facts,
@@ -415,9 +416,9 @@ fn write_access_need(
 }
 
 /// Writes what is known of the memory access of the rejected instruction `insn`, and what the access needs. The caller, `write_need` of
-/// `needs.rt`, calls this for an instruction that breaks a rule of safety and has no arm there: a load, a store or an atomic operation.
-/// Unconditional jumps and wide loads have no arm there either, but break no rule of safety. So `insn` always accesses memory, and the arm
-/// `None`, which writes nothing, can't occur.
+/// `needs.rt`, writes faults of the shape and unreadable registers itself, and has an arm for most instructions; this function is for all
+/// others. These are loads, stores and atomic operations: unconditional jumps and wide loads have no arm there either, but can only have
+/// faults of the shape. So `insn` always accesses memory, and the arm `None`, which writes nothing, can't occur.
 pub(crate) fn write_need(
     text: &mut String,
     refusal: &RefusedProgram<'_>,

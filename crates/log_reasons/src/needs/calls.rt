@@ -123,7 +123,8 @@ fn byte_count(named: &[Named], facts: &Facts, role: Role) -> u32 {
 }
 
 /// Whether some of the bytes from `first` to `last`, both included, lie outside the stack. Both are offsets in bytes from the stack's upper
-/// end: the stack has those from -`STACK_SIZE` to -1. The stack bytes that a helper writes (`Role::Room`) have no other check.
+/// end: the stack has those from -`STACK_SIZE` to -1. `bytes_reason` calls this only for stack bytes that a helper writes (`Role::Room`),
+/// of which nothing else is required. Those that a helper reads must also be written and touch no spill: `check_read` tests all of this.
 fn is_outside_stack(first: i64, last: i64) -> bool {
     first < -(STACK_SIZE as i64) || last > -1
 }
@@ -212,10 +213,11 @@ fn write_length(text: &mut String, kind: Kind) -> Result<(), AllocError> {
     write!(text, ", and a length is from 1 to {greatest}")
 }
 
-/// Writes what is known of the rejected argument, and what the helper needs in its role, by the reason of the fault. If the argument is a
-/// pointer into the stack or into a value, `first` and `last` are the offsets of the first and the last byte that the helper may read
-/// there, or in the role `Room` write. They count from the stack's upper end or from the start of the value. Only the arms for such a
-/// pointer use them. The reason of the last arm is `HelperArgument`: an argument of this role may not have this kind.
+/// Writes, by the reason of the fault, what is known of the rejected argument and what the helper needs in its role (`Role`), for example
+/// a map or a length. `first` and `last` are the first and the last byte that the helper may read through a pointer into the stack or into
+/// a value, or write if the role is `Room`, as offsets from the stack's upper end or from the start of the value. The helper begins at the
+/// byte to which the argument points, so `touched` gets the offset 0. Only the arms for such a pointer use `first` and `last`. In the last
+/// arm the reason is `HelperArgument`: an argument of this role may not have this kind.
 fn write_argument(
     text: &mut String,
     refusal: &RefusedProgram<'_>,

@@ -50,8 +50,8 @@ fn write_backward(
     write!(text, "it leads to slot {target}, and jumps go forward only")
 }
 
-/// The descriptor by which the rejected instruction names a map. 0 if it names none, which can't occur: the callers write about a fault of
-/// its descriptor, which is not open, names no map, or names a map without a direct value.
+/// The descriptor by which the rejected instruction names a map. 0 if it names none, which can't occur: the callers write about a load of a
+/// map, or of the address of a value in a map, and each such load names a descriptor.
 fn fd_of(insn: &Insn) -> u32 {
     insn.profile().reference.descriptor().unwrap_or(0)
 }
@@ -115,10 +115,10 @@ fn write_no_value(text: &mut String, named: &[Named], insn: &Insn) -> Result<(),
     }
 }
 
-/// Writes what is wrong with the rejected instruction `insn`, for example to which slot its jump leads. The reason of `refusal` is one of
-/// the nine of a program's shape: the eight that have arms of their own, and `NoDirectValue`, which is the arm `_`. None of them depends on
-/// what the registers hold. The only caller, `write_need`, has tested the reason (`is_of_shape`); any other reason would get the text for
-/// `NoDirectValue`. `AllocError`: out of memory for the text.
+/// Writes what is wrong with the rejected instruction `insn`, for example to which slot its jump leads. In the log this comes after the
+/// reason in words: that of `Unreachable` is about paths, so `none` in its arm is no path. The reason of `refusal` is one of the nine of a
+/// program's shape: the eight that have arms of their own, and `NoDirectValue`, which is the arm `_`. None of them depends on what the
+/// registers hold. The only caller, `write_need`, has tested the reason (`is_of_shape`); any other would get the text for `NoDirectValue`.
 pub(crate) fn write_shape_fault(
     text: &mut String,
     refusal: &RefusedProgram<'_>,

@@ -33,7 +33,7 @@ use Rattle.bpf_helpers.proofs.Loads.{number_word, load_stands}
 use Rattle.bpf_helpers.proofs.Wider.{extends_itself}
 use Rattle.bpf_helpers.proofs.Updates.{updates_keep_simulation}
 use Rattle.bpf_helpers.proofs.Deletes.{deletes_keep_simulation}
-use Rattle.bpf_helpers.specs.States.{CallSite, CallResult, Environment, FlatState, answers, site_in, with_result, with_held, with_memory}
+use Rattle.bpf_helpers.specs.States.{CallState, CallResult, Environment, FlatState, answers, call_in, with_result, with_held, with_memory}
 
 -- if only the keys of one map change, each map has as many holds as before
 same_holds : (old new : LiveMaps) (k : ℕ) → OnlyKeysChange k old new → (key : ℕ) → references_at new key ≡ references_at old key
@@ -114,9 +114,9 @@ module _ (env : Environment) (l : Layout) (flat : FlatState) (s : RunState)
       (shape_at flat.maps (slice_index env.bind m.index)).key_size
       (slice_index words 1)
       ≡ Some key
-      → key_named (site_in env flat) (slice_index words 0) (slice_index words 1)
+      → key_named (call_in env flat) (slice_index words 0) (slice_index words 1)
       ≡ Some (record { map = slice_index env.bind m.index; key = key })
-  key_is_named m key e = key_is (site_in env flat) (slice_index words 0) (slice_index words 1) m.bound key e
+  key_is_named m key e = key_is (call_in env flat) (slice_index words 0) (slice_index words 1) m.bound key e
 
   other_key : (index key : ℕ)
       → index < length env.bind
@@ -157,17 +157,17 @@ module _ (env : Environment) (l : Layout) (flat : FlatState) (s : RunState)
 
   module _ (returned : ReturnsKeepSimulation) (below : LawsBelow) where
     look_up_followed : (word : ℕ) (u : RunState)
-        → word ≡ unwrap_or (flat_look_up (site_in env flat) (slice_index words 0) (slice_index words 1)) 0
+        → word ≡ unwrap_or (flat_look_up (call_in env flat) (slice_index words 0) (slice_index words 1)) 0
         → called LookUp s ≡ Some u
         → ResultFollows env l flat u (answers word flat.memory flat.maps)
     look_up_followed word u seen e =
         let f = look_ups_follow below.along env l flat s u room stands e in
-        let same : flat_look_up (site_in env flat) (slice_index words 0) (slice_index words 1)
-        ≡ flat_look_up (site_in env flat) (slice_index flat.registers 1) (slice_index flat.registers 2) =
-        ap (λ (w : ℕ). flat_look_up (site_in env flat) w (slice_index words 1)) (args 0 (omega arith))
-        ∙ ap (λ (w : ℕ). flat_look_up (site_in env flat) (slice_index flat.registers 1) w) (args 1 (omega arith)) in
+        let same : flat_look_up (call_in env flat) (slice_index words 0) (slice_index words 1)
+        ≡ flat_look_up (call_in env flat) (slice_index flat.registers 1) (slice_index flat.registers 2) =
+        ap (λ (w : ℕ). flat_look_up (call_in env flat) w (slice_index words 1)) (args 0 (omega arith))
+        ∙ ap (λ (w : ℕ). flat_look_up (call_in env flat) (slice_index flat.registers 1) w) (args 1 (omega arith)) in
         by f.0 f.1
-        (flat_look_up (site_in env flat) (slice_index words 0) (slice_index words 1))
+        (flat_look_up (call_in env flat) (slice_index words 0) (slice_index words 1))
         seen
         (subst (λ x. GivesWord env l x (Some f.0)) (sym same) f.2)
       where
@@ -183,8 +183,8 @@ module _ (env : Environment) (l : Layout) (flat : FlatState) (s : RunState)
             (returned env l flat s v word stands (subst (IsWord env l v) (sym f) g)))
 
     update_followed : (reply : CallResult) (u : RunState)
-        → UpdatesNamed (site_in env flat)
-        (pair_named (site_in env flat) (slice_index words 0) (slice_index words 1) (slice_index words 2))
+        → UpdatesNamed (call_in env flat)
+        (pair_named (call_in env flat) (slice_index words 0) (slice_index words 1) (slice_index words 2))
         (slice_index words 3) reply
         → called Update s ≡ Some u
         → ResultFollows env l flat u reply
@@ -194,8 +194,8 @@ module _ (env : Environment) (l : Layout) (flat : FlatState) (s : RunState)
         (update_by reply seen a.asked a.map a.key a.value a.flags (map_there a.asked.given a.map))
       where
         update_by : (reply : CallResult)
-            → UpdatesNamed (site_in env flat)
-            (pair_named (site_in env flat) (slice_index words 0) (slice_index words 1) (slice_index words 2))
+            → UpdatesNamed (call_in env flat)
+            (pair_named (call_in env flat) (slice_index words 0) (slice_index words 1) (slice_index words 2))
             (slice_index words 3) reply
             → (asked : TaggedUpdate) → map_argument s 1 ≡ Some asked.given
             → argument s 2 (λ p. input s p asked.given.map.table.shape.key_size) ≡ Some asked.key
@@ -220,17 +220,17 @@ module _ (env : Environment) (l : Layout) (flat : FlatState) (s : RunState)
             third in
             let pair : NamedPair = record { map = k; key = key; value = value } in
             let is =
-            pair_is (site_in env flat) (slice_index words 0) (slice_index words 1)
+            pair_is (call_in env flat) (slice_index words 0) (slice_index words 1)
             (slice_index words 2) (key_is_named m key keys.0) value
             values.0 in
-            let r : Updates (site_in env flat) pair (slice_index words 3) reply =
-            subst (λ o. UpdatesNamed (site_in env flat) o (slice_index words 3) reply) is seen in
+            let r : Updates (call_in env flat) pair (slice_index words 3) reply =
+            subst (λ o. UpdatesNamed (call_in env flat) o (slice_index words 3) reply) is seen in
             let flags_are : slice_index words 3 ≡ flags =
             args 3 (omega arith) ∙ number_word env l flat s room stands 4 flags (omega arith) fourth in
             let st =
             updates_keep_simulation below env l flat s m.index asked reply room stands m.named
             (is_given s 1 g first).there values.1
-            (subst (λ (f : ℕ). Updates (site_in env flat) pair f reply) flags_are r) in
+            (subst (λ (f : ℕ). Updates (call_in env flat) pair f reply) flags_are r) in
             let gave = update_reply asked in
             changes_keys m.index m.within reply r.rest st.layout st.extends (replies s g.descriptor gave)
             (returned env st.layout (with_held flat reply.memory reply.maps)
@@ -238,7 +238,7 @@ module _ (env : Environment) (l : Layout) (flat : FlatState) (s : RunState)
             reply.word st.stands st.answer_is)
 
     delete_followed : (word : ℕ) (new : LiveMaps) (u : RunState)
-        → DeletesNamed flat.maps (key_named (site_in env flat) (slice_index words 0) (slice_index words 1)) word new
+        → DeletesNamed flat.maps (key_named (call_in env flat) (slice_index words 0) (slice_index words 1)) word new
         → called Delete s ≡ Some u
         → ResultFollows env l flat u (answers word flat.memory new)
     delete_followed word new u seen e =
@@ -262,7 +262,7 @@ module _ (env : Environment) (l : Layout) (flat : FlatState) (s : RunState)
         (Scalar gave.answer) word st.1 st.0))
 
     load_followed : (word : ℕ) (after : Memory) (u : RunState)
-        → LoadsAt (site_in env flat) (slice_index words 1) (slice_index words 3)
+        → LoadsAt (call_in env flat) (slice_index words 1) (slice_index words 3)
         (named_offset flat.memory env.tenant (slice_index words 3) (slice_index words 2))
         word after
         → called LoadBytes s ≡ Some u
@@ -281,7 +281,7 @@ module _ (env : Environment) (l : Layout) (flat : FlatState) (s : RunState)
         × (after
         ≡ with_bytes flat.memory (part_start flat.memory env.tenant + st.offset)
         (packet_bytes env.packet (slice_index words 1) (slice_index words 3))) =
-        subst (λ o. LoadsAt (site_in env flat) (slice_index words 1) (slice_index words 3) o word after)
+        subst (λ o. LoadsAt (call_in env flat) (slice_index words 1) (slice_index words 3) o word after)
         offset_is seen in
         let bytes : packet_bytes env.packet (slice_index words 1) (slice_index words 3)
         ≡ packet_bytes s.packet (slice_index flat.registers 2) (slice_index flat.registers 4) =
@@ -306,25 +306,25 @@ module _ (env : Environment) (l : Layout) (flat : FlatState) (s : RunState)
         (sym memory_is)
         (returned env l (with_memory flat written) st.written (Scalar answer) word st.stands (r.0 ∙ gives))))
 
--- ---- the site of a call
+-- ---- the call_state of a call
 
--- a law of calls in an environment and a state holds at each site that is the site of such an environment and state
-module _ (Seen : CallSite → Type 0) (reply : CallSite → CallResult) (words : List ℕ)
+-- a law of calls in an environment and a state holds at each call_state that is the call_state of such an environment and state
+module _ (Seen : CallState → Type 0) (reply : CallState → CallResult) (words : List ℕ)
     (helper : Helper)
     (follows : (env : Environment) (l : Layout) (flat : FlatState) (s : RunState)
     → IsRoom env.memory env.tenant → Simulates env l flat s
-    → AreArguments words flat.registers → (u : RunState) → Seen (site_in env flat)
+    → AreArguments words flat.registers → (u : RunState) → Seen (call_in env flat)
     → called helper s ≡ Some u
-    → ResultFollows env l flat u (reply (site_in env flat))) where
-  follows_at : (site : CallSite) → Seen site → CallFollows site words helper (reply site)
-  follows_at site seen env l flat s u found room stands args goes =
-      subst (λ (x : CallSite). ResultFollows env l flat u (reply x)) found
+    → ResultFollows env l flat u (reply (call_in env flat))) where
+  follows_at : (call_state : CallState) → Seen call_state → CallFollows call_state words helper (reply call_state)
+  follows_at call_state seen env l flat s u found room stands args goes =
+      subst (λ (x : CallState). ResultFollows env l flat u (reply x)) found
       (follows env l flat s room stands args u (subst Seen (sym found) seen) goes)
 
 module _ (returned : ReturnsKeepSimulation) (below : LawsBelow) (words : List ℕ) where
-  pub look_up_follows : (word : ℕ) (site : CallSite)
-      → word ≡ unwrap_or (flat_look_up site (slice_index words 0) (slice_index words 1)) 0
-      → CallFollows site words LookUp (answers word site.memory site.maps)
+  pub look_up_follows : (word : ℕ) (call_state : CallState)
+      → word ≡ unwrap_or (flat_look_up call_state (slice_index words 0) (slice_index words 1)) 0
+      → CallFollows call_state words LookUp (answers word call_state.memory call_state.maps)
   look_up_follows word =
       follows_at (λ x. word ≡ unwrap_or (flat_look_up x (slice_index words 0) (slice_index words 1)) 0)
       (λ x. answers word x.memory x.maps) words LookUp
@@ -332,11 +332,11 @@ module _ (returned : ReturnsKeepSimulation) (below : LawsBelow) (words : List �
       look_up_followed env l flat s room stands words args returned below word u seen goes)
 
   -- an update of what its words name simulates the tagged machine's update
-  pub update_follows : (reply : CallResult) (site : CallSite)
-      → UpdatesNamed site
-      (pair_named site (slice_index words 0) (slice_index words 1) (slice_index words 2))
+  pub update_follows : (reply : CallResult) (call_state : CallState)
+      → UpdatesNamed call_state
+      (pair_named call_state (slice_index words 0) (slice_index words 1) (slice_index words 2))
       (slice_index words 3) reply
-      → CallFollows site words Update reply
+      → CallFollows call_state words Update reply
   update_follows reply =
       follows_at (λ x.
       UpdatesNamed x
@@ -347,9 +347,9 @@ module _ (returned : ReturnsKeepSimulation) (below : LawsBelow) (words : List �
       update_followed env l flat s room stands words args returned below reply u seen goes)
 
   -- a deletion of what its words name simulates the tagged machine's deletion
-  pub delete_follows : (word : ℕ) (new : LiveMaps) (site : CallSite)
-      → DeletesNamed site.maps (key_named site (slice_index words 0) (slice_index words 1)) word new
-      → CallFollows site words Delete (answers word site.memory new)
+  pub delete_follows : (word : ℕ) (new : LiveMaps) (call_state : CallState)
+      → DeletesNamed call_state.maps (key_named call_state (slice_index words 0) (slice_index words 1)) word new
+      → CallFollows call_state words Delete (answers word call_state.memory new)
   delete_follows word new =
       follows_at (λ x. DeletesNamed x.maps (key_named x (slice_index words 0) (slice_index words 1)) word new)
       (λ x. answers word x.memory new) words Delete
@@ -357,11 +357,11 @@ module _ (returned : ReturnsKeepSimulation) (below : LawsBelow) (words : List �
       delete_followed env l flat s room stands words args returned below word new u seen goes)
 
   -- a load of packet bytes to what its words name simulates the tagged machine's load
-  pub load_follows : (word : ℕ) (after : Memory) (site : CallSite)
-      → LoadsAt site (slice_index words 1) (slice_index words 3)
-      (named_offset site.memory site.tenant (slice_index words 3) (slice_index words 2))
+  pub load_follows : (word : ℕ) (after : Memory) (call_state : CallState)
+      → LoadsAt call_state (slice_index words 1) (slice_index words 3)
+      (named_offset call_state.memory call_state.tenant (slice_index words 3) (slice_index words 2))
       word after
-      → CallFollows site words LoadBytes (answers word after site.maps)
+      → CallFollows call_state words LoadBytes (answers word after call_state.maps)
   load_follows word after =
       follows_at (λ x.
       LoadsAt x (slice_index words 1) (slice_index words 3)

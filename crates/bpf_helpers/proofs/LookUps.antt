@@ -26,7 +26,7 @@ use Rattle.bpf_helpers.proofs.Many.{also_some}
 use Rattle.bpf_helpers.proofs.Asked.{asks_key}
 use Rattle.bpf_helpers.proofs.Inputs.{input_there}
 use Rattle.bpf_helpers.proofs.Words.{key_is}
-use Rattle.bpf_helpers.specs.States.{Environment, FlatState, site_in}
+use Rattle.bpf_helpers.specs.States.{Environment, FlatState, call_in}
 
 -- ---- arguments
 
@@ -107,7 +107,7 @@ module _ (env : Environment) (l : Layout) (flat : FlatState) (s : RunState)
 
     found_word : (o : Option ℕ)
         → ((number : ℕ) → o ≡ Some number → number < map.count)
-        → IsWord env l (looked_up m o) (value_word (site_in env flat) key (option_map has.element o))
+        → IsWord env l (looked_up m o) (value_word (call_in env flat) key (option_map has.element o))
     found_word None owned = refl
     found_word (Some number) owned =
         let lt = owned number refl in
@@ -119,20 +119,20 @@ module _ (env : Environment) (l : Layout) (flat : FlatState) (s : RunState)
 
     pub look_up_follows : (bytes : List ℕ)
         → IsWord env l (looked_up m (look_up map.table bytes))
-        (value_word (site_in env flat) key (look_up (table_of (keys_at flat.maps key)) bytes))
+        (value_word (call_in env flat) key (look_up (table_of (keys_at flat.maps key)) bytes))
     look_up_follows bytes =
         subst (λ (o : Option ℕ).
-        IsWord env l (looked_up m (look_up map.table bytes)) (value_word (site_in env flat) key o))
+        IsWord env l (looked_up m (look_up map.table bytes)) (value_word (call_in env flat) key o))
         (sym (found_element bytes))
         (found_word (look_up map.table bytes)
         (λ number e. found_owned map.count bytes map.table.entries number has.owns e))
 
   given_word : (map key : ℕ) (v : Tagged) {n : NamedKey}
-      → key_named (site_in env flat) map key ≡ Some n
-      → IsWord env l v (key_word (site_in env flat) n)
-      → GivesWord env l (flat_look_up (site_in env flat) map key) (Some v)
+      → key_named (call_in env flat) map key ≡ Some n
+      → IsWord env l v (key_word (call_in env flat) n)
+      → GivesWord env l (flat_look_up (call_in env flat) map key) (Some v)
   given_word map key v named is =
-      subst (λ o. GivesWord env l (option_map (key_word (site_in env flat)) o) (Some v)) (sym named) is
+      subst (λ o. GivesWord env l (option_map (key_word (call_in env flat)) o) (Some v)) (sym named) is
 
   -- a look-up on words has a result that represents the result of the tagged machine's look-up
   pub follows : CallsRefineValues ℕ ℕ
@@ -140,7 +140,7 @@ module _ (env : Environment) (l : Layout) (flat : FlatState) (s : RunState)
       → (v : Tagged)
       × (u ≡ returns s v)
       × GivesWord env l
-      (flat_look_up (site_in env flat) (slice_index flat.registers 1) (slice_index flat.registers 2))
+      (flat_look_up (call_in env flat) (slice_index flat.registers 1) (slice_index flat.registers 2))
       (Some v)
   follows along u e =
       let a = asks_key s u (λ g key. returns s (looked_up g.descriptor (look_up g.map.table key))) e in
@@ -159,7 +159,7 @@ module _ (env : Environment) (l : Layout) (flat : FlatState) (s : RunState)
       g.map.table.shape.key_size a.key (stands.values 2 c.0 (omega arith) c.1)
       c.2 in
       let named =
-      key_is (site_in env flat) (slice_index flat.registers 1) (slice_index flat.registers 2)
+      key_is (call_in env flat) (slice_index flat.registers 1) (slice_index flat.registers 2)
       bound.bound a.key
       (ap (λ (n : ℕ). part_input flat.memory env.tenant n (slice_index flat.registers 2)) size ∙ read) in (
         looked_up g.descriptor (look_up g.map.table a.key),

@@ -10,7 +10,7 @@ use Rattle.tagged_model.specs.Cells.{and_then}
 use Rattle.arena.specs.Memory.{Memory, base, part_start}
 use Rattle.bpf_maps.specs.Live.{shape_at}
 use Rattle.bpf_helpers.specs.Named.{bound_map, named_offset, key_input, value_input, NamedKey, NamedPair, key_at, pair_at, key_named, pair_named}
-use Rattle.bpf_helpers.specs.States.{CallSite}
+use Rattle.bpf_helpers.specs.States.{CallState}
 
 -- they begin at or after the beginning of the part, end at or before its end, and have this offset
 pub record IsNamed (m : Memory) (t n address : ℕ) : Type 0 where
@@ -72,38 +72,38 @@ is_bound_map bind (suc i) some =
     by None is h = absurd (false≢true h)
     by (Some k) is h = slice_get_within bind (suc i - 1) k is
 
-module _ (site : CallSite) (map key : ℕ) where
+module _ (call_state : CallState) (map key : ℕ) where
   -- if words name a map and a key, the first names a map
-  pub map_of_key : IsSome (key_named site map key) → IsSome (bound_map site.bind map)
-  map_of_key some = some_before (bound_map site.bind map) (key_at site key) some
+  pub map_of_key : IsSome (key_named call_state map key) → IsSome (bound_map call_state.bind map)
+  map_of_key some = some_before (bound_map call_state.bind map) (key_at call_state key) some
 
-  module _ (k : ℕ) (bound : bound_map site.bind map ≡ Some k) where
+  module _ (k : ℕ) (bound : bound_map call_state.bind map ≡ Some k) where
     -- the bytes of the key have an offset in the part
-    pub offset_of_key : IsSome (key_named site map key)
-        → IsSome (named_offset site.memory site.tenant (shape_at site.maps k).key_size key)
+    pub offset_of_key : IsSome (key_named call_state map key)
+        → IsSome (named_offset call_state.memory call_state.tenant (shape_at call_state.maps k).key_size key)
     offset_of_key some =
-        some_before (named_offset site.memory site.tenant (shape_at site.maps k).key_size key)
-        (λ at. Some (bytes_at site.memory.bytes (part_start site.memory site.tenant + at) (shape_at site.maps k).key_size))
-        (some_mapped (key_input site k key) (λ bs. let n : NamedKey = record { map = k; key = bs } in n)
-        (subst (λ o. IsSome (and_then o (key_at site key))) bound some))
+        some_before (named_offset call_state.memory call_state.tenant (shape_at call_state.maps k).key_size key)
+        (λ at. Some (bytes_at call_state.memory.bytes (part_start call_state.memory call_state.tenant + at) (shape_at call_state.maps k).key_size))
+        (some_mapped (key_input call_state k key) (λ bs. let n : NamedKey = record { map = k; key = bs } in n)
+        (subst (λ o. IsSome (and_then o (key_at call_state key))) bound some))
 
     -- if the words name a value too, its bytes have an offset in the part
-    pub offset_of_value : (value : ℕ) → IsSome (pair_named site map key value)
-        → IsSome (named_offset site.memory site.tenant (shape_at site.maps k).value_size value)
+    pub offset_of_value : (value : ℕ) → IsSome (pair_named call_state map key value)
+        → IsSome (named_offset call_state.memory call_state.tenant (shape_at call_state.maps k).value_size value)
     offset_of_value value some =
-        some_before (named_offset site.memory site.tenant (shape_at site.maps k).value_size value)
-        (λ at. Some (bytes_at site.memory.bytes (part_start site.memory site.tenant + at) (shape_at site.maps k).value_size))
-        (by (key_input site k key)
-        (subst (λ o. IsSome (and_then (and_then o (key_at site key)) (pair_at site value))) bound some))
+        some_before (named_offset call_state.memory call_state.tenant (shape_at call_state.maps k).value_size value)
+        (λ at. Some (bytes_at call_state.memory.bytes (part_start call_state.memory call_state.tenant + at) (shape_at call_state.maps k).value_size))
+        (by (key_input call_state k key)
+        (subst (λ o. IsSome (and_then (and_then o (key_at call_state key)) (pair_at call_state value))) bound some))
       where
         by : (o : Option (List ℕ))
-            → IsSome (and_then (option_map (λ bs. let n : NamedKey = record { map = k; key = bs } in n) o) (pair_at site value))
-            → IsSome (value_input site k value)
+            → IsSome (and_then (option_map (λ bs. let n : NamedKey = record { map = k; key = bs } in n) o) (pair_at call_state value))
+            → IsSome (value_input call_state k value)
         by None h = absurd (false≢true h)
         by (Some bs) h =
-            some_mapped (value_input site k value)
+            some_mapped (value_input call_state k value)
             (λ vs. let n : NamedPair = record { map = k; key = bs; value = vs } in n) h
 
   -- if words name a map, a key and a value, they name the map and the key
-  pub key_of_pair : (value : ℕ) → IsSome (pair_named site map key value) → IsSome (key_named site map key)
-  key_of_pair value some = some_before (key_named site map key) (pair_at site value) some
+  pub key_of_pair : (value : ℕ) → IsSome (pair_named call_state map key value) → IsSome (key_named call_state map key)
+  key_of_pair value some = some_before (key_named call_state map key) (pair_at call_state value) some

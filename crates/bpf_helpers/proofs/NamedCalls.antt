@@ -13,7 +13,7 @@ use Rattle.bpf_helpers.specs.Layout.{Layout}
 use Rattle.bpf_helpers.specs.Stands.{IsRoom, Simulates}
 use Rattle.bpf_helpers.specs.Named.{named_offset, key_named, NamesAll}
 use Rattle.bpf_helpers.specs.Calls.{AreArguments, CallsNameAll}
-use Rattle.bpf_helpers.specs.States.{Environment, FlatState, site_in}
+use Rattle.bpf_helpers.specs.States.{Environment, FlatState, call_in}
 use Rattle.bpf_helpers.proofs.Asked.{asks_key, asks_update}
 use Rattle.bpf_helpers.proofs.Words.{pair_is}
 use Rattle.bpf_helpers.proofs.Loads.{load_stands}
@@ -26,7 +26,7 @@ module _ (env : Environment) (l : Layout) (flat : FlatState) (s : RunState)
   record KeyThere (g : GivenMap) (key : List ℕ) : Type 0 where
     k : ℕ
     shape : shape_at flat.maps k ≡ g.map.table.shape
-    named : key_named (site_in env flat) (slice_index words 0) (slice_index words 1) ≡ Some (record { map = k; key = key })
+    named : key_named (call_in env flat) (slice_index words 0) (slice_index words 1) ≡ Some (record { map = k; key = key })
 
   -- so they do if register 1 has a map of the machine, and register 2 a pointer to the bytes of a key
   key_there : (g : GivenMap) (key : List ℕ) → map_argument s 1 ≡ Some g
@@ -40,17 +40,17 @@ module _ (env : Environment) (l : Layout) (flat : FlatState) (s : RunState)
       (omega arith) (ap (λ (x : MapShape). x.key_size) shape) second in
       record { k = k; shape = shape; named = key_is_named env l flat s room stands words args m key read.0 }
 
-  look_up_named : (u : RunState) → called LookUp s ≡ Some u → NamesAll (site_in env flat) words LookUp
+  look_up_named : (u : RunState) → called LookUp s ≡ Some u → NamesAll (call_in env flat) words LookUp
   look_up_named u e =
       let a = asks_key s u (λ g key. returns s (looked_up g.descriptor (look_up g.map.table key))) e in
       subst IsSome (sym (key_there a.given a.key a.map a.bytes).named) refl
 
-  delete_named : (u : RunState) → called Delete s ≡ Some u → NamesAll (site_in env flat) words Delete
+  delete_named : (u : RunState) → called Delete s ≡ Some u → NamesAll (call_in env flat) words Delete
   delete_named u e =
       let a = asks_key s u (λ g key. replies s g.descriptor (removed g.map key)) e in
       subst IsSome (sym (key_there a.given a.key a.map a.bytes).named) refl
 
-  update_named : (u : RunState) → called Update s ≡ Some u → NamesAll (site_in env flat) words Update
+  update_named : (u : RunState) → called Update s ≡ Some u → NamesAll (call_in env flat) words Update
   update_named u e =
       let a = asks_update s u e in
       let there = key_there a.asked.given a.asked.key a.map a.key in
@@ -59,12 +59,12 @@ module _ (env : Environment) (l : Layout) (flat : FlatState) (s : RunState)
       bytes_there env l flat s room stands words args 2 shape.value_size (shape_at flat.maps there.k).value_size
       a.asked.value (omega arith) (ap (λ (x : MapShape). x.value_size) there.shape) a.value in
       let named =
-      pair_is (site_in env flat) (slice_index words 0) (slice_index words 1) (slice_index words 2) there.named
+      pair_is (call_in env flat) (slice_index words 0) (slice_index words 1) (slice_index words 2) there.named
       a.asked.value read.0 in
       subst IsSome (sym named) refl
 
   load_named : WritesStayInside
-      → (u : RunState) → called LoadBytes s ≡ Some u → NamesAll (site_in env flat) words LoadBytes
+      → (u : RunState) → called LoadBytes s ≡ Some u → NamesAll (call_in env flat) words LoadBytes
   load_named writes u e =
       let count = ap (λ (n : ℕ). named_offset flat.memory env.tenant n (slice_index words 2)) (args 3 (omega arith)) in
       let to =

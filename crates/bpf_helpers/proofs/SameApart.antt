@@ -7,7 +7,7 @@ use Rattle.bpf_maps.specs.KeyTable.{KeyTable, table_of, Claims}
 use Rattle.bpf_maps.specs.Live.{LiveMaps, LiveMap, live_or, keys_at}
 use Rattle.bpf_helpers.specs.Named.{NamedPair}
 use Rattle.bpf_helpers.specs.Calls.{SameApart}
-use Rattle.bpf_helpers.specs.States.{CallSite, CallResult}
+use Rattle.bpf_helpers.specs.States.{CallState, CallResult}
 use Rattle.bpf_helpers.specs.inside.Flat.{UpdatesNamed}
 
 -- a claim leaves the elements that are kept apart
@@ -19,7 +19,7 @@ claims_apart New key old (Ok p) new claims = ap (λ (t : KeyTable). t.kept) clai
 claims_apart New key old (Err fault) new claims = absurd claims
 
 -- an update leaves them in each map
-pub updates_apart : (here : CallSite) (pair : Option NamedPair) (flags : ℕ) (answer : CallResult)
+pub updates_apart : (here : CallState) (pair : Option NamedPair) (flags : ℕ) (answer : CallResult)
     → UpdatesNamed here pair flags answer → SameApart here.maps answer.maps
 updates_apart here None flags answer nothing key = ap (λ (maps : LiveMaps). (keys_at maps key).kept) nothing.2
 updates_apart here (Some pair) flags answer updates key =

@@ -35,7 +35,7 @@ use Rattle.bpf_helpers.proofs.Verdicts.{present_found}
 use Rattle.bpf_helpers.proofs.Moved.{other_key, other_bytes, other_moved, maps_moved, maps_again, others_moved, maps_stand}
 use Rattle.bpf_helpers.proofs.Wider.{extends_itself, extended, extends, word_more, cell_more, map_extended}
 use Rattle.bpf_helpers.proofs.Added.{map_with_new}
-use Rattle.bpf_helpers.specs.States.{CallResult, Environment, FlatState, site_in, with_held, with_memory}
+use Rattle.bpf_helpers.specs.States.{CallResult, Environment, FlatState, call_in, with_held, with_memory}
 
 written_whole : (old new : List ℕ) → length old ≡ length new → written_at old 0 new ≡ new
 written_whole old new e = ap (λ (x : List ℕ). new ++ x) (drop_all (0 + length new) old (omega arith)) ∙ append-nil new
@@ -46,7 +46,7 @@ module _ (below : LawsBelow) (env : Environment) (l : Layout) (flat : FlatState)
     (named : slice_get env.descriptors i ≡ Some m)
     (is : s.maps m ≡ Some map)
     (size : length value ≡ map.table.shape.value_size)
-    (u : Updates (site_in env flat) (record { map = slice_index env.bind i; key = key; value = value }) flags reply)
+    (u : Updates (call_in env flat) (record { map = slice_index env.bind i; key = key; value = value }) flags reply)
   where
     abbrev pair : NamedPair
     pair = record { map = slice_index env.bind i; key = key; value = value }
@@ -89,7 +89,7 @@ module _ (below : LawsBelow) (env : Environment) (l : Layout) (flat : FlatState)
       layout = l;
       more = extends_itself l;
       answer = u.word_is ∙ ap claim_word seen;
-      standing = unchanged key_table (u.memory_is ∙ ap (with_claimed (site_in env flat) pair) seen);
+      standing = unchanged key_table (u.memory_is ∙ ap (with_claimed (call_in env flat) pair) seen);
     }
 
     moved : (x : RunState) (n : Bytes)
@@ -166,7 +166,7 @@ module _ (below : LawsBelow) (env : Environment) (l : Layout) (flat : FlatState)
         part_offset_is (part_start flat.memory env.tenant) flat.memory.part (length value) w off
         (omega arith) (omega arith) in
         let memory_is : reply.memory ≡ with_bytes flat.memory (part_start flat.memory env.tenant + off) value =
-        u.memory_is ∙ ap (with_claimed (site_in env flat) pair) seen in
+        u.memory_is ∙ ap (with_claimed (call_in env flat) pair) seen in
         record {
           layout = l;
           more = extends_itself l;
@@ -306,7 +306,7 @@ module _ (below : LawsBelow) (env : Environment) (l : Layout) (flat : FlatState)
           let a = room_there in let b = within in let c = behind in let d = long_memory in
           let memory_is : reply.memory ≡ with_bytes flat.memory (begin + off) value =
           u.memory_is
-          ∙ ap (with_claimed (site_in env flat) pair) seen
+          ∙ ap (with_claimed (call_in env flat) pair) seen
           ∙ ap (λ (x : ℕ). with_bytes flat.memory (x + off) value) begins in
           record {
             layout = wider;

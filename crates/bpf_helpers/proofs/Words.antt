@@ -6,7 +6,7 @@ use Rattle.tagged_model.specs.Cells.{and_then}
 use Rattle.arena.specs.Memory.{Memory, part_start, part_bytes}
 use Rattle.bpf_maps.specs.Live.{shape_at}
 use Rattle.bpf_helpers.specs.Named.{bound_map, named_offset, part_input, key_input, value_input, NamedKey, NamedPair, key_at, pair_at, key_named, pair_named}
-use Rattle.bpf_helpers.specs.States.{CallSite}
+use Rattle.bpf_helpers.specs.States.{CallState}
 use Rattle.bpf_helpers.specs.inside.Flat.{key_bytes, value_bytes}
 
 -- ---- bytes at an address
@@ -36,80 +36,80 @@ part_range memory t at n part is fits =
 
 -- ---- a map with a key, and with a value
 
-module _ (site : CallSite) (map key : ℕ) where
+module _ (call_state : CallState) (map key : ℕ) where
   -- if the word of the map names no map, it and a key's address name no key
-  pub no_map : bound_map site.bind map ≡ None → key_named site map key ≡ None
-  no_map e = ap (λ o. and_then o (key_at site key)) e
+  pub no_map : bound_map call_state.bind map ≡ None → key_named call_state map key ≡ None
+  no_map e = ap (λ o. and_then o (key_at call_state key)) e
 
-  module _ {k : ℕ} (bound : bound_map site.bind map ≡ Some k) where
+  module _ {k : ℕ} (bound : bound_map call_state.bind map ≡ Some k) where
     by_map : (o : Option (List ℕ))
-        → key_input site k key ≡ o
-        → key_named site map key ≡ option_map (λ bs. let n : NamedKey = record { map = k; key = bs } in n) o
+        → key_input call_state k key ≡ o
+        → key_named call_state map key ≡ option_map (λ bs. let n : NamedKey = record { map = k; key = bs } in n) o
     by_map o e =
-        ap (λ o. and_then o (key_at site key)) bound
+        ap (λ o. and_then o (key_at call_state key)) bound
         ∙ ap (option_map (λ bs. let n : NamedKey = record { map = k; key = bs } in n)) e
 
     -- if the bytes at the key's address are in the part, the words name the map with this key
     pub key_is : (bs : List ℕ)
-        → key_input site k key ≡ Some bs
-        → key_named site map key ≡ Some (record { map = k; key = bs })
+        → key_input call_state k key ≡ Some bs
+        → key_named call_state map key ≡ Some (record { map = k; key = bs })
     key_is bs e = by_map (Some bs) e
 
     -- the size that the code has requested is the map's key size
-    module _ {n : ℕ} (size : n ≡ (shape_at site.maps k).key_size) where
+    module _ {n : ℕ} (size : n ≡ (shape_at call_state.maps k).key_size) where
       -- if the bytes at the key's address are not in the part, the words name no key
-      pub no_key : None ≡ named_offset site.memory site.tenant n key → key_named site map key ≡ None
-      no_key e = by_map None (no_input site.memory site.tenant (shape_at site.maps k).key_size n key size e)
+      pub no_key : None ≡ named_offset call_state.memory call_state.tenant n key → key_named call_state map key ≡ None
+      no_key e = by_map None (no_input call_state.memory call_state.tenant (shape_at call_state.maps k).key_size n key size e)
 
       -- if the bytes at the key's address have an offset in the part, the words name the map with the key there
       pub key_found : {at : ℕ}
-          → Some at ≡ named_offset site.memory site.tenant n key
-          → key_named site map key ≡ Some (record { map = k; key = key_bytes site k at })
+          → Some at ≡ named_offset call_state.memory call_state.tenant n key
+          → key_named call_state map key ≡ Some (record { map = k; key = key_bytes call_state k at })
       key_found {at} e =
-          key_is (key_bytes site k at)
-          (input_is site.memory site.tenant (shape_at site.maps k).key_size n key size at e)
+          key_is (key_bytes call_state k at)
+          (input_is call_state.memory call_state.tenant (shape_at call_state.maps k).key_size n key size at e)
 
       -- if the bytes at the key's address are in the borrowed part, the words name the map with them as the key
       pub key_there : (at : ℕ) {part : List ℕ}
-          → Some at ≡ named_offset site.memory site.tenant n key
-          → part ≡ part_bytes site.memory site.tenant → at + n ≤ site.memory.part
-          → key_named site map key ≡ Some (record { map = k; key = slice_range part at (at + n) })
+          → Some at ≡ named_offset call_state.memory call_state.tenant n key
+          → part ≡ part_bytes call_state.memory call_state.tenant → at + n ≤ call_state.memory.part
+          → key_named call_state map key ≡ Some (record { map = k; key = slice_range part at (at + n) })
       key_there at {part} offset is fits =
-          let there : key_bytes site k at ≡ slice_range part at (at + n) =
-          ap (λ (m : ℕ). bytes_at site.memory.bytes (part_start site.memory site.tenant + at) m) (sym size)
-          ∙ sym (part_range site.memory site.tenant at n part is fits) in
+          let there : key_bytes call_state k at ≡ slice_range part at (at + n) =
+          ap (λ (m : ℕ). bytes_at call_state.memory.bytes (part_start call_state.memory call_state.tenant + at) m) (sym size)
+          ∙ sym (part_range call_state.memory call_state.tenant at n part is fits) in
           key_found offset
           ∙ ap (λ (bs : List ℕ). let o : Option NamedKey = Some (record { map = k; key = bs }) in o) there
 
   -- if the words of a map and a key name no key, they name no pair with a value
-  pub no_pair : (value : ℕ) → key_named site map key ≡ None → pair_named site map key value ≡ None
-  no_pair value e = ap (λ o. and_then o (pair_at site value)) e
+  pub no_pair : (value : ℕ) → key_named call_state map key ≡ None → pair_named call_state map key value ≡ None
+  no_pair value e = ap (λ o. and_then o (pair_at call_state value)) e
 
-  module _ (value : ℕ) {k : NamedKey} (named : key_named site map key ≡ Some k) where
+  module _ (value : ℕ) {k : NamedKey} (named : key_named call_state map key ≡ Some k) where
     by_key : (o : Option (List ℕ))
-        → value_input site k.map value ≡ o
-        → pair_named site map key value
+        → value_input call_state k.map value ≡ o
+        → pair_named call_state map key value
         ≡ option_map (λ vs. let p : NamedPair = record { map = k.map; key = k.key; value = vs } in p) o
     by_key o e =
-        ap (λ o. and_then o (pair_at site value)) named
+        ap (λ o. and_then o (pair_at call_state value)) named
         ∙ ap (option_map (λ vs. let p : NamedPair = record { map = k.map; key = k.key; value = vs } in p)) e
 
     -- if the bytes at the value's address are in the part, the words name the key with this value
     pub pair_is : (vs : List ℕ)
-        → value_input site k.map value ≡ Some vs
-        → pair_named site map key value ≡ Some (record { map = k.map; key = k.key; value = vs })
+        → value_input call_state k.map value ≡ Some vs
+        → pair_named call_state map key value ≡ Some (record { map = k.map; key = k.key; value = vs })
     pair_is vs e = by_key (Some vs) e
 
-    module _ {n : ℕ} (size : n ≡ (shape_at site.maps k.map).value_size) where
+    module _ {n : ℕ} (size : n ≡ (shape_at call_state.maps k.map).value_size) where
       -- if the bytes at the value's address are not in the part, the words name no pair
-      pub no_value : None ≡ named_offset site.memory site.tenant n value → pair_named site map key value ≡ None
-      no_value e = by_key None (no_input site.memory site.tenant (shape_at site.maps k.map).value_size n value size e)
+      pub no_value : None ≡ named_offset call_state.memory call_state.tenant n value → pair_named call_state map key value ≡ None
+      no_value e = by_key None (no_input call_state.memory call_state.tenant (shape_at call_state.maps k.map).value_size n value size e)
 
       -- if the bytes at the value's address have an offset in the part, the words name the key with the value there
       pub pair_found : {at : ℕ}
-          → Some at ≡ named_offset site.memory site.tenant n value
-          → pair_named site map key value
-          ≡ Some (record { map = k.map; key = k.key; value = value_bytes site k.map at })
+          → Some at ≡ named_offset call_state.memory call_state.tenant n value
+          → pair_named call_state map key value
+          ≡ Some (record { map = k.map; key = k.key; value = value_bytes call_state k.map at })
       pair_found {at} e =
-          pair_is (value_bytes site k.map at)
-          (input_is site.memory site.tenant (shape_at site.maps k.map).value_size n value size at e)
+          pair_is (value_bytes call_state k.map at)
+          (input_is call_state.memory call_state.tenant (shape_at call_state.maps k.map).value_size n value size at e)

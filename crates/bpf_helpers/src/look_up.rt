@@ -7,7 +7,7 @@ ghost use Rattle.bpf_maps.specs.declared.part.TheConstants.{MAPS, PART};
 ghost use Rattle.bpf_helpers.specs.Named.{bound_map, named_offset};
 ghost use Rattle.bpf_helpers.specs.Calls.{AreArrays, AreLive};
 ghost use Rattle.bpf_helpers.specs.Parts.{IsPartOf, AsksInside};
-ghost use Rattle.bpf_helpers.specs.inside.Flat.{site_of, flat_look_up};
+ghost use Rattle.bpf_helpers.specs.inside.Flat.{call_of, flat_look_up};
 
 use crate::arrays::Arrays;
 use crate::caller::Caller;
@@ -141,7 +141,7 @@ pub(crate) fn look_up(
     requires part { IsPartOf caller.tenant arena.now }
     requires live { AreLive maps.now caller.bind.now }
     ensures value { result
-        ≡ unwrap_or (flat_look_up (site_of caller.entry arena.now maps.now) map key) 0 }
+        ≡ unwrap_or (flat_look_up (call_of caller.entry arena.now maps.now) map key) 0 }
     ensures asks { AsksInside arena.now caller.entry.tenant trace.old trace.new }
 {
     laws::sizes_fit_in_parts();
@@ -162,9 +162,8 @@ pub(crate) fn look_up(
 /// first of the run's maps, which are live (`live`) and have their handles in `bind` of `caller`; `key` is the address of the key. `arrays`
 /// has for each of these maps the address of its first value and, as one word, its `Elements`: their count and the distance from one value
 /// to the next, so the value of a key is found in an array without reading the map. A hash map has the count 0, and `look_up` reads it. By
-/// `few` the run has at most `MAPS` maps, and each list of `arrays` has `MAPS` words, so it has one for each map. `site_of` is the record
-/// of all inputs of the call but its two words, not the site of a look-up. The trace gets only address ranges in the tenant's part, and no
-/// step (`asks`).
+/// `few` the run has at most `MAPS` maps, and each list of `arrays` has `MAPS` words, so it has one for each map. `call_of` is the record
+/// of all inputs of the call but its two words. The trace gets only address ranges in the tenant's part, and no step (`asks`).
 #[inline(always)]
 pub(crate) fn look_up_among(
     arrays: Arrays<'_>,
@@ -181,7 +180,7 @@ pub(crate) fn look_up_among(
     requires arrays { AreArrays arrays.elements.now arrays.values.now caller.bind.now
         arena.now caller.tenant maps.now }
     ensures value { result
-        ≡ unwrap_or (flat_look_up (site_of caller.entry arena.now maps.now) map key) 0 }
+        ≡ unwrap_or (flat_look_up (call_of caller.entry arena.now maps.now) map key) 0 }
     ensures asks { AsksInside arena.now caller.entry.tenant trace.old trace.new }
 {
     laws::sizes_fit_in_parts();

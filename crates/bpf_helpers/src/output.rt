@@ -6,7 +6,7 @@ ghost use Rattle.bpf_maps.specs.declared.part.TheConstants.{PART};
 ghost use Rattle.bpf_maps.specs.Live.{LiveMaps};
 ghost use Rattle.bpf_helpers.specs.Named.{named_offset};
 ghost use Rattle.bpf_helpers.specs.Parts.{IsPartOf, AsksInside};
-ghost use Rattle.bpf_helpers.specs.inside.Flat.{site_of, LoadsAt};
+ghost use Rattle.bpf_helpers.specs.inside.Flat.{call_of, LoadsAt};
 
 use crate::caller::Caller;
 use crate::look_up::{named_bytes_lie_inside, offset_in, traced_offset_inside};
@@ -73,7 +73,7 @@ pub(crate) fn load_bytes_inside(
 ) -> u64
     requires part { IsPartOf caller.tenant arena.old }
     requires named { IsSome (named_offset arena.old caller.tenant count to) }
-    ensures loaded { (maps : LiveMaps) → LoadsAt (site_of caller.entry arena.old maps) offset count
+    ensures loaded { (maps : LiveMaps) → LoadsAt (call_of caller.entry arena.old maps) offset count
         (named_offset arena.old caller.entry.tenant count to) result arena.new }
     ensures asks { AsksInside arena.old caller.entry.tenant trace.old trace.new }
 {
@@ -106,7 +106,7 @@ pub(crate) fn load_bytes(
     trace: &mut Trace,
 ) -> u64
     requires part { IsPartOf caller.tenant arena.old }
-    ensures loaded { (maps : LiveMaps) → LoadsAt (site_of caller.entry arena.old maps) offset count
+    ensures loaded { (maps : LiveMaps) → LoadsAt (call_of caller.entry arena.old maps) offset count
         (named_offset arena.old caller.entry.tenant count to) result arena.new }
     ensures asks { AsksInside arena.old caller.entry.tenant trace.old trace.new }
 {

@@ -8,7 +8,7 @@ ghost use Rattle.bpf_helpers.specs.Calls.{AreLive};
 ghost use Rattle.bpf_helpers.specs.States.{answers};
 ghost use Rattle.bpf_helpers.specs.Named.{pair_named};
 ghost use Rattle.bpf_helpers.specs.Parts.{IsPartOf, AsksInside};
-ghost use Rattle.bpf_helpers.specs.inside.Flat.{site_of, pair_there, Updates, UpdatesNamed};
+ghost use Rattle.bpf_helpers.specs.inside.Flat.{call_of, pair_there, Updates, UpdatesNamed};
 
 use crate::caller::Caller;
 use crate::look_up::{bound, bound_named, traced_offset, traced_offset_inside};
@@ -31,7 +31,7 @@ struct Offsets {
 }
 
 /// The number of an error of bpf(2), as errno(3) has it (`value`): ENOENT is 2, E2BIG 7, ENOMEM 12, EEXIST 17, EINVAL 22, ENOSPC 28. A
-/// helper returns it negated modulo 2^64, which `refusal` computes as `u64::MAX` minus the number, plus 1. That does not overflow, since
+/// helper returns it negated modulo 2^64, which `fault_word` computes as `u64::MAX` minus the number, plus 1. That does not overflow, since
 /// the number is at least 1 (`some`).
 fn errno_of(fault: MapFault) -> u64
     ensures value { result ≡ errno fault }
@@ -48,7 +48,7 @@ fn errno_of(fault: MapFault) -> u64
 }
 
 /// What the helpers for an update and a delete return for an error: the number that errno(3) gives it, negated, modulo 2^64.
-pub(crate) fn refusal(fault: MapFault) -> u64
+pub(crate) fn fault_word(fault: MapFault) -> u64
     ensures { result ≡ negative (errno fault) }
 {
     u64::MAX - errno_of(fault) + 1
@@ -58,7 +58,7 @@ pub(crate) fn refusal(fault: MapFault) -> u64
 /// key and the value are at the offsets `at` of the tenant's part, of `PART` bytes (`part`). Both lie in it (`key`, `value`), as `update`
 /// has tested and `update_inside` requires, so the value is copied without a test. `flags` are those of bpf(2). `caller` is the run that
 /// calls the helper: the number of its tenant, the handles of its maps, and its packet. `updated`: the result, and the memory and live maps
-/// afterwards (`answers`), are those of an update (`Updates`) with these inputs, the memory and the live maps (`site_of`), and with the key
+/// afterwards (`answers`), are those of an update (`Updates`) with these inputs, the memory and the live maps (`call_of`), and with the key
 /// and value at these offsets (`pair_there`). `asks`: the trace gets only ranges in the part, and no step.
 fn put(
     map: MapKey,
@@ -73,8 +73,8 @@ fn put(
     requires live { IsSome (live_at maps.old map) }
     requires key { at.key + (shape_at maps.old map).key_size ≤ PART }
     requires value { at.value + (shape_at maps.old map).value_size ≤ PART }
-    ensures updated { Updates (site_of caller.entry arena.old maps.old)
-        (pair_there (site_of caller.entry arena.old maps.old) map at.key at.value) flags
+    ensures updated { Updates (call_of caller.entry arena.old maps.old)
+        (pair_there (call_of caller.entry arena.old maps.old) map at.key at.value) flags
         (answers result arena.new maps.new) }
     ensures asks { AsksInside arena.old caller.entry.tenant trace.old trace.new }
 {
@@ -90,7 +90,7 @@ fn put(
             arena.copy_inside(to, from, shape.value_size as usize, trace);
             0
         }
-        Err(fault) => refusal(fault),
+        Err(fault) => fault_word(fault),
     }
 }
 
@@ -111,23 +111,23 @@ pub(crate) fn update(
 ) -> u64
     requires part { IsPartOf caller.tenant arena.old }
     requires live { AreLive maps.old caller.bind.now }
-    ensures updated { UpdatesNamed (site_of caller.entry arena.old maps.old)
-        (pair_named (site_of caller.entry arena.old maps.old) map at.key at.value) flags
+    ensures updated { UpdatesNamed (call_of caller.entry arena.old maps.old)
+        (pair_named (call_of caller.entry arena.old maps.old) map at.key at.value) flags
         (answers result arena.new maps.new) }
     ensures asks { AsksInside arena.old caller.entry.tenant trace.old trace.new }
 {
     laws::sizes_fit_in_parts();
     let Some(map) = bound(caller.bind, map) else {
-        return refusal(MapFault::Invalid);
+        return fault_word(MapFault::Invalid);
     };
     let shape = maps.shape(map);
     let size = shape.key_size as usize;
     let Some(key) = traced_offset(arena, caller.tenant, size, at.key, trace) else {
-        return refusal(MapFault::Invalid);
+        return fault_word(MapFault::Invalid);
     };
     let size = shape.value_size as usize;
     let Some(value) = traced_offset(arena, caller.tenant, size, at.value, trace) else {
-        return refusal(MapFault::Invalid);
+        return fault_word(MapFault::Invalid);
     };
     let at = Offsets { key, value };
     put(map, at, flags, caller, arena, maps, trace)
@@ -150,9 +150,9 @@ pub(crate) fn update_inside(
 ) -> u64
     requires part { IsPartOf caller.tenant arena.old }
     requires live { AreLive maps.old caller.bind.now }
-    requires named { IsSome (pair_named (site_of caller arena.old maps.old) map at.key at.value) }
-    ensures updated { UpdatesNamed (site_of caller.entry arena.old maps.old)
-        (pair_named (site_of caller.entry arena.old maps.old) map at.key at.value) flags
+    requires named { IsSome (pair_named (call_of caller arena.old maps.old) map at.key at.value) }
+    ensures updated { UpdatesNamed (call_of caller.entry arena.old maps.old)
+        (pair_named (call_of caller.entry arena.old maps.old) map at.key at.value) flags
         (answers result arena.new maps.new) }
     ensures asks { AsksInside arena.old caller.entry.tenant trace.old trace.new }
 {

@@ -10,7 +10,7 @@ ghost use Rattle.bpf_maps.specs.BpfMap.{keys_in};
 use crate::array_map::ArrayMap;
 use crate::hash_map::HashMap;
 use crate::key_ref::KeyRef;
-use crate::spare_maps::{LiveHashMaps, SpareMaps};
+use crate::spare_maps::{HashMapTotals, SpareMaps};
 use crate::value_map::ValueMap;
 use seeded_hash::HashSeed;
 use std::alloc::{AllocError, Global};
@@ -46,7 +46,7 @@ impl BpfMap {
         shape: MapShape,
         seed: HashSeed,
         spares: &mut SpareMaps,
-        live: LiveHashMaps,
+        live: HashMapTotals,
     ) -> Result<BpfMap, AllocError>
         ensures { IfOk result (λ map. keys_in map ≡ new_keys shape) }
     {

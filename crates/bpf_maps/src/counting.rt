@@ -8,7 +8,7 @@ ghost use Rattle.bpf_maps.specs.Sum.{total};
 
 use crate::maps::{MapKey, Maps};
 use crate::part::MAPS;
-use crate::spare_maps::{LiveHashMaps, NO_HASH_MAPS};
+use crate::spare_maps::{HashMapTotals, NO_HASH_MAPS};
 use tagged_model::MapKind;
 
 impl Maps {
@@ -59,7 +59,7 @@ impl Maps {
     /// What the creation of a map of this `kind` has to know of the live hash maps. For a hash map it is how many of them are live, and the
     /// sum of their `max_entries`. Both decide which spare maps are freed before it takes memory (`SpareMaps`). A spare map is a hash map
     /// that is no longer live, whose memory a new one may reuse. For an array both are 0, and are not read: it takes no memory.
-    pub(crate) fn live_hash_maps_for(&self, kind: MapKind) -> LiveHashMaps {
+    pub(crate) fn live_hash_maps_for(&self, kind: MapKind) -> HashMapTotals {
         match kind {
             MapKind::Array => NO_HASH_MAPS,
             MapKind::Hash => self.count_live_hash_maps(),
@@ -68,7 +68,7 @@ impl Maps {
 
     /// The hash maps that are live: how many they are, and the sum of their `max_entries`. Both decide which spare maps are freed for a new
     /// hash map (`SpareMaps::hash_map`). No contract depends on these numbers.
-    fn count_live_hash_maps(&self) -> LiveHashMaps {
+    fn count_live_hash_maps(&self) -> HashMapTotals {
         self.maps_are_laid();
         let mut live = NO_HASH_MAPS;
         for handle in 0..MAPS {

@@ -17,26 +17,27 @@ use tagged_model::MapShape;
 /// `LARGEST_SUM`.
 const MOST_ENTRIES_TOGETHER: usize = LARGEST_SUM / 8;
 
-/// The live hash maps of a tenant: how many they are (`maps`), and the sum of their `max_entries` (`entries`).
+/// Of some hash maps of a tenant, its live ones or these and a new one: how many they are (`maps`), and the sum of their `max_entries`
+/// (`entries`).
 #[derive(Clone, Copy)]
-pub(crate) struct LiveHashMaps {
+pub(crate) struct HashMapTotals {
     pub(crate) maps: usize,
     pub(crate) entries: usize,
 }
 
 /// No live hash maps.
-pub(crate) const NO_HASH_MAPS: LiveHashMaps = LiveHashMaps {
+pub(crate) const NO_HASH_MAPS: HashMapTotals = HashMapTotals {
     maps: 0,
     entries: 0,
 };
 
-impl LiveHashMaps {
+impl HashMapTotals {
     /// The counts of these live hash maps and one more, whose `max_entries` is `entries`: one more map, and a sum of all `max_entries` that
     /// is greater by `entries`. They decide which spare maps are freed for a new hash map (`SpareMaps::hash_map`), which counts too.
     /// The additions saturate, but a tenant has at most `MAPS` live maps, each with a `max_entries` of 32 bits, so its sums never reach
     /// the largest number.
-    pub(crate) fn with(self, entries: u32) -> LiveHashMaps {
-        LiveHashMaps {
+    pub(crate) fn with(self, entries: u32) -> HashMapTotals {
+        HashMapTotals {
             maps: self.maps.saturating_add(1),
             entries: self.entries.saturating_add(entries as usize),
         }
@@ -94,7 +95,7 @@ impl SpareMaps {
         alloc: Global,
         shape: MapShape,
         seed: HashSeed,
-        live: LiveHashMaps,
+        live: HashMapTotals,
     ) -> Result<HashMap, AllocError>
         requires { shape.kind ≡ Hash }
         ensures { IfOk result (λ map. map ≡ new_keys shape) }
@@ -135,7 +136,7 @@ impl SpareMaps {
     /// `MAPS`, and the sum of their `max_entries` is at most `MOST_ENTRIES_TOGETHER`. Within these bounds a tenant takes no more memory
     /// than one whose hash maps are all live. While the result is `false`, `make_room` frees spare maps, if any are left. A sum that
     /// saturates exceeds its bound.
-    fn has_room(&self, live: LiveHashMaps) -> bool {
+    fn has_room(&self, live: HashMapTotals) -> bool {
         self.maps.len().saturating_add(live.maps) <= MAPS
             && self.max_entries_sum().saturating_add(live.entries) <= MOST_ENTRIES_TOGETHER
     }
@@ -143,7 +144,7 @@ impl SpareMaps {
     /// By how much the sum of the `max_entries` of the spare maps and of the hash maps that `live` counts, the live ones and the new one,
     /// exceeds `MOST_ENTRIES_TOGETHER`; 0 if it does not. `next_to_free` chooses a spare map whose `max_entries` is at least the result, if
     /// there is one.
-    fn excess(&self, live: LiveHashMaps) -> usize {
+    fn excess(&self, live: HashMapTotals) -> usize {
         let entries = self.max_entries_sum().saturating_add(live.entries);
         entries.saturating_sub(MOST_ENTRIES_TOGETHER)
     }
@@ -152,7 +153,7 @@ impl SpareMaps {
     /// their `max_entries` is at most `MOST_ENTRIES_TOGETHER` (`has_room`), or no spare map is left. Each turn of the loop frees one until
     /// then, so as many turns suffice as there are spare maps. `next_to_free` chooses it, if possible a map whose `max_entries` is at least
     /// the excess of the sum. The last spare map takes its place in the list, whose order has no meaning.
-    fn make_room(&mut self, live: LiveHashMaps) {
+    fn make_room(&mut self, live: HashMapTotals) {
         for _ in 0..self.maps.len() {
             if !self.maps.is_empty() && !self.has_room(live) {
                 let chosen = self.next_to_free(self.excess(live));

@@ -33,7 +33,7 @@ use Rattle.insn_set.specs.Flow.{slot_of_integer}
 use Rattle.tagged_model.specs.State.{RunState, RunMap, at_slot, with_cell, with_map, access_start, stack_store}
 use Rattle.tagged_model.specs.State.{object_written, object_stored, value_written, with_value, store, load, is_aligned_at}
 use Rattle.tagged_model.specs.Helpers.{called, helper_of, put, taken_out}
-use Rattle.tagged_model.specs.HelperLaws.{MapAfterCall, unchanged, written, after_update, after_delete, EntryAfterCall, PermitsAfterCall, call_leaves}
+use Rattle.tagged_model.specs.HelperLaws.{MapAfterCall, unchanged, written, after_update, after_delete, NamedMapAfterCall, PermitsAfterCall, call_leaves}
 use Rattle.tagged_model.specs.Step.{Step, goes, ends, faults, or_fault, assigned, operand_value, jumped, branched, ended, changed, accessed, loaded_wide}
 use Rattle.tagged_model.specs.Step.{act_of, step, run, Ending, ending_after, run_with}
 use Rattle.tagged_model.specs.Step.{MapsByDescriptor, start_of_run, numbered, map_at_start, map_after_run, left_of}
@@ -242,15 +242,15 @@ later_called t (after_update key value flags key_size value_size) =
     later_put t key value flags (verdict t.table key flags) refl key_size value_size
 later_called t (after_delete key) = later_taken t key (removal t.table key) refl
 
-entry_called : (o p : Option RunMap) → EntryAfterCall o p → IsSameMap o p
-entry_called None None h = tt
-entry_called None (Some u) h = h
-entry_called (Some t) None h = h
-entry_called (Some t) (Some u) h = later_called t h
+named_map_called : (o p : Option RunMap) → NamedMapAfterCall o p → IsSameMap o p
+named_map_called None None h = tt
+named_map_called None (Some u) h = h
+named_map_called (Some t) None h = h
+named_map_called (Some t) (Some u) h = later_called t h
 
 called_same : (s : RunState) (o : Option RunState) → PermitsAfterCall s o → StateHasSame s o
 called_same s None h = tt
-called_same s (Some t) h = λ m. entry_called (s.maps m) (t.maps m) (h.maps m)
+called_same s (Some t) h = λ m. named_map_called (s.maps m) (t.maps m) (h.maps m)
 
 -- ---- steps
 

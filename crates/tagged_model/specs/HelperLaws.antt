@@ -67,17 +67,17 @@ pub data MapAfterCall (t : RunMap) : RunMap → Type 0 where
 -- times (None), or a map t and then u, which is t as a call may leave it (`MapAfterCall`:
 -- unchanged, with bytes written into one value, or after an update or a delete). False if only one
 -- of them is a map, since a call neither adds nor removes a map
-abbrev pub EntryAfterCall : Option RunMap → Option RunMap → Type 0
-EntryAfterCall None None = Unit {0}
-EntryAfterCall (Some t) (Some u) = MapAfterCall t u
-EntryAfterCall _ _ = ⊥
+abbrev pub NamedMapAfterCall : Option RunMap → Option RunMap → Type 0
+NamedMapAfterCall None None = Unit {0}
+NamedMapAfterCall (Some t) (Some u) = MapAfterCall t u
+NamedMapAfterCall _ _ = ⊥
 
 -- t can be the state after a call that begins in state s: it has the context words of s, and for
 -- each descriptor with a map in s a map that a call may make of that one, for each other descriptor
--- no map (`EntryAfterCall`). Registers, stack and packet may be any
+-- no map (`NamedMapAfterCall`). Registers, stack and packet may be any
 pub record IsAfterCall (s t : RunState) : Type 0 where
   pub words : t.words ≡ s.words
-  pub maps : (m : ℕ) → EntryAfterCall (s.maps m) (t.maps m)
+  pub maps : (m : ℕ) → NamedMapAfterCall (s.maps m) (t.maps m)
 
 -- the result of a computation in a call that begins in state s: a state that can be the one after
 -- the call (`IsAfterCall`), or None, a fault, of which nothing is required
@@ -87,32 +87,32 @@ PermitsAfterCall s (Some t) = IsAfterCall s t
 
 -- ---- a state and its maps
 
--- o is what a descriptor names: a map, or None if it names no map. If it names o before a call of a
--- helper, it may name o after the call too, which is `EntryAfterCall o o`. For None this holds by
+-- o is what a descriptor names: a map, or None if it names no map. If it names o before a helper's
+-- call, it may name o after the call too, which is `NamedMapAfterCall o o`. For None this holds by
 -- definition; for a map t, a call may leave t as it was (`unchanged` of `MapAfterCall`)
-unchanged_entry : (o : Option RunMap) → EntryAfterCall o o
-unchanged_entry None = tt
-unchanged_entry (Some t) = unchanged
+unchanged_named_map : (o : Option RunMap) → NamedMapAfterCall o o
+unchanged_named_map None = tt
+unchanged_named_map (Some t) = unchanged
 
 -- s itself can be the state after a call that begins in s (`IsAfterCall`): it has the context words
 -- of s, and a call may leave each map unchanged, as a look-up does
 state_same : (s : RunState) → IsAfterCall s s
-state_same s = record { words = refl; maps = λ m. unchanged_entry (s.maps m) }
+state_same s = record { words = refl; maps = λ m. unchanged_named_map (s.maps m) }
 
 -- if state s has the map t at descriptor m, and a call may change t to u (`MapAfterCall`), a call
--- may leave s with u at m: for each descriptor k, `EntryAfterCall` allows the map of s at k, or
+-- may leave s with u at m: for each descriptor k, `NamedMapAfterCall` allows the map of s at k, or
 -- None, before the call, and after it u if k is m, else the same map or None. For `map_changed`
-entry_set : (s : RunState) (m : ℕ) (t u : RunMap)
+changed_at : (s : RunState) (m : ℕ) (t u : RunMap)
     → s.maps m ≡ Some t
     → MapAfterCall t u
     → (k : ℕ)
-    → EntryAfterCall (s.maps k) (set_at s.maps m (Some u) k)
-entry_set s m t u there change k =
-    cond_both (k == m) (Some u) (s.maps k) (EntryAfterCall (s.maps k))
+    → NamedMapAfterCall (s.maps k) (set_at s.maps m (Some u) k)
+changed_at s m t u there change k =
+    cond_both (k == m) (Some u) (s.maps k) (NamedMapAfterCall (s.maps k))
     (λ b.
-    subst (λ (o : Option RunMap). EntryAfterCall o (Some u))
+    subst (λ (o : Option RunMap). NamedMapAfterCall o (Some u))
     (sym (ap s.maps (eqb-true k m b) ∙ there)) change)
-    (λ _. unchanged_entry (s.maps k))
+    (λ _. unchanged_named_map (s.maps k))
 
 -- if s has the map t at descriptor m, and a call may change t to u (`MapAfterCall`), then s with u
 -- at m, in which no other map and no context word differs, can be the state after a call that
@@ -121,7 +121,7 @@ map_changed : (s : RunState) (m : ℕ) (t u : RunMap)
     → s.maps m ≡ Some t
     → MapAfterCall t u
     → IsAfterCall s (with_map s m u)
-map_changed s m t u there change = record { words = refl; maps = entry_set s m t u there change }
+map_changed s m t u there change = record { words = refl; maps = changed_at s m t u there change }
 
 -- if t can be the state after a call that begins in s, so can `returns t v`: t with the call's
 -- result v in register 0, and registers 1 to 5 empty. For `IsAfterCall` requires something only of
@@ -139,7 +139,7 @@ replied : (s : RunState) (m : ℕ) (t : RunMap) (reply : MapReply)
     → IsAfterCall s (replies s m reply)
 replied s m t reply there change = record {
   words = refl;
-  maps = entry_set s m t reply.map there change;
+  maps = changed_at s m t reply.map there change;
 }
 
 -- a computation, in a call that begins in state s, takes the value x of the option o and continues
@@ -243,10 +243,10 @@ input_long s p n = tt
 -- permits what f returns for any n bytes, it permits the result of the step and the rest: it
 -- permits a fault (None), and each state that can be the one after a call that begins in s. If
 -- register r has no pointer to n bytes that can be read (`input`), the result is a fault
-bytes_leave : (s : RunState) (r n : ℕ) (f : List ℕ → Option RunState)
+bytes_permit : (s : RunState) (r n : ℕ) (f : List ℕ → Option RunState)
     → ((bs : List ℕ) → length bs ≡ n → PermitsAfterCall s (f bs))
     → PermitsAfterCall s (and_then (argument s r (λ p. input s p n)) f)
-bytes_leave s r n f h = by (s.registers r)
+bytes_permit s r n f h = by (s.registers r)
   where
     read : (o : Option (List ℕ)) → HasLength n o → PermitsAfterCall s (and_then o f)
     read None long = tt
@@ -266,7 +266,7 @@ output_leaves s (Pointer object.Stack x) bs =
     cond_both (is_in_stack x (length bs))
     (Some (with_cells s (λ i. cell_over i (s.cells i) (byte_index x) bs))) None
     (PermitsAfterCall s)
-    (λ _. record { words = refl; maps = λ m. unchanged_entry (s.maps m) })
+    (λ _. record { words = refl; maps = λ m. unchanged_named_map (s.maps m) })
     (λ _. tt)
 output_leaves s (Pointer (object.Value m number) x) bs =
     then_leaves s (s.maps m) _
@@ -284,12 +284,12 @@ pub call_leaves : (helper : Helper) (s : RunState) → PermitsAfterCall s (calle
 call_leaves LookUp s =
     map_argument_permits s 1 _
     (λ m t _.
-    bytes_leave s 2 t.table.shape.key_size _
+    bytes_permit s 2 t.table.shape.key_size _
     (λ key _. returned s s (looked_up m (look_up t.table key)) (state_same s)))
 call_leaves Update s =
     map_argument_permits s 1 _ (λ m t there.
-    bytes_leave s 2 t.table.shape.key_size _ (λ key key_size.
-    bytes_leave s 3 t.table.shape.value_size _ (λ value value_size.
+    bytes_permit s 2 t.table.shape.key_size _ (λ key key_size.
+    bytes_permit s 3 t.table.shape.value_size _ (λ value value_size.
     then_leaves s (argument s 4 number_given) _
     (λ flags _.
     replied s m t (updated t key value flags) there
@@ -297,7 +297,7 @@ call_leaves Update s =
 call_leaves Delete s =
     map_argument_permits s 1 _
     (λ m t there.
-    bytes_leave s 2 t.table.shape.key_size _
+    bytes_permit s 2 t.table.shape.key_size _
     (λ key _. replied s m t (removed t key) there (after_delete key)))
 call_leaves LoadBytes s =
     then_leaves s (argument s 1 context_given) _ (λ _ _.

@@ -11,47 +11,48 @@ use Rattle.bpf_maps.specs.KeyTable.{table_of, Claims, Removes}
 use Rattle.bpf_maps.specs.Live.{LiveMaps, keys_at, shape_at, offset_at, OnlyKeysChange}
 use Rattle.bpf_helpers.specs.Named.{NamedKey, NamedPair, key_named, unnamed_result}
 use Rattle.bpf_helpers.specs.declared.caller.Caller.{Caller}
-use Rattle.bpf_helpers.specs.States.{CallSite, CallResult, site}
+use Rattle.bpf_helpers.specs.States.{CallState, CallResult, call_state}
 
 -- the inputs of a call by this caller
-abbrev pub site_of : Caller → Memory → LiveMaps → CallSite
-site_of caller memory maps = site caller.tenant caller.bind.now caller.packet.now memory maps
+abbrev pub call_of : Caller → Memory → LiveMaps → CallState
+call_of caller memory maps =
+    call_state caller.tenant caller.bind.now caller.packet.now memory maps
 
 -- the bytes at an offset of the part, as many as a key of the map of handle k has
-abbrev pub key_bytes : CallSite → ℕ → ℕ → List ℕ
-key_bytes site k at =
-    bytes_at site.memory.bytes (part_start site.memory site.tenant + at)
-    (shape_at site.maps k).key_size
+abbrev pub key_bytes : CallState → ℕ → ℕ → List ℕ
+key_bytes call_state k at =
+    bytes_at call_state.memory.bytes (part_start call_state.memory call_state.tenant + at)
+    (shape_at call_state.maps k).key_size
 
 -- the bytes at an offset of the part, as many as a value of the map of handle k has
-abbrev pub value_bytes : CallSite → ℕ → ℕ → List ℕ
-value_bytes site k at =
-    bytes_at site.memory.bytes (part_start site.memory site.tenant + at)
-    (shape_at site.maps k).value_size
+abbrev pub value_bytes : CallState → ℕ → ℕ → List ℕ
+value_bytes call_state k at =
+    bytes_at call_state.memory.bytes (part_start call_state.memory call_state.tenant + at)
+    (shape_at call_state.maps k).value_size
 
 -- the map of handle k, with the key and the value at these offsets of the part
-abbrev pub pair_there : CallSite → ℕ → ℕ → ℕ → NamedPair
-pair_there site k key value =
-    record { map = k; key = key_bytes site k key; value = value_bytes site k value }
+abbrev pub pair_there : CallState → ℕ → ℕ → ℕ → NamedPair
+pair_there call_state k key value =
+    record { map = k; key = key_bytes call_state k key; value = value_bytes call_state k value }
 
 -- ---- a look-up
 
 -- the address of an element's value, for the map whose handle is `key`; null (0) if no element is
 -- given
-abbrev pub value_word : CallSite → ℕ → Option ℕ → ℕ
-value_word site key None = 0
-value_word site key (Some element) =
-    base + (part_start site.memory site.tenant + offset_at site.maps key element)
+abbrev pub value_word : CallState → ℕ → Option ℕ → ℕ
+value_word call_state key None = 0
+value_word call_state key (Some element) =
+    base + (part_start call_state.memory call_state.tenant + offset_at call_state.maps key element)
 
 -- the address of the value that the map of n has for the key of n; 0 if it does not have the key
-abbrev pub key_word : CallSite → NamedKey → ℕ
-key_word site n =
-    value_word site n.map (look_up (table_of (keys_at site.maps n.map)) n.key)
+abbrev pub key_word : CallState → NamedKey → ℕ
+key_word call_state n =
+    value_word call_state n.map (look_up (table_of (keys_at call_state.maps n.map)) n.key)
 
 -- what a look-up by the words `map` and `key` returns, the address of a value or 0; None if `map`
 -- names no map, or the bytes of the key don't lie in the part
-abbrev pub flat_look_up : CallSite → ℕ → ℕ → Option ℕ
-flat_look_up site map key = option_map (key_word site) (key_named site map key)
+abbrev pub flat_look_up : CallState → ℕ → ℕ → Option ℕ
+flat_look_up call_state map key = option_map (key_word call_state) (key_named call_state map key)
 
 -- ---- an update
 
@@ -63,32 +64,32 @@ claim_word (Ok element) = 0
 claim_word (Err fault) = negative (errno fault)
 
 -- the memory after an update: the value is written to the claimed element, if there is one
-abbrev pub with_claimed : CallSite → NamedPair → Result ℕ MapFault → Memory
-with_claimed site pair (Ok element) =
-    with_bytes site.memory
-    (part_start site.memory site.tenant + offset_at site.maps pair.map element)
+abbrev pub with_claimed : CallState → NamedPair → Result ℕ MapFault → Memory
+with_claimed call_state pair (Ok element) =
+    with_bytes call_state.memory
+    (part_start call_state.memory call_state.tenant + offset_at call_state.maps pair.map element)
     pair.value
-with_claimed site pair (Err fault) = site.memory
+with_claimed call_state pair (Err fault) = call_state.memory
 
--- `answer` is the result of an update at the call site, with the map, the key and the value of
--- `pair`: an element is claimed for the key, and the value is written there. After a fault no byte
--- has changed; of the live maps only the keys of that map may change
-pub record Updates (site : CallSite) (pair : NamedPair) (flags : ℕ)
+-- `answer` is the result of an update with the inputs `call_state`, and the map, the key and the
+-- value of `pair`: an element is claimed for the key, and the value is written there. After a fault
+-- no byte has changed; of the live maps only the keys of that map may change
+pub record Updates (call_state : CallState) (pair : NamedPair) (flags : ℕ)
     (answer : CallResult) : Type 0 where
   pub claim : Result ℕ MapFault
-  pub claimed : Claims (verdict (table_of (keys_at site.maps pair.map)) pair.key flags) pair.key
-      (keys_at site.maps pair.map) claim (keys_at answer.maps pair.map)
-  pub rest : OnlyKeysChange pair.map site.maps answer.maps
+  pub claimed : Claims (verdict (table_of (keys_at call_state.maps pair.map)) pair.key flags)
+      pair.key (keys_at call_state.maps pair.map) claim (keys_at answer.maps pair.map)
+  pub rest : OnlyKeysChange pair.map call_state.maps answer.maps
   pub word_is : answer.word ≡ claim_word claim
-  pub memory_is : answer.memory ≡ with_claimed site pair claim
+  pub memory_is : answer.memory ≡ with_claimed call_state pair claim
 
 -- an update of what the words of the call name: a map, a key and a value; if they name nothing
 -- (None), the call returns EINVAL, negated, and nothing changes
-abbrev pub UpdatesNamed : CallSite → Option NamedPair → ℕ → CallResult → Type 0
-UpdatesNamed site None flags answer =
-    (answer.word ≡ unnamed_result Update) × (answer.memory ≡ site.memory)
-    × (answer.maps ≡ site.maps)
-UpdatesNamed site (Some pair) flags answer = Updates site pair flags answer
+abbrev pub UpdatesNamed : CallState → Option NamedPair → ℕ → CallResult → Type 0
+UpdatesNamed call_state None flags answer =
+    (answer.word ≡ unnamed_result Update) × (answer.memory ≡ call_state.memory)
+    × (answer.maps ≡ call_state.maps)
+UpdatesNamed call_state (Some pair) flags answer = Updates call_state pair flags answer
 
 -- ---- a deletion
 
@@ -119,10 +120,10 @@ DeletesNamed old (Some named) word new = Deletes old named word new
 -- a load of n packet bytes, from `offset` of the packet on, to offset q of the part: `word` is what
 -- it returns, and `after` the memory after it, with zeros there if the load fails. Without q, the
 -- words name no bytes of the part: `word` is the error, and the memory does not change
-abbrev pub LoadsAt : CallSite → ℕ → ℕ → Option ℕ → ℕ → Memory → Type 0
-LoadsAt site offset n None word after =
-    (word ≡ unnamed_result LoadBytes) × (after ≡ site.memory)
-LoadsAt site offset n (Some q) word after =
-    (word ≡ packet_result site.packet offset n)
-    × (after ≡ with_bytes site.memory (part_start site.memory site.tenant + q)
-    (packet_bytes site.packet offset n))
+abbrev pub LoadsAt : CallState → ℕ → ℕ → Option ℕ → ℕ → Memory → Type 0
+LoadsAt call_state offset n None word after =
+    (word ≡ unnamed_result LoadBytes) × (after ≡ call_state.memory)
+LoadsAt call_state offset n (Some q) word after =
+    (word ≡ packet_result call_state.packet offset n)
+    × (after ≡ with_bytes call_state.memory (part_start call_state.memory call_state.tenant + q)
+    (packet_bytes call_state.packet offset n))

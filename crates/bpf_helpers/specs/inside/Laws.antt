@@ -13,7 +13,7 @@ use Rattle.tagged_model.specs.Step.{map_at_start, map_after_run}
 use Rattle.arena.specs.Memory.{base, part_start, with_bytes}
 use Rattle.bpf_maps.specs.KeyTable.{table_of, after_run, IsSound}
 use Rattle.bpf_maps.specs.Live.{LiveMaps, live_at, keys_at, shape_at, offset_at}
-use Rattle.bpf_helpers.specs.States.{Environment, FlatState, CallResult, with_memory, with_held, site_in, answers, with_result}
+use Rattle.bpf_helpers.specs.States.{Environment, FlatState, CallResult, with_memory, with_held, call_in, answers, with_result}
 use Rattle.bpf_helpers.specs.Layout.{Layout, IsWord, HasStack}
 use Rattle.bpf_helpers.specs.Stands.{IsRoom, HasMap, Simulates, element_bytes, stored_maps}
 use Rattle.bpf_helpers.specs.Calls.{Extends}
@@ -76,7 +76,7 @@ LookUpsFollow =
     → called LookUp s ≡ Some u
     → (v : Tagged) × (u ≡ returns s v)
     × GivesWord env l
-    (flat_look_up (site_in env flat) (slice_index flat.registers 1) (slice_index flat.registers 2))
+    (flat_look_up (call_in env flat) (slice_index flat.registers 1) (slice_index flat.registers 2))
     (Some v)
 
 -- the arguments of an update on the machine of tagged values: the map with its descriptor, the
@@ -112,7 +112,7 @@ UpdatesKeepSimulation =
     → slice_get env.descriptors i ≡ Some asked.given.descriptor
     → s.maps asked.given.descriptor ≡ Some asked.given.map
     → length asked.value ≡ asked.given.map.table.shape.value_size
-    → Updates (site_in env flat)
+    → Updates (call_in env flat)
     (record {
       map = slice_index env.bind i;
       key = asked.key;

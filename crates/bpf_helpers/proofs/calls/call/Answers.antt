@@ -9,7 +9,7 @@ use Rattle.bpf_helpers.specs.inside.Flat.{key_word, UpdatesNamed, DeletesNamed, 
 use Rattle.bpf_helpers.proofs.SameApart.{updates_apart}
 use Rattle.bpf_helpers.proofs.Followed.{look_up_follows, update_follows, delete_follows, load_follows}
 use Rattle.bpf_helpers.proofs.calls.call.Goals as goal
-use Rattle.bpf_helpers.specs.States.{answers, site}
+use Rattle.bpf_helpers.specs.States.{answers, call_state}
 
 -- a number names one function
 of_helper : (P : Helper → Type 0) (h : Helper) {id : ℤ} {found : Option Helper} {field : Helper}
@@ -29,7 +29,7 @@ returns-in-Some-LookUp-clause-follows c =
 
 pub returns-in-Some-LookUp-clause-unnamed : goal.returns-in-Some-LookUp-clause-unnamed
 returns-in-Some-LookUp-clause-unnamed c =
-    let here = site c.args.tenant c.args.bind.now c.args.packet.now c.args.arena.now c.args.maps.now in
+    let here = call_state c.args.tenant c.args.bind.now c.args.packet.now c.args.arena.now c.args.maps.now in
     of_helper _ LookUp c.ranges.id c.known_helper.ensures c.in-Some-LookUp.is c.in-Some-LookUp.field-0-is
     (λ nothing. (c.look_up.ensures.value ∙ ap (λ o. unwrap_or (option_map (key_word here) o) 0) nothing, refl, refl))
 
@@ -42,7 +42,7 @@ returns-in-Some-Update-clause-follows c =
 
 pub returns-in-Some-Update-clause-unnamed : goal.returns-in-Some-Update-clause-unnamed
 returns-in-Some-Update-clause-unnamed c =
-    let here = site c.args.tenant c.args.bind.now c.args.packet.now c.args.arena.now c.args.maps.now in
+    let here = call_state c.args.tenant c.args.bind.now c.args.packet.now c.args.arena.now c.args.maps.now in
     of_helper _ Update c.ranges.id c.known_helper.ensures c.in-Some-Update.is c.in-Some-Update.field-0-is
     (λ nothing.
     subst (λ o.
@@ -71,7 +71,7 @@ returns-in-Some-LoadBytes-clause-follows c =
 
 pub returns-in-Some-LoadBytes-clause-unnamed : goal.returns-in-Some-LoadBytes-clause-unnamed
 returns-in-Some-LoadBytes-clause-unnamed c =
-    let here = site c.args.tenant c.args.bind.now c.args.packet.now c.args.arena.now c.args.maps.now in
+    let here = call_state c.args.tenant c.args.bind.now c.args.packet.now c.args.arena.now c.args.maps.now in
     of_helper _ LoadBytes c.ranges.id c.known_helper.ensures c.in-Some-LoadBytes.is c.in-Some-LoadBytes.field-0-is
     (λ nothing.
     let loaded =
@@ -90,7 +90,7 @@ pub returns-in-Some-Update-clause-apart : goal.returns-in-Some-Update-clause-apa
 returns-in-Some-Update-clause-apart c =
     of_helper _ Update c.ranges.id c.known_helper.ensures c.in-Some-Update.is c.in-Some-Update.field-0-is
     (λ kept.
-    updates_apart (site c.args.tenant c.args.bind.now c.args.packet.now c.args.arena.now c.args.maps.now)
+    updates_apart (call_state c.args.tenant c.args.bind.now c.args.packet.now c.args.arena.now c.args.maps.now)
     _ _
     (answers c.update.result c.update.new.arena c.update.new.maps)
     c.update.ensures.updated)

@@ -89,6 +89,6 @@ returns-in-Err-clause-updated c =
           (key_read (goal.at.returns-in-Err-clause-updated c).After-claim)
           c.in-Err.ensures.claimed;
       rest = c.in-Err.ensures.rest;
-      word_is = c.refusal.ensures;
+      word_is = c.fault_word.ensures;
       memory_is = refl;
     }

@@ -1,10 +1,8 @@
 -- Bytes that have an offset in a part lie in it; and what words name if they name a key, or a key and a value.
-use Rattle.std.proofs.Common.{◌≡◌, ℕ, zero, suc, ◌+◌, ◌-◌, ◌<◌, ◌≤◌, ◌==◌, leb, ◌&&◌, Bool, true, false, if◌then◌else◌}
-use Rattle.std.proofs.Common.{List, length, slice_get, Option, Some, None, option_map, refl, ap, subst, ◌∙◌, arith}
-use Rattle.std.specs.Prelude.{slice_index}
+use Rattle.std.proofs.Common.{◌≡◌, ℕ, ◌+◌, ◌-◌, ◌≤◌, leb, ◌&&◌, Bool, true, false, if◌then◌else◌}
+use Rattle.std.proofs.Common.{List, Option, Some, None, option_map, refl, ap, subst}
 use Rattle.std.specs.Option.{IsSome}
-use Rattle.std.proofs.lemmas.Bool.{cond-false, and_parts, leb-true, ne_eqb, false≢true}
-use Rattle.std.proofs.lemmas.Option.{slice_get-get_or, slice_get_within}
+use Rattle.std.proofs.lemmas.Bool.{and_parts, leb-true, false≢true}
 use Rattle.words.specs.Bytes.{bytes_at}
 use Rattle.tagged_model.specs.Cells.{and_then}
 use Rattle.arena.specs.Memory.{Memory, base, part_start}
@@ -50,27 +48,6 @@ module _ {A B : Type 0} where
   some_mapped : (o : Option A) (f : A → B) → IsSome (option_map f o) → IsSome o
   some_mapped None f h = h
   some_mapped (Some a) f h = refl
-
--- a word that names a map is the index of the map's handle, plus 1
-pub record IsBoundMap (bind : List ℕ) (word : ℕ) : Type 0 where
-  -- the word is not 0
-  pub some : 1 ≤ word
-  -- the index is one of a handle
-  pub within : word - 1 < length bind
-  -- the word names this handle
-  pub handle : bound_map bind word ≡ Some (slice_index bind (word - 1))
-
-pub is_bound_map : (bind : List ℕ) (word : ℕ) → IsSome (bound_map bind word) → IsBoundMap bind word
-is_bound_map bind zero some = absurd (false≢true some)
-is_bound_map bind (suc i) some =
-    let same : bound_map bind (suc i) ≡ slice_get bind (suc i - 1) =
-    cond-false (suc i == 0) None (slice_get bind (suc i - 1)) (ne_eqb (suc i) 0 (λ z. omega arith)) in
-    let within : suc i - 1 < length bind = by (slice_get bind (suc i - 1)) refl (subst IsSome same some) in
-    record { some = omega arith; within = within; handle = same ∙ slice_get-get_or bind (suc i - 1) 0 within }
-  where
-    by : (o : Option ℕ) → slice_get bind (suc i - 1) ≡ o → IsSome o → suc i - 1 < length bind
-    by None is h = absurd (false≢true h)
-    by (Some k) is h = slice_get_within bind (suc i - 1) k is
 
 module _ (call_state : CallState) (map key : ℕ) where
   -- if words name a map and a key, the first names a map

@@ -1,6 +1,6 @@
 -- From calls on the fields of a map to the calls of the map.
 use Rattle.std.proofs.Common.{◌≡◌, ℕ, ◌+◌, ◌<◌, ◌≤◌, ◌==◌, Bool, true, false, List, Option, Some, None, Result, Ok}
-use Rattle.std.proofs.Common.{Err, IfOk, IfSome, refl, sym, ap, subst, ◌∙◌, nat_lt, nat_le, if◌then◌else◌, arith}
+use Rattle.std.proofs.Common.{IfSome, refl, sym, subst, nat_lt, nat_le, if◌then◌else◌, arith}
 use Rattle.std.proofs.lemmas.Bool.{ltb-true}
 use Rattle.std.specs.Map.{values_of}
 use Rattle.tagged_model.specs.declared.shape.MapKind.{MapKind}
@@ -8,7 +8,7 @@ use Rattle.tagged_model.specs.declared.shape.MapKind.TheVariants.{Hash, Array}
 use Rattle.tagged_model.specs.declared.shape.MapShape.{MapShape}
 use Rattle.tagged_model.specs.declared.fault.MapFault.{MapFault}
 use Rattle.tagged_model.specs.declared.fault.MapFault.TheVariants.{NoEntry, TooBig, Exists, Invalid}
-use Rattle.tagged_model.specs.Table.{look_up, is_full, of_absent, of_found, verdict, removal, removal_of, Verdict, Refused, Present, New, no_exist, exist}
+use Rattle.tagged_model.specs.Table.{look_up, is_full, of_absent, of_found, verdict, removal, removal_of, Refused, Present, New, no_exist, exist}
 use Rattle.bpf_maps.specs.KeyTable.{KeyTable, table_of, occurrences, IsSound, IsFree, with_entry, Claims, Removes}
 use Rattle.bpf_maps.proofs.Counts.{in_use}
 
@@ -91,23 +91,3 @@ pub found_within : (t : KeyTable) (key : List ℕ) (o : Option ℕ)
     → IfSome o (λ p. p < t.shape.max_entries)
 found_within t key None h e = tt
 found_within t key (Some p) h e = element_below t key p h (sym e)
-
--- the element that a claim returns
-claims_within : (old new : KeyTable) (flags p : ℕ) (key : List ℕ)
-    → Claims (verdict (table_of old) key flags) key old (Ok p) new
-    → IsSound new
-    → p < new.shape.max_entries
-claims_within old new flags p key c h = by (verdict (table_of old) key flags) refl c
-  where
-    by : (v : Verdict ℕ)
-        → verdict (table_of old) key flags ≡ v → Claims v key old (Ok p) new
-        → p < new.shape.max_entries
-    by (Refused f) e d = cc (d.0)
-    by (Present q) e d =
-        let same : p ≡ q = cc (d.0) in
-        let at : look_up (table_of new) key ≡ Some p =
-        ap (λ (t : KeyTable). look_up (table_of t) key) d.1
-        ∙ present_found old key flags q e
-        ∙ ap (λ (x : ℕ). let o : Option ℕ = Some x in o) (sym same) in
-        element_below new key p h at
-    by New e d = subst (λ (t : KeyTable). p < t.shape.max_entries) (sym d.1) d.0.within

@@ -8,7 +8,6 @@ use Rattle.tagged_model.specs.declared.shape.MapKind.TheVariants.{Array, Hash}
 use Rattle.tagged_model.specs.declared.shape.MapShape.{MapShape}
 use Rattle.tagged_model.specs.Table.{look_up, index_key}
 use Rattle.bpf_maps.specs.declared.elements.Elements.{Elements}
-use Rattle.bpf_maps.specs.declared.part.TheConstants.{PART}
 use Rattle.bpf_maps.specs.KeyTable.{table_of}
 use Rattle.bpf_maps.specs.Live.{LiveMap, LiveMaps, live_at, live_or, keys_at, shape_at, offset}
 use Rattle.bpf_maps.specs.Live.{offset_at, value_address, LiesInPart, IsLaid, IsPacked, AreSound}

@@ -1,6 +1,6 @@
 -- The results of an index on its keys are those on the bytes that the keys represent.
 use Rattle.std.proofs.Common.{◌≡◌, ℕ, Bool, true, false, cond, List, [], ◌∷◌, ◌++◌, Option, Some, None, is_some, option_map}
-use Rattle.std.proofs.Common.{Result, Ok, Err, OnOk, OnErr, ◌⊎◌, inl, inr, is_err, true≢false, refl, sym, ap, ◌∙◌, if◌then◌else◌}
+use Rattle.std.proofs.Common.{refl, sym, ap, ◌∙◌, if◌then◌else◌}
 use Rattle.std.specs.Map.{lookup, remove_entry, values_of}
 use Rattle.tagged_model.specs.Table.{is_key, found, without, with_key, first_key, key_after_present, key_after}
 use Rattle.ordered_keys.specs.Orders.{first_key_of, key_after_match, key_following}

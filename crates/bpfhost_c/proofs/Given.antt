@@ -1,5 +1,5 @@
 -- Contexts of as many words as a run has.
-use Rattle.std.proofs.Common.{◌≡◌, ℕ, zero, suc, ◌+◌, ◌-◌, ◌*◌, ◌/◌, ◌<◌, ◌≤◌, ◌&&◌, Bool, true, nat_eq, List}
+use Rattle.std.proofs.Common.{◌≡◌, ℕ, zero, suc, ◌+◌, ◌-◌, ◌*◌, ◌≤◌, ◌&&◌, Bool, true, nat_eq, List}
 use Rattle.std.proofs.Common.{[], ◌∷◌, ◌++◌, take, drop, length, replicate, min, refl, sym, subst, arith}
 use Rattle.std.proofs.lemmas.List.{append-nil, take_all, drop_all, length-take-le, length-drop}
 use Rattle.std.specs.List.{list_all}

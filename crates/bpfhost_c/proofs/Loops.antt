@@ -1,5 +1,5 @@
 -- A step of a loop over contexts.
-use Rattle.std.proofs.Common.{◌≡◌, ℕ, suc, ◌+◌, ◌-◌, ◌*◌, ◌<◌, ◌≤◌, ◌&&◌, List, [], ◌∷◌, ◌++◌, take, drop, length, refl, sym, subst, arith}
+use Rattle.std.proofs.Common.{◌≡◌, ℕ, suc, ◌+◌, ◌-◌, ◌*◌, ◌<◌, ◌≤◌, ◌&&◌, List, [], ◌∷◌, ◌++◌, take, drop, refl, sym, subst, arith}
 use Rattle.std.proofs.lemmas.List.{append_assoc}
 use Rattle.bpfhost_c.specs.Contexts.{fitted, fitted_all, has_only_known_words, have_known_words}
 

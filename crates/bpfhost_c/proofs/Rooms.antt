@@ -1,6 +1,6 @@
 -- A text in a room, with a zero byte after it.
 use Rattle.std.proofs.Common.{◌≡◌, ℕ, zero, suc, ◌+◌, ◌-◌, ◌<◌, ◌≤◌, List, [], ◌∷◌, ◌++◌, take}
-use Rattle.std.proofs.Common.{drop, length, set, min, Result, Ok, IfOk, refl, ap, subst, ◌∙◌, arith}
+use Rattle.std.proofs.Common.{drop, length, set, Result, Ok, IfOk, refl, ap, subst, ◌∙◌, arith}
 use Rattle.std.proofs.lemmas.List.{length-take-le, set-append_right}
 use Rattle.bpfhost_c.specs.Logs.{fitting, text_in}
 

@@ -2,17 +2,17 @@
 -- since each number is encoded by the bytes from which it is read.
 use Rattle.std.proofs.Common.{◌≡◌, ℕ, zero, suc, ◌+◌, ◌*◌, ◌^◌, ◌<◌, ◌≤◌, Bool, true, false, List, [], ◌∷◌, ◌++◌}
 use Rattle.std.proofs.Common.{length, take, drop, get_or, Result, Ok, Err, refl, sym, ap, ap₂, subst, ◌∙◌, arith, inl, inr}
-use Rattle.std.proofs.Common.{append_assoc, length-take, length-take-le, length-drop, take-append-drop, append-nil}
+use Rattle.std.proofs.Common.{length-take, length-take-le, length-drop, take-append-drop}
 use Rattle.std.specs.Prelude.{if◌then◌else◌, ◌⊎◌, ◌==◌, nat_le, nat_lt}
 use Rattle.std.specs.Int.{w16, w32, w64, from_le_bytes}
 use Rattle.std.specs.List.{AllByRecursion, flat_map}
-use Rattle.std.proofs.lemmas.Bool.{cases_lt, le-leb, le-ltb, eqb-true, leb-true, ltb-false}
+use Rattle.std.proofs.lemmas.Bool.{cases_lt, le-leb, le-ltb, eqb-true, leb-true}
 use Rattle.std.proofs.lemmas.List.{get_or-take, get_or-drop, get_or_past, drop-drop, drop_all}
 use Rattle.std.proofs.lemmas.Nat.{le_bytes_2, le_bytes_4, le_bytes_8}
 use Rattle.byteorder.specs.Endian.{little_number, little_bytes}
 use Rattle.words.specs.Context.{given_words}
 use Rattle.command_frames.specs.declared.command.BadFrame.{BadFrame}
-use Rattle.command_frames.specs.declared.command.BadFrame.TheVariants.{TooLong, Unknown, Body}
+use Rattle.command_frames.specs.declared.command.BadFrame.TheVariants.{TooLong, Body}
 use Rattle.command_frames.specs.Command.{Command, map_create, map_lookup, map_update, map_delete, map_next_key, prog_load, prog_test_run, close}
 use Rattle.command_frames.specs.Command.{parsed, command_in, exactly, at_least, longest_frame, before_key_and_value, word_length, before_packet}
 use Rattle.command_frames.specs.Command.{word_at, long_at, words_in}

@@ -1,8 +1,7 @@
 -- A range is determined by its ends.
-use Rattle.std.proofs.Common.{◌≡◌, ℕ, ◌≤◌, ap, subst, arith}
+use Rattle.std.proofs.Common.{◌≡◌, ℕ, ◌≤◌, ap, subst}
 use Rattle.std.proofs.Math.Bridge.{le_prop}
 use Rattle.interval.specs.declared.range.Range.{Range}
-use Rattle.interval.specs.Ranges.{span}
 
 abbrev made : (lo hi : ℕ) → lo ≤ hi → Range
 made lo hi h = record { lo = lo; hi = hi; ordered = h }

@@ -8,7 +8,7 @@ use Rattle.command_frames.specs.Command.{Command, close, parsed}
 use Rattle.command_frames.specs.Frame.{reply_to}
 use Rattle.fd_table.specs.Table.{first_descriptor, most, named}
 use Rattle.insn_set.specs.declared.insn.Insn.{Insn}
-use Rattle.insn_set.specs.Program.{IsProgram, program_bytes}
+use Rattle.insn_set.specs.Program.{IsProgram}
 use Rattle.insn_set.specs.SpellingLaws.{length-program_bytes}
 use Rattle.tagged_model.specs.declared.shape.MapKind.{MapKind}
 use Rattle.tagged_model.specs.declared.shape.MapKind.TheVariants.{Hash, Array}

@@ -1,6 +1,6 @@
 -- A test run has a frame: it is not too long if the packet is not, and so it is parsed as this test run.
 use Rattle.std.proofs.Common.{◌≡◌, ℕ, ◌+◌, ◌*◌, ◌^◌, ◌<◌, List, [], ◌∷◌, ◌++◌, length, Ok, arith}
-use Rattle.std.specs.List.{AllByRecursion, flat_map}
+use Rattle.std.specs.List.{flat_map}
 use Rattle.byteorder.specs.Endian.{little_bytes}
 use Rattle.command_frames.specs.Command.{prog_test_run, parsed}
 use Rattle.command_frames.specs.Encoded.{frame_of}

@@ -28,9 +28,6 @@ differ_back a b test failed passed = ne_eqb a b (λ e. false≢true (sym failed 
 pub start_in_name : (b : ℕ) → is_name_start b ≡ true → is_name_byte b ≡ true
 start_in_name b h = grind (arith, nat_tests)
 
-digit_in_name : (b : ℕ) → is_ascii_digit b ≡ true → is_name_byte b ≡ true
-digit_in_name b h = grind (arith, nat_tests)
-
 -- no digit starts a name
 pub digit_no_start : (b : ℕ) → is_ascii_digit b ≡ true → is_name_start b ≡ false
 digit_no_start b h = grind (arith, nat_tests)

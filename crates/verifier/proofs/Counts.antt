@@ -1,25 +1,19 @@
 -- The counts during the pass over the shape agree with the definition.
-use Rattle.std.proofs.Common.{◌≡◌, ℕ, zero, suc, ◌+◌, ◌-◌, ◌<◌, ◌≤◌, ◌==◌, max, Bool, true, false, not, ◌&&◌, ◌||◌, nat_lt, nat_le}
+use Rattle.std.proofs.Common.{◌≡◌, ℕ, zero, suc, ◌+◌, ◌-◌, ◌<◌, ◌≤◌, ◌==◌, max, Bool, true, false, not, ◌&&◌, ◌||◌, nat_lt}
 use Rattle.std.proofs.Common.{if◌then◌else◌, List, [], ◌∷◌, length, Option, Some, None, refl, sym, ap, subst, ◌∙◌, inl, inr, add-one, arith}
-use Rattle.std.proofs.lemmas.Bool.{cases_Bool, lt-ltb, lt-leb, eq-eqb, ne_eqb, false≢true, or_left}
+use Rattle.std.proofs.lemmas.Bool.{cases_Bool, lt-ltb, eq-eqb, ne_eqb, false≢true, or_left}
 use Rattle.std.proofs.lemmas.List.Recursion.{is_count_by}
 use Rattle.insn_set.specs.declared.insn.Insn.{Insn}
 use Rattle.insn_set.specs.declared.profile.Profile.{Profile}
-use Rattle.insn_set.specs.declared.profile.Reference.{Reference}
-use Rattle.insn_set.specs.declared.profile.Reference.TheVariants as names
-use Rattle.insn_set.specs.declared.profile.Successors.{Successors}
-use Rattle.insn_set.specs.declared.profile.Successors.TheVariants.{Next}
 use Rattle.insn_set.specs.Profile.{profile}
-use Rattle.insn_set.specs.Program.{begins_at, slot_count}
-use Rattle.insn_set.specs.Flow.{falls_to, jumps_to, falls, falls_by, jumps, jumps_by, target_by, written_register}
+use Rattle.insn_set.specs.Program.{begins_at}
+use Rattle.insn_set.specs.Flow.{falls_to, jumps_to, falls, falls_by, jumps, jumps_by, target_by}
 use Rattle.tagged_model.specs.declared.shape.Named.{Named}
 use Rattle.verifier.specs.declared.cost.Cost.{Cost}
-use Rattle.verifier.specs.declared.cost.Counts.{Counts}
-use Rattle.verifier.specs.declared.cost.Paths.{Paths}
-use Rattle.verifier.specs.Cost.{is_helper, is_call, is_exit, calls_in, IsMostOf, IsCostOf}
-use Rattle.verifier.specs.Shape.{is_number, leads_into, reached_from, is_reachable, shape_reason_at, shape_reason, structure_fault}
+use Rattle.verifier.specs.Cost.{is_call, is_exit, calls_in, IsMostOf, IsCostOf}
+use Rattle.verifier.specs.Shape.{is_number, leads_into, reached_from, is_reachable, shape_reason_at, structure_fault}
 use Rattle.verifier.specs.ShapeLaws.{unrefused_is_fine}
-use Rattle.verifier.specs.inside.Longest.{one, one_if_call, total, passed_on, most_from, at_exit, most_ended, IsAdded, IsSimple, LeadTo}
+use Rattle.verifier.specs.inside.Longest.{one, one_if_call, total, passed_on, most_from, at_exit, most_ended}
 use Rattle.verifier.proofs.Longest.{passes, passes_none, leads_from}
 use Rattle.verifier.proofs.Reached.{or_neither}
 
@@ -71,31 +65,6 @@ at_end weight insn row before k old new is_row is_k is_new =
     is_new
     ∙ ap (λ (r : Profile). max old (if not (falls_by r.successors || jumps_by r.successors) then k else 0)) is_row
     ∙ ap (λ (n : ℕ). max old (if is_exit insn then n else 0)) is_k
-
--- ---- an instruction whose only successor is the next one
-
-max_none : (n : ℕ) → max n 0 ≡ n
-max_none n = omega arith
-
-simple_along : (weight : Insn → ℕ) (insn : Insn) (row : Profile) (slot to before k fall old : ℕ)
-    → row ≡ profile insn → row.successors ≡ Next
-    → k ≡ before + weight insn → fall ≡ k
-    → slot < to
-    → max (if falls_to insn slot == to then fall else 0) old ≡ max old (passed_on weight (Some insn) slot to before)
-simple_along weight insn row slot to before k fall old is_row next is_k is_fall after =
-    along weight insn row slot to before k fall old old is_row after is_k
-    (is_fall ∙ sym (ap (λ (s : Successors). if falls_by s then k else 0) next))
-    (sym (ap (λ (s : Successors). max old (if is_number (target_by s slot) to then k else 0)) next ∙ max_none old))
-
-simple_end : (weight : Insn → ℕ) (insn : Insn) (row : Profile) (before old new : ℕ)
-    → row ≡ profile insn → row.successors ≡ Next
-    → new ≡ old
-    → new ≡ max old (at_exit weight (Some insn) before)
-simple_end weight insn row before old new is_row next is =
-    at_end weight insn row before (before + weight insn) old new is_row refl
-    (is
-    ∙ sym (ap (λ (s : Successors). max old (if not (falls_by s || jumps_by s) then before + weight insn else 0)) next
-    ∙ max_none old))
 
 -- ---- the counts that arrive
 

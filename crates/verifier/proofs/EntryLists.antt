@@ -1,10 +1,10 @@
 -- Entries of boxed facts, as a list of facts.
-use Rattle.std.proofs.Common.{◌≡◌, ℕ, zero, suc, ◌<◌, ◌≤◌, List, [], ◌∷◌, ◌++◌, length, get_or, set, get_or-set_same}
+use Rattle.std.proofs.Common.{◌≡◌, ℕ, zero, suc, ◌<◌, List, [], ◌∷◌, ◌++◌, length, get_or, set, get_or-set_same}
 use Rattle.std.proofs.Common.{get_or-set_other, arith, false, Option, Some, None, refl, sym, ap, ◌∙◌, subst, Box, Global}
 use Rattle.std.specs.Prelude.{map, option_map, box_value}
 use Rattle.std.specs.Option.{is_some}
 use Rattle.std.proofs.lemmas.Bool.{false≢true}
-use Rattle.std.proofs.lemmas.List.{map-set, get_or-map, get_or_past, length-map}
+use Rattle.std.proofs.lemmas.List.{map-set, get_or-map, length-map}
 use Rattle.verifier.specs.declared.numbered_facts.NumberedFacts.{NumberedFacts}
 use Rattle.verifier.specs.inside.Numbers.{entry_of, IsJoinedBy, IsJoinedIf, IsTaken, IsPut}
 

@@ -1,6 +1,6 @@
 -- Facts are joined one group of stack slots after another.
 use Rattle.std.proofs.Common.{◌≡◌, ◌≢◌, ℕ, ◌+◌, ◌<◌, ◌==◌, List, length, get_or, set, length-set}
-use Rattle.std.proofs.Common.{get_or-set_same, get_or-set_other, refl, sym, ap, subst, ◌∙◌, inl, inr, arith}
+use Rattle.std.proofs.Common.{get_or-set_same, get_or-set_other, sym, ap, subst, ◌∙◌, inl, inr, arith}
 use Rattle.std.proofs.lemmas.Bool.{cases_eq, cond-true, cond-false, eq-eqb, ne_eqb}
 use Rattle.words.specs.Stack.{stack_slots}
 use Rattle.reg_kinds.specs.declared.kind.Slot.{Slot}

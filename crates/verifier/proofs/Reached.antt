@@ -1,11 +1,10 @@
 -- The pass of the shape check agrees with the definitions of reachable slots and of shape faults.
-use Rattle.std.proofs.Common.{◌≡◌, ℕ, ◌+◌, ◌<◌, zero, suc, Bool, true, false, ◌&&◌, ◌||◌, List, [], ◌∷◌, length}
-use Rattle.std.proofs.Common.{get_or, set, replicate, Option, Some, None, refl, sym, ap, ◌∙◌, add-one, arith, inl, inr}
+use Rattle.std.proofs.Common.{◌≡◌, ℕ, ◌+◌, ◌<◌, zero, suc, Bool, true, false, ◌&&◌, ◌||◌, List, [], ◌∷◌}
+use Rattle.std.proofs.Common.{get_or, Option, Some, None, refl, sym, ap, ◌∙◌, add-one, arith, inl, inr}
 use Rattle.std.specs.Prelude.{IfSome, is_some, if◌then◌else◌}
-use Rattle.std.proofs.lemmas.Bool.{not-false, false≢true, cases_Bool, cond-true, cond-false, cases_eq, eq-eqb, ne_eqb}
+use Rattle.std.proofs.lemmas.Bool.{not-false, false≢true, cases_Bool, cond-true, cond-false}
 use Rattle.std.specs.List.{slice_get}
 use Rattle.std.proofs.lemmas.Option.{get_or_from_slice_get}
-use Rattle.std.proofs.lemmas.List.{get_or-set_same, get_or-set_other, get_or-replicate, length-replicate}
 use Rattle.insn_set.specs.declared.insn.Insn.{Insn}
 use Rattle.std.specs.Option.{IsSome}
 use Rattle.insn_set.specs.Program.{begins_at, slot_count, Adjoins}
@@ -13,7 +12,7 @@ use Rattle.insn_set.specs.BeginLaws.{begins_within, first_begins}
 use Rattle.reg_kinds.specs.declared.reason.Reason.{Reason}
 use Rattle.tagged_model.specs.declared.shape.Named.{Named}
 use Rattle.insn_set.specs.Flow.{jumps_to, jumps, jump_target}
-use Rattle.verifier.specs.Shape.{leads_into, leads_outside, reached_from, is_reachable, first_reason, shape_reason_at, structure_fault}
+use Rattle.verifier.specs.Shape.{leads_into, leads_outside, reached_from, first_reason, shape_reason_at, structure_fault}
 use Rattle.verifier.specs.ShapeLaws.{IsFine, each_is_fine}
 use Rattle.verifier.specs.inside.Jumps.{JumpsLand}
 use Rattle.verifier.specs.Verdict.{HasNoFault}

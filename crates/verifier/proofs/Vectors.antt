@@ -1,5 +1,5 @@
 -- A call and an exit: the number of calls, and the path, by hand.
-use Rattle.std.proofs.Common.{◌≡◌, ℕ, pos, List, [], ◌∷◌, refl, inl, inr}
+use Rattle.std.proofs.Common.{◌≡◌, pos, List, [], ◌∷◌, refl, inl, inr}
 use Rattle.insn_set.specs.declared.insn.Insn.{Insn}
 use Rattle.insn_set.specs.declared.insn.Insn.TheVariants.{Call, Exit}
 use Rattle.insn_set.specs.Program.{begins_at}

@@ -1,18 +1,17 @@
 -- The facts that the pass gives to its watcher are those of the definition.
-use Rattle.std.proofs.Common.{◌≡◌, ℕ, ◌+◌, subst, List, [], ◌++◌, Option, Some, None, refl, sym, ap, ◌∙◌, ◌⊎◌, add-one, append-nil, append_assoc, inl, inr}
+use Rattle.std.proofs.Common.{◌≡◌, ℕ, ◌+◌, List, [], ◌++◌, Option, Some, None, refl, sym, ap, ◌∙◌, ◌⊎◌, add-one, append-nil, append_assoc, inl, inr}
 use Rattle.insn_set.specs.declared.insn.Insn.{Insn}
 use Rattle.insn_set.specs.Program.{begins_at}
 use Rattle.reg_kinds.specs.declared.facts.Facts.{Facts}
 use Rattle.tagged_model.specs.Cells.{and_then}
-use Rattle.tagged_model.specs.Named.{Shapes, shapes_named}
+use Rattle.tagged_model.specs.Named.{Shapes}
 use Rattle.tagged_model.specs.declared.shape.Named.{Named}
 use Rattle.verifier.specs.Before.{facts_before}
 use Rattle.verifier.specs.declared.fault.VerifyFault.{VerifyFault}
-use Rattle.verifier.specs.Maps.{objects_at, maps_of, shapes_of}
+use Rattle.verifier.specs.Maps.{shapes_of}
 use Rattle.verifier.specs.Shape.{structure_fault}
 use Rattle.verifier.specs.Seen.{known_at, reached, with_more, SeesBelow, SeesRefused}
-use Rattle.verifier.specs.inside.Watching.{SeesFirstFault}
-use Rattle.verifier.specs.Verdict.{HasNoFault, IsFirstFault, memory_fault}
+use Rattle.verifier.specs.Verdict.{IsFirstFault, memory_fault}
 
 more_twice : (seen : Option (List (ℕ × Facts))) (xs ys : List (ℕ × Facts))
     → with_more (with_more seen xs) ys ≡ with_more seen (xs ++ ys)

@@ -1,5 +1,5 @@
-use Rattle.std.proofs.Common.{rules, ◌≡◌, ℕ, ◌<◌, ◌≤◌, List, ◌++◌, take, drop, length, set, ap, ◌∙◌, arith}
-use Rattle.bpfhost_c.specs.Logs.{fitting, text_in}
+use Rattle.std.proofs.Common.{rules, ◌≡◌, ℕ, ◌<◌, List, ◌++◌, take, drop, length, set, ap, ◌∙◌, arith}
+use Rattle.bpfhost_c.specs.Logs.{fitting}
 use Rattle.bpfhost_c.proofs.Rooms.{text_ended}
 use Rattle.bpfhost_c.proofs.verifying.write_text.Goals as goal
 

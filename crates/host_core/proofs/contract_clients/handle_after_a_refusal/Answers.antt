@@ -1,4 +1,3 @@
-use Rattle.std.proofs.Common.{ℕ, List}
 use Rattle.host_core.specs.Handled.{Handles}
 use Rattle.host_core.proofs.ServedAlone.{one_more_seen}
 use Rattle.host_core.proofs.contract_clients.handle_after_a_refusal.Goals as goal

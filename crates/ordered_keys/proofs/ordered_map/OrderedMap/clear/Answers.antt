@@ -1,4 +1,4 @@
-use Rattle.std.proofs.Common.{◌≡◌, ℕ, List, ap, ◌∙◌, sym, arith}
+use Rattle.std.proofs.Common.{ap, arith}
 use Rattle.ordered_keys.specs.inside.Ordered.{in_order}
 use Rattle.ordered_keys.proofs.Tables.{indexed_cleared}
 use Rattle.ordered_keys.proofs.ordered_map.OrderedMap.clear.Goals as goal

@@ -9,6 +9,7 @@ the filters that clang compiles are left out.
 from __future__ import annotations
 
 import argparse
+import math
 import os
 import re
 import shutil
@@ -17,6 +18,7 @@ import sys
 import tempfile
 from collections.abc import Callable, Mapping
 from pathlib import Path
+from statistics import median
 from typing import IO, Protocol
 
 from compiled import compiled
@@ -26,13 +28,14 @@ from streams import loads_of, runs_of
 
 SERVE = ["serve", "--tenants", "1"]
 # About how many instructions each timed stream executes, and the most runs that it has.
-EXECUTED, MOST_RUNS = 60_000_000, 100_000
+EXECUTED, MOST_RUNS = 60_000_000, 200_000
 # Loads in each timed stream; and runs and loads if a slow tool counts the machine instructions.
 LOADS, COUNTED_RUNS, COUNTED_LOADS = 60, 60, 2
 
 Programs = dict[str, Program]
-# The measurements of each program, by its name and the host's.
+# The machine instructions of each program, by its name and the host's; and its times, one for each round.
 Found = dict[tuple[str, str], float]
+Rounds = dict[tuple[str, str], list[float]]
 
 
 # The input of a stream, and the command that counts the machine instructions of another; None if it does not count here.
@@ -114,23 +117,22 @@ class Streams:
         return self.written[key]
 
 
+def tell(progress: str) -> None:
+    """Writes how far the measurement is, over what it wrote before, if somebody sees it."""
+    if sys.stderr.isatty():
+        print(f"\r{' ' * 30}\r{progress}", end="", file=sys.stderr, flush=True)
+
+
 def least(rounds: int, tasks: list[tuple[Host, str]]) -> dict[tuple[Host, str], float]:
     """The least time of each task, (host, stream), over rounds in which all take turns."""
     best: dict[tuple[Host, str], float] = {}
     for at in range(rounds):
-        if sys.stderr.isatty():
-            print(f"\rround {at + 1} of {rounds} ", end="", file=sys.stderr, flush=True)
+        tell(f"round {at + 1} of {rounds} ")
         for host, stream in tasks:
             taken = host.seconds(stream)
             best[host, stream] = min(taken, best.get((host, stream), taken))
-    if sys.stderr.isatty():
-        print("\r" + " " * 30 + "\r", end="", file=sys.stderr)
+    tell("")
     return best
-
-
-def with_more(tasks: list[tuple[Host, str]], more: list[tuple[Host, str]]) -> list[tuple[Host, str]]:
-    """The tasks, with these again before each ten: those of the empty program, whose time is subtracted from all others."""
-    return [task for at in range(0, len(tasks), 10) for task in (*more, *tasks[at : at + 10])]
 
 
 def runs_for(program: Program) -> int:
@@ -145,19 +147,26 @@ def same_replies(streams: Streams, programs: Programs, hosts: list[Host]) -> Non
             sys.exit(f"{name}: {' and '.join(host.name for host in asked)} give different results")
 
 
-def measured_runs(streams: Streams, programs: Programs, hosts: list[Host], rounds: int) -> Found:
-    """Seconds per run of each program on each host, with its frame."""
-    pairs = {
-        name: (streams.of(runs_of, program, 0), streams.of(runs_of, program, runs_for(program)))
-        for name, program in programs.items()
-    }
-    asked = [(name, host) for name, program in programs.items() for host in hosts if host.runs(program)]
-    tasks = [(host, stream) for name, host in asked for stream in pairs[name]]
-    best = least(rounds, with_more(tasks, [(host, stream) for host in hosts for stream in pairs["empty"]]))
-    return {
-        (name, host.name): (best[host, pairs[name][1]] - best[host, pairs[name][0]]) / runs_for(programs[name])
-        for name, host in asked
-    }
+def seconds_of_runs(streams: Streams, host: Host, program: Program, runs: int) -> float:
+    """The processor time of so many runs, with their frames, without the start of the host and the load."""
+    return host.seconds(streams.of(runs_of, program, runs)) - host.seconds(streams.of(runs_of, program, 0))
+
+
+def measured_runs(streams: Streams, programs: Programs, hosts: list[Host], rounds: int) -> Rounds:
+    """Seconds per run of each program on each host, in each round: more than those of the empty program; of that one with its frame. The
+    empty program is measured next to each other one, and the hosts one after the other, as the clock of a processor changes."""
+    found: Rounds = {}
+    for at in range(rounds):
+        tell(f"round {at + 1} of {rounds} ")
+        for name, program in programs.items():
+            runs = runs_for(program)
+            for host in (host for host in hosts if host.runs(program)):
+                seconds = seconds_of_runs(streams, host, program, runs)
+                if name != "empty":
+                    seconds -= seconds_of_runs(streams, host, programs["empty"], runs)
+                found.setdefault((name, host.name), []).append(seconds / runs)
+    tell("")
+    return found
 
 
 def counted_runs(streams: Streams, programs: Programs, hosts: list[Host], count: Count) -> Found:
@@ -175,7 +184,7 @@ def print_runs(streams: Streams, programs: Programs, hosts: list[Host], rounds: 
     counts = counted_runs(streams, programs, hosts, count) if count else None
     for host in hosts:
         told = f", {counts['empty', host.name]:.0f} machine instructions" if counts else ""
-        print(f"a frame with a run of two instructions, {host.name}: {seconds['empty', host.name] * 1e9:.0f} ns{told}")
+        print(f"a frame with a run of two instructions, {host.name}: {median(seconds['empty', host.name]) * 1e9:.0f} ns{told}")
     head = f"{'':18}{'executed':>9}" + "".join(f"{host.name + ', ns':>14}" for host in hosts)
     head += "".join(f"{'to ' + host.name:>9}" for host in hosts[1:])
     print(head + "".join(f"{host.name + ', ins.':>15}" for host in hosts if counts))
@@ -183,16 +192,16 @@ def print_runs(streams: Streams, programs: Programs, hosts: list[Host], rounds: 
         if name == "empty":
             continue
         executed = program.executed - programs["empty"].executed
-        alone = [told_of(seconds, name, host, 1e9 / executed) for host in hosts]
-        line = f"{name:18}{program.executed:>9}" + "".join(f"{shown(it, 3):>14}" for it in alone)
+        taken = [median(seconds[name, host.name]) * 1e9 / executed if host.runs(program) else None for host in hosts]
+        line = f"{name:18}{program.executed:>9}" + "".join(f"{shown(it, 3):>14}" for it in taken)
         line += "".join(f"{shown(ratio(seconds, name, hosts[0], host), 2):>9}" for host in hosts[1:])
         if counts:
-            line += "".join(f"{shown(told_of(counts, name, host, 1 / executed), 2):>15}" for host in hosts)
+            line += "".join(f"{shown(more_of(counts, name, host, 1 / executed), 2):>15}" for host in hosts)
         print(line)
     print_means(programs, seconds, hosts)
 
 
-def print_means(programs: Programs, seconds: Found, hosts: list[Host]) -> None:
+def print_means(programs: Programs, seconds: Rounds, hosts: list[Host]) -> None:
     """The means of the ratios of times, of the programs of this folder and of the filters in C."""
     groups = {"programs of bench": LONG, "filters in C": tuple(name for name in programs if name.endswith(".c"))}
     for group, names in groups.items():
@@ -202,15 +211,17 @@ def print_means(programs: Programs, seconds: Found, hosts: list[Host]) -> None:
             print(line)
 
 
-def ratio(seconds: Found, name: str, host: Host, other: Host) -> float | None:
-    """The time of a program on a host divided by that on another one. None if it does not run on both, or a difference of two times is
-    not above 0."""
-    alone, compared = told_of(seconds, name, host, 1), told_of(seconds, name, other, 1)
-    return alone / compared if alone and compared and min(alone, compared) > 0 else None
+def ratio(seconds: Rounds, name: str, host: Host, other: Host) -> float | None:
+    """The time of a program on a host divided by that on another one: the median over the rounds. None if it does not run on both, or if
+    this is not above 0, as each time is a difference."""
+    pairs = zip(seconds.get((name, host.name), []), seconds.get((name, other.name), []))
+    ratios = [time / compared if compared > 0 else math.inf for time, compared in pairs]
+    found = median(ratios) if ratios else 0
+    return found if 0 < found < math.inf else None
 
 
-def told_of(found: Found, name: str, host: Host, scale: float) -> float | None:
-    """How much more a run takes than one of the empty program, or None if this host does not run the program."""
+def more_of(found: Found, name: str, host: Host, scale: float) -> float | None:
+    """How many more machine instructions a run takes than one of the empty program, or None if this host does not run the program."""
     if (name, host.name) not in found:
         return None
     return (found[name, host.name] - found["empty", host.name]) * scale

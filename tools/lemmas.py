@@ -1,4 +1,5 @@
-"""Public lemmas whose statement is said nowhere in words: neither in a comment above them, nor by their names."""
+"""Files of proofs without a head comment, which says what they show and how; and public lemmas whose statement is said nowhere in words:
+neither in a comment above them, nor by their names."""
 
 from __future__ import annotations
 
@@ -41,7 +42,13 @@ def faults(texts: Mapping[str, str]) -> list[str]:
             for name, text in texts.items() for number, lemma in silent(text)]
 
 
+def headless(texts: Mapping[str, str]) -> list[str]:
+    """The faults of files of proofs that begin with no comment, by their names. Files that only list others need none."""
+    return [f"{name}: its head says what it shows, and how" for name, text in texts.items()
+            if not name.endswith("/Lib.antt") and not text.startswith("-- ")]
+
+
 def checked() -> list[str]:
     """What is wrong in this repository."""
-    files = (path for path in sorted(CRATES.glob("*/proofs/**/*.antt")) if path.name not in OF_TOOLCHAIN)
-    return faults({f"crates/{path.relative_to(CRATES)}": path.read_text() for path in files})
+    texts = {f"crates/{path.relative_to(CRATES)}": path.read_text() for path in sorted(CRATES.glob("*/proofs/**/*.antt"))}
+    return headless(texts) + faults({name: text for name, text in texts.items() if Path(name).name not in OF_TOOLCHAIN})

@@ -1,10 +1,10 @@
-"""tools/lemmas.py finds public lemmas without a sentence, in a comment or as a name."""
+"""tools/lemmas.py finds files of proofs without a head, and public lemmas without a sentence, in a comment or as a name."""
 
 from __future__ import annotations
 
 import unittest
 
-from lemmas import checked, faults, is_sentence
+from lemmas import checked, faults, headless, is_sentence
 
 TEXT = """-- Sums over lists.
 
@@ -30,6 +30,10 @@ class Lemmas(unittest.TestCase):
     def test_names(self) -> None:
         for name, is_one in (("areas_are_apart", True), ("are_apart", False), ("value_in_map", False), ("frame-is-read", True)):
             self.assertEqual(is_sentence(name), is_one, name)
+
+    def test_a_file_has_a_head(self) -> None:
+        texts = {"proofs/A.antt": TEXT, "proofs/f/Answers.antt": TEXT[TEXT.index("pub"):], "proofs/Lib.antt": "pub mod A\n"}
+        self.assertEqual([fault.partition(": ")[0] for fault in headless(texts)], ["proofs/f/Answers.antt"])
 
     def test_the_repository(self) -> None:
         self.assertEqual(checked(), [])

@@ -306,9 +306,9 @@ module _ (env : Environment) (l : Layout) (flat : FlatState) (s : RunState)
         (sym memory_is)
         (returned env l (with_memory flat written) st.written (Scalar answer) word st.stands (r.0 ∙ gives))))
 
--- ---- the call_state of a call
+-- ---- the inputs of a call
 
--- a law of calls in an environment and a state holds at each call_state that is the call_state of such an environment and state
+-- a law of calls in an environment and a state holds for all inputs of a call that are those of such an environment and state
 module _ (Seen : CallState → Type 0) (reply : CallState → CallResult) (words : List ℕ)
     (helper : Helper)
     (follows : (env : Environment) (l : Layout) (flat : FlatState) (s : RunState)

@@ -1,4 +1,4 @@
--- A batch is the same as the calls with its frames.
+-- A batch has the replies and the states of the calls with its frames, one after the other, by induction over its packets.
 use Rattle.std.proofs.Common.{◌≡◌, ℕ, zero, suc, ◌<◌, false, List, [], ◌∷◌, length, set, get_or}
 use Rattle.std.proofs.Common.{Option, Some, None, refl, sym, ap, subst, ◌∙◌, inl, inr, arith, length-set}
 use Rattle.std.specs.Prelude.{pos, slice_get, Result, ◌⊎◌}

@@ -1,4 +1,5 @@
--- Serving one more frame.
+-- `serve`: each end, of the input, of memory or by a failed call, has what the contract promises, by induction over the frames served;
+-- calls of `handle` in order are served as if each tenant were the only one.
 use Rattle.std.proofs.Common.{◌≡◌, ◌≢◌, ℕ, ◌+◌, ◌<◌, ◌≤◌, Ok, Err, Bool, true, false, List, [], ◌∷◌, ◌++◌, length, Option}
 use Rattle.std.proofs.Common.{refl, sym, ap, subst, ◌∙◌, arith, append-nil, append_assoc, length-append, take, lit≤, inl}
 use Rattle.std.specs.Prelude.{slice_get, ◌==◌, if◌then◌else◌}

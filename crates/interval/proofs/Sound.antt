@@ -158,7 +158,6 @@ table_sound n op a b x y w h k s r =
 pub sees_64 : (r : Range) (x : ℕ) → r.hi < 2 ^ 64 → IsMember x r → Sees 64 r x
 sees_64 r x p h = record { member = h; below = p }
 
--- on 32 bits it reads the low half
 -- the range of the low halves of a range is of 32 bits
 pub cut_below : (r : Range) → (range_modulo 32 r).hi < 2 ^ 32
 cut_below r =

@@ -1,3 +1,5 @@
+-- `short_word`: the word is that of the definition, by cases of the number of bytes; the two halves of four or more bytes are those of
+-- `half_word_at`.
 use Rattle.std.proofs.Common.{length}
 use borrow.Author.Tests.{le-leb, lt-leb, lt-ltb, le-ltb}
 use Rattle.seeded_hash.specs.Hashing.{short_word}

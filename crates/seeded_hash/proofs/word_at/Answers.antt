@@ -1,3 +1,4 @@
+-- `word_at`: the number is that of the definition, whose two halves the contract of `half_word_at` gives.
 use Rattle.seeded_hash.specs.Hashing.{word_at}
 use Rattle.seeded_hash.proofs.word_at.Goals as goal
 

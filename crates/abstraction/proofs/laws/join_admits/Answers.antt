@@ -1,3 +1,5 @@
+-- `join_admits`: the join of facts admits what the first facts admit, since a hull has the members of both ranges (`first_joined`);
+-- for the second facts the join is commutative.
 use Rattle.std.proofs.Common.{subst, inl, inr}
 use Rattle.abstraction.specs.Admits.{AdmitsBy}
 use Rattle.abstraction.specs.Laws.{JoinAdmits}

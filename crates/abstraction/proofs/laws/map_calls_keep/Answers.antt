@@ -1,3 +1,5 @@
+-- `map_calls_keep`: a look-up and a load of the direct value give an object that the map has had, since each key has one (`IsMapOf`);
+-- an update and a delete keep the shape, the objects and their bytes in range, by cases of the verdict.
 use Rattle.tagged_model.specs.StateLaws.{found_owned}
 use Rattle.abstraction.proofs.MapCalls.{updated_keeps, removed_keeps}
 use Rattle.abstraction.proofs.DirectValues.{direct_found}

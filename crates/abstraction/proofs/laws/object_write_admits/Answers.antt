@@ -1,3 +1,5 @@
+-- `object_write_admits`: a write of bytes within a value is no fault and keeps its length, and as facts say nothing of these bytes,
+-- they admit the state after it too (`object_over`).
 use Rattle.abstraction.proofs.Objects.{object_over}
 use Rattle.abstraction.proofs.laws.object_write_admits.Goals as goal
 

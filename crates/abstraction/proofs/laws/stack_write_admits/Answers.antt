@@ -1,3 +1,5 @@
+-- `stack_write_admits`: a store that facts allow lies in one stack slot, whose new cell fits the slot's new facts (`cell_written`); all
+-- other cells and their facts are unchanged.
 use Rattle.abstraction.proofs.StackStores.{stack_stored}
 use Rattle.abstraction.proofs.laws.stack_write_admits.Goals as goal
 

@@ -1,3 +1,5 @@
+-- `copy_within`: only the bytes at `to` change, to those at `from`, by the law `accesses_are_in_parts` and the contract of `copy`, since
+-- both addresses are that of the part plus an offset.
 use Rattle.std.proofs.Common.{◌≡◌, ℕ, ◌+◌, ap, sym, subst, ◌∙◌, arith}
 use Rattle.arena.specs.Bytes.{bytes_at}
 use Rattle.arena.specs.Memory.{Memory, size_of, base, offset_of, copied, part_start, part_bytes}

@@ -1,3 +1,5 @@
+-- `store_within`: only the bytes at `at` change, to those of `value`, by the law `accesses_are_in_parts` and the contract of `store`, since
+-- the address is that of the part plus `at`.
 use Rattle.std.proofs.Common.{◌≡◌, ℕ, ◌+◌, ap, sym, subst, ◌∙◌, arith}
 use Rattle.words.specs.Bytes.{low_bytes}
 use Rattle.arena.specs.Memory.{Memory, size_of, base, offset_of, stored, part_start}

@@ -1,3 +1,5 @@
+-- `copy_by_ends`: the first and the last `N` bytes, each written by the contract of `copy_piece`, are all of `bytes`, which has at most
+-- twice as many (`ends_written`).
 use Rattle.std.proofs.Common.{List, ℕ, ◌+◌, ◌-◌, length, drop, ap, ◌∙◌, arith, length-drop}
 use Rattle.std.proofs.lemmas.List.{take_all}
 use Rattle.words.specs.Bytes.{written_at}

@@ -1,3 +1,5 @@
+-- `spelled_double`: the low bytes of the number that `read_double` returns are the bytes that it read, since each of these has the range
+-- of a byte, so that their number spells them.
 use Rattle.std.proofs.Common.{◌≡◌, ℕ, ◌<◌, ◌+◌, length, get_or, ap, sym, subst, ◌∙◌, arith}
 use Rattle.words.specs.Bytes.{number_of, low_bytes, bytes_at}
 use Rattle.words.specs.ByteLaws.{byte_of, length-bytes_at, low_bytes_of_number}

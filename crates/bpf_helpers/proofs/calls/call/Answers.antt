@@ -1,3 +1,6 @@
+-- `call`: the helper with the number `id` is that of the branch of the `match` (`of_helper`), so the contract of the branch's function
+-- is about it: the result represents that of the machine's call (`Followed`), and nothing changes if a word names nothing. Only
+-- a deletion keeps an element apart: look-ups and loads change no map, and an update keeps none apart (`updates_apart`).
 use Rattle.std.proofs.Common.{◌≡◌, Some, Option, option_map, ℤ, refl, sym, ap, subst, ◌∙◌, w32, SFits, to_z, of_z}
 use Rattle.std.specs.Prelude.{slice_index, unwrap_or}
 use Rattle.std.proofs.lemmas.Int.{to_z-of_z}

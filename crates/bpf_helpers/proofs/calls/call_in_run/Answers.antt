@@ -1,3 +1,5 @@
+-- `call_in_run`: by cases of the helper, the contract of the function that the branch calls gives a result that represents that of the
+-- machine's call (`Followed`); an update keeps no element apart (`updates_apart`).
 use Rattle.std.proofs.Common.{sym, subst}
 use Rattle.tagged_model.specs.declared.helper.Helper.{Helper}
 use Rattle.bpf_helpers.specs.Calls.{CallFollows}

@@ -1,3 +1,5 @@
+-- `delete`: if the words name a map and a key in the part (`key_there`), word and maps are those of `remove`; if `bound` or
+-- `traced_offset` returns `None`, they name no key (`no_map`, `no_key`), the word of `Invalid` is returned, and no map changes.
 use Rattle.std.proofs.Common.{Ok, Err, refl, sym, ap, subst, ◌∙◌}
 use Rattle.tagged_model.specs.declared.shape.MapShape.{MapShape}
 use Rattle.bpf_helpers.specs.inside.Flat.{call_of, DeletesNamed}

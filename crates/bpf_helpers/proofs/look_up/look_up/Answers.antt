@@ -1,3 +1,5 @@
+-- `look_up`: if the words name no map or no key in the part (`no_map`, `no_key`), the result 0 is that of the definition; else it is the
+-- address that `address_of` of `Maps` returns, and this is the word of the key's value (`address_word`).
 use Rattle.std.proofs.Common.{◌+◌, option_map, slice_range, sym, ap, ◌∙◌, arith}
 use Rattle.std.specs.Prelude.{unwrap_or}
 use Rattle.tagged_model.specs.declared.shape.MapShape.{MapShape}

@@ -1,3 +1,5 @@
+-- `look_up_among`: the row of `arrays` for the map that the word names has this map's elements and the address of its first value, by
+-- `arrays` of the contract (`listed_at`); so in an array, `address_of` of `Elements` returns the address of the key's value.
 use Rattle.std.proofs.Common.{◌≡◌, ℕ, zero, suc, ◌+◌, ◌-◌, ◌%◌, ◌^◌, ◌<◌, ◌≤◌, List, Some, IsSome}
 use Rattle.std.proofs.Common.{option_map, slice_range, get_or, refl, sym, ap, subst, ◌∙◌, arith}
 use Rattle.std.specs.Prelude.{slice_index, unwrap_or}

@@ -1,3 +1,5 @@
+-- `named_bytes_lie_inside`: bytes at an address that has an offset in the part begin and end in the part, since these are the two tests
+-- of `named_offset` (`is_named`).
 use Rattle.bpf_helpers.proofs.Named.{is_named}
 use Rattle.bpf_helpers.proofs.look_up.named_bytes_lie_inside.Goals as goal
 

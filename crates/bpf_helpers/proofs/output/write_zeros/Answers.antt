@@ -1,3 +1,5 @@
+-- `write_zeros`: a fill of `count` bytes of the lent part is a write of as many zeros into the memory, by the contract of `part_mut` and
+-- the law `writes_are_in_parts` (`lent_written`).
 use Rattle.std.proofs.Common.{◌≡◌, ℕ, ◌+◌, ◌-◌, take, drop, length, replicate, ap, ◌∙◌, arith}
 use Rattle.std.proofs.lemmas.List.{length-replicate, length-take, length-drop}
 use Rattle.bpf_helpers.proofs.Parts.{lent_written, lent_long}

@@ -1,3 +1,5 @@
+-- `put`: `claim` gets the bytes of the key (`key_read`). If it returns an element, the value is copied to this element's offset, which is
+-- unchanged by the law `areas_keep_elements`; if it returns an error, the memory is unchanged.
 use Rattle.std.proofs.Common.{◌≡◌, ℕ, ◌+◌, ◌≤◌, List, slice_range, Ok, Err, refl, ap, subst, ◌∙◌, arith}
 use Rattle.words.specs.Bytes.{bytes_at}
 use Rattle.tagged_model.specs.declared.shape.MapShape.{MapShape}

@@ -1,3 +1,5 @@
+-- `update`: if the words name no map, no key or no value in the part, as `bound` or `traced_offset` finds, the result is the word of an
+-- error, and nothing changes; else they name the key and the value of which the contract of `put` speaks (`pair_found`).
 use Rattle.std.proofs.Common.{refl, sym, ap, subst, ◌∙◌}
 use Rattle.tagged_model.specs.declared.shape.MapShape.{MapShape}
 use Rattle.bpf_helpers.specs.inside.Flat.{call_of, UpdatesNamed}

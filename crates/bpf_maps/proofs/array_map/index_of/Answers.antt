@@ -1,3 +1,4 @@
+-- `index_of`: the bytes of the returned index are those of the key, since each of these is in the range of a byte (`spelled`).
 use Rattle.bpf_maps.proofs.Arrays.{spelled}
 use Rattle.bpf_maps.proofs.array_map.index_of.Goals as goal
 

@@ -1,3 +1,5 @@
+-- `delete`: a rejected deletion leaves the table unchanged, and so the keys and values; else the map of values loses the key and ends
+-- the run as the table does in `remove` and `end_run`, by the law `live_maps_refine_values`.
 use Rattle.std.proofs.Common.{ap, ◌∙◌}
 use Rattle.tagged_model.specs.Table.{after_run}
 use Rattle.bpf_maps.proofs.Called.{on_err, not_removed, keeps, removed}

@@ -1,3 +1,5 @@
+-- `hold_and_release`: the held map keeps its keys and values, since `hold` changes no table and the reference that `release` drops is not
+-- the last; each other map keeps its own by the contracts of both calls.
 use Rattle.std.proofs.Common.{◌≡◌, ◌≢◌, ℕ, ◌<◌, subst, sym, ◌∙◌, arith}
 use Rattle.bpf_maps.specs.Live.{references_at, KeepsMap}
 use Rattle.bpf_maps.proofs.Slots.{same_or_other}

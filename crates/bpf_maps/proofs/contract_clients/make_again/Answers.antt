@@ -1,3 +1,5 @@
+-- `make_again`: the release frees the map's handle and the bytes of its area, so the new map finds a handle and room (`no_fault`), and
+-- `create`, which takes the lowest free handle, takes this one or a lower one.
 use Rattle.std.proofs.Common.{◌≡◌, ◌+◌, ◌<◌, ◌≤◌, length, sym, ap, ◌∙◌, arith}
 use Rattle.bpf_maps.specs.declared.part.TheConstants.{LARGEST_SUM}
 use Rattle.bpf_maps.specs.Live.{area_by, areas, create_fault}

@@ -1,3 +1,6 @@
+-- `make_and_release`: the release frees the handle and the bytes that `create` took, so each handle is free, and the sum of the areas is,
+-- as before; an error of `create` changes neither. Maps that were live have other handles than the new one, and keep their keys and
+-- values by the contracts of both calls.
 use Rattle.std.proofs.Common.{◌≡◌, ◌≢◌, ℕ, ◌+◌, ◌≤◌, is_some, sym, ap, ◌∙◌, true≢false, arith}
 use Rattle.std.specs.Prelude.{is_none, position}
 use Rattle.bpf_maps.specs.Sum.{total}

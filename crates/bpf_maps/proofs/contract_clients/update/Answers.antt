@@ -1,3 +1,5 @@
+-- `update`: a rejected claim leaves the table unchanged, and so the keys and values. After a claim the value is written at its element, so
+-- the map gets it for the key by the law `live_maps_refine_values`, and the others keep theirs by `values_are_written`.
 use Rattle.std.proofs.Common.{◌≡◌, ℕ, ◌+◌, ◌-◌, List, ◌++◌, length, take, drop, sym, ap, subst, ◌∙◌}
 use Rattle.tagged_model.specs.declared.shape.MapShape.{MapShape}
 use Rattle.bpf_maps.specs.Live.{map_in, KeepsMap}

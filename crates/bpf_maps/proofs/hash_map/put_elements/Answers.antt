@@ -1,3 +1,5 @@
+-- `put_elements`: after a turn the list also has the element that was pushed, once, and so each element less than the next one
+-- (`times-next`); its capacity is unchanged, by the contract of `push_reserved`.
 use Rattle.std.proofs.Common.{◌∙◌, ap, arith}
 use Rattle.bpf_maps.specs.KeyTable.{occurrences}
 use Rattle.bpf_maps.proofs.Counts.{times-next}

@@ -1,3 +1,5 @@
+-- `put_elements`: before each turn the list has each element that is less than the next one, once, and no other; its capacity is
+-- that at the call, and is enough for all.
 use Rattle.std.proofs.Common.{◌≡◌, ◌≤◌, ℕ, vec_len, vec_capacity, nat_lt, if◌then◌else◌}
 use Rattle.bpf_maps.specs.KeyTable.{occurrences}
 use Rattle.bpf_maps.proofs.hash_map.put_elements.Given as goal

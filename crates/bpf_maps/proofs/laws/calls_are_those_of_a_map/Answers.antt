@@ -1,3 +1,5 @@
+-- `calls_are_those_of_a_map`: each change of a table of keys is that of its map by definition; in a deletion the number of deleted keys
+-- grows as the list of elements kept apart does.
 use Rattle.std.proofs.Common.{ℕ, [], ◌∷◌, refl, ap, length-append}
 use Rattle.tagged_model.specs.Table.{Table, without}
 use Rattle.bpf_maps.proofs.laws.calls_are_those_of_a_map.Goals as goal

@@ -1,3 +1,5 @@
+-- `close_gap`: each turn corrects the start of one handle's map by `close_up`, or changes nothing if the handle has no key. The other
+-- handles have other keys, so their maps are unchanged. A handle of `MAPS` or more has no map.
 use Rattle.std.proofs.Common.{◌≡◌, ◌≢◌, ℕ, ◌+◌, List, get_or, Option, Some, None, option_map, inl, inr, refl, sym, ap, subst, ◌∙◌, arith}
 use Rattle.std.proofs.lemmas.Bool.{cases_lt}
 use Rattle.std.proofs.lemmas.List.{get_or_past}

@@ -1,3 +1,5 @@
+-- `close_gap`: the maps of the handles so far have their corrected starts, and those of the other handles are unchanged. The slab still has
+-- the handles' maps under `keys`, and its capacity is unchanged.
 use Rattle.std.proofs.Common.{◌≡◌, ℕ, ◌<◌, ◌≤◌, List, Option, None, option_map, get_or}
 use Rattle.slab.specs.Slab.{Slab}
 use Rattle.bpf_maps.specs.declared.stored_map.StoredMap.{StoredMap}

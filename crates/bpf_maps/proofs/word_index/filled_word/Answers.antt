@@ -1,3 +1,4 @@
+-- `filled_word`: the eight bytes are those of the key and then zeros, which add nothing to the number (`zeros_behind`).
 use Rattle.std.proofs.Common.{ℕ, List, ◌-◌, ◌++◌, length, drop, replicate, ◌∙◌, ap}
 use Rattle.std.proofs.lemmas.List.{drop-replicate}
 use Rattle.words.specs.Bytes.{number_of}

@@ -1,3 +1,5 @@
+-- `assemble`: by the three laws a text has at most one program, or at most one fault, and not both. So a program or a fault that
+-- `program_of` returns is the one of the text, unless the fault is `Memory`.
 use Rattle.bpf_text.proofs.TextLaws.{only_is, faulty_is}
 use Rattle.bpf_text.proofs.assembler.assemble.Goals as goal
 

@@ -1,3 +1,5 @@
+-- `instruction`: on a line with an instruction, `resolve` returns the one that is written as the line's form, with the distance to the
+-- label in `labels`, which `found` requires (`form_kept`).
 use Rattle.std.proofs.Common.{◌≡◌, Some, rules}
 use Rattle.text_line.specs.declared.form.Line.TheVariants.{Code}
 use Rattle.bpf_text.proofs.Assembling.{form_kept}

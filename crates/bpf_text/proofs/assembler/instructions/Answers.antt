@@ -1,3 +1,6 @@
+-- `instructions`: each turn adds the instruction of a line without a fault, if it has one, and the line's slots (`goes_on`). A fault that
+-- ends the loop is that of the first faulty line (`stops`). After the last line, no line has a fault, and the instructions are those of all
+-- lines (`ends`). By the precondition, the first definition of each label is in `labels` (`finds_all`).
 use Rattle.std.proofs.Common.{length, List, ◌++◌, ap, ◌∙◌, arith, inr}
 use Rattle.insn_set.specs.declared.insn.Insn.{Insn}
 use Rattle.text_line.specs.Shown.{seen_option, seen_lines}

@@ -1,3 +1,5 @@
+-- `labels`: without lines no label is defined. Each turn adds the definition on one more line, if it is the first of its label, by `note`
+-- (`finds_more`), and the line's slots, at most two, by `line_slots`.
 use Rattle.std.proofs.Common.{ℕ, ◌+◌, List, Bor, ap, ◌∙◌, arith}
 use Rattle.std.specs.Map.{lookup}
 use Rattle.std.specs.Str.{bytes_eq}

@@ -1,3 +1,5 @@
+-- `note`, if the line defines a name without a definition: after `insert` this name has the new one, and each other name what it had
+-- (`noted`).
 use Rattle.std.proofs.Common.{◌≡◌, sym, ap, ◌∙◌, Some, None, false}
 use Rattle.std.specs.Prelude.{is_some, not}
 use Rattle.std.proofs.lemmas.Map.Text.{hash_map_updates_str}

@@ -1,3 +1,5 @@
+-- `program_of`: the lines that `read_lines` returns are well formed, as `instructions` requires (`all_formed`). A fault of `program` is
+-- `Memory`, or `Empty`, which is the text's own, since no line has a fault and the lines have no slot (`no_slot_fault`).
 use Rattle.std.proofs.Common.{◌≡◌, List, ℕ, Option, Bor, map, sym, ap, ◌∙◌, subst}
 use Rattle.std.specs.List.{AllByRecursion}
 use Rattle.std.proofs.lemmas.Result.{IfErr-weaker}

@@ -1,3 +1,4 @@
+-- `read_lines`: each turn adds what `read_line` returns for one more line, so the lines up to it are read (`read_more`).
 use Rattle.std.proofs.Common.{List, ℕ, [], Bor}
 use Rattle.bpf_text.proofs.LabelLines.{read_more}
 use Rattle.bpf_text.proofs.assembler.read_lines.Goals as goal

@@ -1,3 +1,6 @@
+-- `disassemble`: each turn appends the line of the instruction that begins at the slot (`printed_one`), or nothing if none does
+-- (`printed_none`). After the last slot all instructions have begun, so the text is the printed one, and by the law
+-- `printed_text_is_assembled` it assembles to the program.
 use Rattle.std.proofs.Common.{◌≡◌, arith, subst, ◌∙◌, ◌++◌, ◌+◌, ◌∷◌, ap, sym, ℕ, List, [], append-nil, append_assoc}
 use Rattle.std.specs.Option.{option_copied}
 use Rattle.std.specs.String.{string_bytes}

@@ -1,3 +1,5 @@
+-- `write_map_value`: the register's name, the descriptor and the offset, which are appended one after another, are the line of the
+-- instruction (`printed_map_value`).
 use Rattle.std.proofs.Common.{◌≡◌, ◌++◌, OnOk, List, ℕ, ℤ, [], codes, subst, ap, ◌∙◌, w32}
 use Rattle.std.specs.String.{string_bytes}
 use Rattle.std.proofs.lemmas.Int.{to_z-of_z}

@@ -1,3 +1,5 @@
+-- `append_slot`, by cases of the line: it is blank (`empty_line`), its digits are no slot (`bad_line`), or it has a slot (`slot_line`),
+-- which is appended, or for which a program has no room. Whether it has room follows from the number of bytes so far (`fits`, `passes`).
 use Rattle.std.proofs.Common.{◌≡◌, List, ℕ, eqb, true, false, length, arith, ap, sym, ◌∙◌, append-nil, inr, unwrap_or, ◌++◌, Option, []}
 use Rattle.text_line.specs.Blanks.{stripped}
 use Rattle.bpf_text.specs.HexText.{hex_line, hex_fault}

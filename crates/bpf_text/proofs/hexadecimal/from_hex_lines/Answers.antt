@@ -1,3 +1,5 @@
+-- `from_hex_lines`: if `slots_on` returns bytes, no line has a fault. If these are some, they are the slots of the text, which then has no
+-- fault (`faultless`). If they are none, `Empty` is the text's fault, and its only one (`seen`).
 use Rattle.std.proofs.Common.{◌≡◌, arith, sym, ap, ◌∙◌, ℕ, List, map, inr, length, refl, Bor}
 use Rattle.bpf_text.specs.Lines.{text_lines}
 use Rattle.bpf_text.specs.HexText.{hex_bytes, hex_fault_at}

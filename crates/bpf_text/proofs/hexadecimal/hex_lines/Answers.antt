@@ -1,3 +1,5 @@
+-- `hex_lines`: each turn appends the line of the next eight bytes (`hex_text-append`), and at the end fewer than eight are left, which have
+-- no line (`hex_text_short`). The law `hex_lines_are_read` gives the clause `slots`.
 use Rattle.std.proofs.Common.{arith, ap, sym, ◌∙◌, append-nil, append_assoc, ◌≡◌, ◌++◌, ◌∷◌, [], List, ℕ, subst}
 use Rattle.std.specs.String.{string_bytes}
 use Rattle.bpf_text.specs.HexText.{hex_text, IsHexText}

@@ -1,3 +1,5 @@
+-- `slots_on`: by `append_slot` a line without a fault adds its bytes (`bytes_more`), and no line up to it has a fault (`none_more`). A line
+-- at which the loop ends is the first with a fault, unless memory is refused (`first_here`).
 use Rattle.std.proofs.Common.{[], List, ℕ, Bor, arith}
 use Rattle.bpf_text.proofs.HexLines.{none_more, bytes_more, first_here}
 use Rattle.bpf_text.proofs.hexadecimal.slots_on.Goals as goal

@@ -1,3 +1,4 @@
+-- `split_lines`: `split` yields the parts of the text between its line feeds, in order, and `collect` keeps all that it yields.
 use Rattle.std.proofs.Common.{lit<}
 use Rattle.std.proofs.lemmas.Iterator.Consumers.{map_from_collect}
 use Rattle.std.proofs.lemmas.Iterator.Splits.{YieldsList-from_str_split}

@@ -1,3 +1,5 @@
+-- `fit_all`: the contexts so far, followed by those in the words that are left, are all contexts as a run is given them. The words that are
+-- left suffice for the contexts that are left.
 use Rattle.std.proofs.Common.{◌≡◌, ◌*◌, ◌≤◌, ◌++◌, length, ◌-◌}
 use Rattle.bpfhost_c.specs.Contexts.{fitted_all}
 use Rattle.bpfhost_c.proofs.contexts.fit_all.Given as goal

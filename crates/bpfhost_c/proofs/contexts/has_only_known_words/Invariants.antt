@@ -1,3 +1,4 @@
+-- `has_only_known_words`: the words after the known ones are all 0 exactly if those among them that are left are.
 use Rattle.std.proofs.Common.{◌≡◌, drop, nat_eq}
 use Rattle.std.specs.List.{list_all}
 use Rattle.bpfhost_c.proofs.contexts.has_only_known_words.Given as goal

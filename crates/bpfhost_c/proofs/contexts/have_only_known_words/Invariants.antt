@@ -1,3 +1,5 @@
+-- `have_only_known_words`: the library knows all words of the contexts exactly if it knows those of the contexts that are left. The words
+-- that are left suffice for these.
 use Rattle.std.proofs.Common.{◌≡◌, ◌*◌, ◌≤◌, length, ◌-◌}
 use Rattle.bpfhost_c.specs.Contexts.{have_known_words}
 use Rattle.bpfhost_c.proofs.contexts.have_only_known_words.Given as goal

@@ -1,3 +1,4 @@
+-- `named_by`: the list has the descriptors so far that have an object, in order, each with its object.
 use Rattle.std.proofs.Common.{◌≡◌, take}
 use Rattle.bpfhost_c.specs.Prepares.{named_by}
 use Rattle.bpfhost_c.proofs.preparing.named_by.Given as goal

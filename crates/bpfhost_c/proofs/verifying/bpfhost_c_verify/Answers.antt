@@ -1,3 +1,5 @@
+-- `bpfhost_c_verify`: what is written is the log that `log_in` returns. It is that of the slots with the tenant's objects, since the
+-- session is the handle's, and the conversion keeps the tenant's number.
 use Rattle.std.proofs.Common.{rules, ◌≡◌, ℕ, List, slice_get, string_bytes, subst}
 use Rattle.host_core.specs.State.{TenantState}
 use Rattle.host_core.specs.Targets.{targets_if_served}

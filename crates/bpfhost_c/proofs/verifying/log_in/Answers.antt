@@ -1,3 +1,4 @@
+-- `log_in`: `targets` returns the objects that the tenant's descriptors name, and `log_of_slots` the log of the slots with them.
 use Rattle.std.proofs.Common.{List, IfOk, string_bytes, subst, ◌∙◌}
 use Rattle.tagged_model.specs.declared.shape.Named.{Named}
 use Rattle.log_core.specs.Slots.{IsLogOfSlots}

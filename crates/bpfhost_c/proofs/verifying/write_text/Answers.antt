@@ -1,3 +1,5 @@
+-- `write_text`, in a room that is not empty: as many bytes are copied as fit, so with the zero after them the room has the text
+-- (`text_ended`).
 use Rattle.std.proofs.Common.{rules, ◌≡◌, ℕ, ◌<◌, List, ◌++◌, take, drop, length, set, ap, ◌∙◌, arith}
 use Rattle.bpfhost_c.specs.Logs.{fitting}
 use Rattle.bpfhost_c.proofs.Rooms.{text_ended}

@@ -1,3 +1,4 @@
+-- `create_held`: before the first turn the map is live and has one reference, by the contract of `create` (`is_created`).
 use Rattle.bpf_maps.specs.Live.{create_fault}
 use Rattle.cases_maps.proofs.Created.{is_created}
 use Rattle.cases_maps.proofs.live_maps.create_held.Goals as goal

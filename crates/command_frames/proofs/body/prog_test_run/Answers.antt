@@ -1,3 +1,5 @@
+-- `prog_test_run`: a body that is long enough is read as its descriptor, its context words and its packet, by the contracts of `word` and
+-- `read_words`; the slices of the body are its bytes from their offsets on.
 use Rattle.std.proofs.Common.{◌-◌, arith, take, drop, length}
 use Rattle.std.proofs.lemmas.List.{take_rest}
 use Rattle.command_frames.proofs.Parsing.{run_read}

@@ -1,3 +1,5 @@
+-- `parse`: a frame that is not too long is parsed as the command of the number in its head, with the bytes after the head as its body, by
+-- the contracts of `read_u16` and `command_in`.
 use Rattle.std.proofs.Common.{◌-◌, ◌∙◌, ap, arith, take, drop, length}
 use Rattle.std.proofs.lemmas.List.{take_rest}
 use Rattle.byteorder.specs.Endian.{little_number}

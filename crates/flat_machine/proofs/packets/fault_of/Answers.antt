@@ -1,3 +1,4 @@
+-- `fault_of`: if the quick test is true, no packet has a fault, by the contract of `pass_quick_test`.
 use Rattle.std.proofs.Common.{sym}
 use Rattle.flat_machine.proofs.packets.fault_of.Goals as goal
 

@@ -1,3 +1,5 @@
+-- `first_fault`: a fault that a test finds is that of the first remaining packet, and so of all packets, by the invariant of the loop. If
+-- the packet fits, the fault of all is that of the packets after it. Without further packets there is none.
 use Rattle.std.proofs.Common.{◌≡◌, ◌+◌, ◌∷◌, drop, get_or, Some, sym, ◌∙◌, arith}
 use Rattle.std.proofs.lemmas.List.{at_drop_more, at_drop_all}
 use Rattle.flat_machine.specs.Packets.{packets_fault}

@@ -1,3 +1,5 @@
+-- `pass_quick_test`: the collected bits are no less than any length or end. So if they pass the tests, no end has the highest bit, and each
+-- length is short and has not wrapped: each packet so far fits, and the fault of all is that of the packets after them.
 use Rattle.std.proofs.Common.{ℕ, ◌+◌, ◌-◌, ◌%◌, ◌<◌, ◌≤◌, ◌^◌, drop, get_or, refl, sym, ◌∙◌, arith}
 use Rattle.std.proofs.lemmas.Bool.{leb-true}
 use Rattle.std.proofs.lemmas.List.{at_drop_more, at_drop_all}

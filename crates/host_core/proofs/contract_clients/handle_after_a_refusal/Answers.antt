@@ -1,3 +1,5 @@
+-- `handle_after_a_refusal`: the second call is by itself a stretch of the two calls of `handle`. So if its reply does not refuse memory, it
+-- is that of the tenant's own machine, by `each_stretch_is_served_alone`.
 use Rattle.host_core.specs.Handled.{Handles}
 use Rattle.host_core.proofs.ServedAlone.{one_more_seen}
 use Rattle.host_core.proofs.contract_clients.handle_after_a_refusal.Goals as goal

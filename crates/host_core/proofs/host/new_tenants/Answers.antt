@@ -1,3 +1,4 @@
+-- `new_tenants`: each turn adds one record that has the state of a new tenant and no births, by the contract of `SavableTenant::new`.
 use Rattle.std.proofs.Common.{[], ◌∷◌, length, ap, ◌∙◌, arith, length-append}
 use Rattle.host_core.specs.States.{births_in, states_from}
 use Rattle.host_core.proofs.Tenants.{new_more, no_births_more}

@@ -1,3 +1,4 @@
+-- `fill`: the bytes that one more read takes, by the reader's contract, follow those at the front of the buffer.
 use Rattle.std.proofs.Common.{◌-◌, length, subst, rules}
 use Rattle.std.specs.Io.KnownBytes.{Consumes}
 use Rattle.std.proofs.KnownBytes.{Consumes-trans}

@@ -1,3 +1,4 @@
+-- `number_in`: the encoding of the number that `read_u32` makes of four bytes has these bytes again.
 use Rattle.std.proofs.Common.{ap, ◌∙◌, arith}
 use Rattle.byteorder.specs.Endian.{little_bytes}
 use Rattle.host_core.proofs.Numbers.{bytes_of_number}

@@ -1,3 +1,5 @@
+-- `read_body`: a frame that fits is kept whole, by the contract of `read_whole`; of a longer one the buffer, itself longer than any valid
+-- frame, begins with the frame's head, by that of `read_long`.
 use Rattle.std.proofs.Common.{◌≡◌, take, arith, length-take, take_all, refl, ap, ◌∙◌, inl, inr}
 use Rattle.host_core.specs.declared.reading.TheConstants.{FRAME_BUFFER}
 use Rattle.host_core.proofs.reading.read_body.Goals as goal

@@ -1,3 +1,4 @@
+-- `read_frame`: if `read_body` fails, the length and the bytes after it are no whole frame, since these are fewer than the length says.
 use Rattle.std.proofs.Common.{◌++◌, ◌<◌, ◌^◌, arith, length-append}
 use Rattle.byteorder.specs.Endian.{little_bytes}
 use Rattle.std.specs.Io.KnownBytes.{Consumes}

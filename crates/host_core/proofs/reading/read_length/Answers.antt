@@ -1,3 +1,4 @@
+-- `read_length`: the four bytes that `fill` takes are those of the number, by the contract of `number_in`.
 use Rattle.std.proofs.Common.{◌≡◌, take, subst, sym, ◌∙◌, arith, take_all}
 use Rattle.std.specs.Io.KnownBytes.{Consumes}
 use Rattle.host_core.proofs.reading.read_length.Goals as goal

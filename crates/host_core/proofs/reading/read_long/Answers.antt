@@ -1,3 +1,5 @@
+-- `read_long`: `read_whole` and `skip` together take the frame, and `skip` writes only to bytes after the head, so the buffer keeps that.
+-- If `skip` fails, the bytes that both have taken are fewer than the frame's.
 use Rattle.std.proofs.Common.{◌≡◌, ◌-◌, ◌≤◌, ◌++◌, length, take, arith, length-append, length-take, take_all, subst, sym, ◌∙◌}
 use lib.Seq.{take-append-le}
 use borrow.Rule.Slice.PartMut.{put_mid}

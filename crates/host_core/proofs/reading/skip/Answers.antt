@@ -1,3 +1,4 @@
+-- `skip`: each turn adds the bytes that `read_whole` takes to those before; if it fails, all these are fewer than `count`.
 use Rattle.std.proofs.Common.{◌++◌, take, arith, rules, length-append, length-take}
 use Rattle.std.proofs.KnownBytes.{Consumes-trans}
 use Rattle.host_core.specs.inside.Reading.{ReadsFewer}

@@ -1,3 +1,6 @@
+-- `serve`: each turn serves one more frame, by the contract of `serve_frame`. By cases of how the call ends (no memory, the end of the
+-- input, a fault in a frame, or the limit, with its three results of `is_at_end`), what was read and written is what `ServesStream` says;
+-- what each tenant gets is by the law `calls_are_served_alone`.
 use Rattle.std.proofs.Common.{◌≡◌, refl, subst, arith}
 use Rattle.host_core.specs.inside.Frame.{ServesFrameOrEnds}
 use Rattle.host_core.proofs.Serving.{answered_none, ends_served, ends_stopped, ends_unread, frame_done, end_done}

@@ -1,3 +1,5 @@
+-- `serve_frame`: the buffer has what `read_frame` keeps, all of the frame on which its reply depends, so the contract of `handle` gives the
+-- reply to the frame itself; by that of `write_whole` the reply is written whole, or a prefix of it if a call of the writer fails.
 use Rattle.std.proofs.Common.{ℕ, List, take, subst, arith}
 use Rattle.host_core.proofs.Buffers.{still_holds}
 use Rattle.std.specs.Io.KnownBytes.{Appends}

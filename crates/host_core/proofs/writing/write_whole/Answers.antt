@@ -1,3 +1,5 @@
+-- `write_whole`: one more write takes the front of the rest, by the writer's contract, so a longer prefix of the bytes is written, and the
+-- new rest follows it.
 use Rattle.std.proofs.Common.{◌+◌, length, subst, ap, ◌∙◌, arith, rules, length-drop}
 use Rattle.std.proofs.lemmas.List.{take_rest}
 use Rattle.std.specs.Io.KnownBytes.{Appends}

@@ -1,3 +1,4 @@
+-- `exit_is_decoded`: the bytes are the spelling of the exit, so by `only` of `decode` the exit is the result.
 use Rattle.std.proofs.Common.{◌≡◌, true, refl}
 use Rattle.insn_set.specs.declared.insn.Insn.TheVariants.{Exit}
 use Rattle.insn_set.specs.Spelling.{spelling}

@@ -1,3 +1,5 @@
+-- `faults_at_front`: the lemma `faults` computes the fault of each of the three examples, and by the contract of `fault_kind_at_front` the
+-- result is its kind.
 use Rattle.std.proofs.Common.{◌≡◌, true}
 use Rattle.insn_codec.specs.declared.fault.FaultKind.TheVariants.{Reserved, Register, SecondSlot}
 use Rattle.insn_codec.proofs.Vectors.{faults}

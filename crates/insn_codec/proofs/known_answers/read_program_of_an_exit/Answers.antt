@@ -1,3 +1,4 @@
+-- `read_program_of_an_exit`: the bytes spell the program of an exit, so by `only` of `read_program` this is returned, and it has one slot.
 use Rattle.std.proofs.Common.{◌≡◌, [], ◌∷◌, ap, refl, lit≤, ◌∙◌}
 use Rattle.insn_set.specs.declared.insn.Insn.TheVariants.{Exit}
 use Rattle.insn_set.specs.Program.{slot_count}

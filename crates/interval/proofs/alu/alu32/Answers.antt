@@ -1,3 +1,5 @@
+-- `alu32`, for all operators but a byte-order conversion: if the low halves that are read, in the ranges of `range_of_low_word`, are
+-- constants, the constant that `operate` computes is the table's range, else the result of `general_range` is; the table is sound.
 use Rattle.std.proofs.Common.{sym, arith, ◌∙◌}
 use Rattle.interval.proofs.Exact.{narrow_constants, narrow_spread}
 use Rattle.interval.proofs.alu.alu32.Goals as goal

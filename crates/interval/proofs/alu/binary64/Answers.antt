@@ -1,3 +1,5 @@
+-- `binary64`: if the operands that are read are constants, the constant that `alu` computes is the table's range, else the result of
+-- `alu_range` is; the table is sound, so the range includes the result of every two members.
 use Rattle.std.proofs.Common.{sym, arith, ◌∙◌}
 use Rattle.words.specs.declared.operator.Operator.TheVariants.{Binary}
 use Rattle.interval.proofs.Exact.{wide_constants, wide_spread}

@@ -1,3 +1,5 @@
+-- `unary64`: if the operands that are read are constants, the constant that `operate` computes is the table's range, else the result of
+-- `general_range` is; the table is sound, so the range includes the result of every two members.
 use Rattle.std.proofs.Common.{sym, arith, ◌∙◌}
 use Rattle.interval.proofs.Exact.{wide_constants, wide_spread}
 use Rattle.interval.proofs.alu.unary64.Goals as goal

@@ -1,3 +1,5 @@
+-- `most_with_digits`: all ones of a word, shifted right by the leading zeros of a number, are as many ones as the number has digits, and so
+-- no less than the number; 0 has no digits.
 use Rattle.std.proofs.Common.{ap, arith, ◌∙◌, ◌^◌, ◌-◌, sym}
 use Rattle.interval.specs.Table.{binary_digits}
 use Rattle.interval.proofs.Digits.{below_digits, digits_shifted, no_digits}

@@ -1,3 +1,4 @@
+-- `edges_are_words`: by cases of the comparison, the ranges on its edges are ranges of words, by the lemma `refined_words` for any width.
 use Rattle.interval.proofs.EdgeLemmas.{refined_words}
 use Rattle.interval.proofs.laws.edges_are_words.Goals as goal
 

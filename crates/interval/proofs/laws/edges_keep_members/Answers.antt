@@ -1,3 +1,5 @@
+-- `edges_keep_members`: by cases of the comparison, two members that take an edge are members of the ranges on it, by the lemma
+-- `refined_keep` for any width.
 use Rattle.interval.proofs.EdgeLemmas.{refined_keep}
 use Rattle.interval.proofs.laws.edges_keep_members.Goals as goal
 

@@ -1,3 +1,5 @@
+-- `results_are_members`: the table of ranges is sound (`table_sound`) for what the operator reads of each operand, the whole word on 64
+-- bits, its low half on 32.
 use Rattle.std.proofs.Common.{arith}
 use Rattle.interval.proofs.Sound.{table_sound, sees_64, sees_32}
 use Rattle.interval.proofs.laws.results_are_members.Goals as goal

@@ -1,3 +1,5 @@
+-- `results_are_words`: by cases of the operator, the range in the table is one of words (`table_fits`), if the ranges that are read are of
+-- the operator's width; those of low halves are (`cut_below`).
 use Rattle.std.proofs.Common.{arith}
 use Rattle.interval.proofs.Sound.{cut_below}
 use Rattle.interval.proofs.Fits.{table_fits}

@@ -1,3 +1,4 @@
+-- `scaled`: if the high end is more than the greatest number shifted right, the high end shifted left does not fit the width.
 use Rattle.std.proofs.Common.{arith}
 use Rattle.std.proofs.lemmas.Grind.{common_steps}
 use Rattle.interval.proofs.ShiftLemmas.{shifted_back_above}

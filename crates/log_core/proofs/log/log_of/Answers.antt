@@ -1,3 +1,5 @@
+-- `log_of`: the clauses are those of `into_log`, since by the contract of `judge` it has the facts and the verdict of this program, and by
+-- that of `listing_of` the lines end in the verdict.
 use Rattle.log_core.proofs.log.log_of.Goals as goal
 
 pub returns-clause-verdict : goal.returns-clause-verdict

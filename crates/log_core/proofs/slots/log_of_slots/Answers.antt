@@ -1,3 +1,4 @@
+-- `log_of_slots`: if `read_program` returns a program, the slots spell it, and `log_without_facts` makes its log, by both contracts.
 use Rattle.std.proofs.Common.{inl}
 use Rattle.std.proofs.lemmas.Result.{IfOk-weaker}
 use Rattle.log_core.proofs.slots.log_of_slots.Goals as goal

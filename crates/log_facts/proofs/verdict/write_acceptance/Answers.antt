@@ -1,3 +1,4 @@
+-- `write_acceptance`: the line of the cost, by the contract of `write_cost`, and the line that `push_str` appends are the verdict.
 use Rattle.std.proofs.Common.{◌≡◌, ◌∙◌, ap, ℕ, List, ◌++◌, Result, Ok, Err, OnOk, is_ok, if◌then◌else◌}
 use Rattle.log_facts.specs.Said.{cost_line, accepted_line}
 use Rattle.verifier.specs.declared.cost.Cost.{Cost}

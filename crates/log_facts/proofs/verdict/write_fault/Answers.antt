@@ -1,3 +1,4 @@
+-- `write_fault`: the refusal that `from` makes is that of the fault, so `writeln!` appends its text and a line feed.
 use Rattle.std.proofs.Common.{◌≡◌, ap, rules}
 use Rattle.verifier.specs.Judgement.{refusal_of_program, refusal_text}
 use Rattle.log_facts.proofs.verdict.write_fault.Goals as goal

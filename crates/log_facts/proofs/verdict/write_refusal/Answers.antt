@@ -1,3 +1,4 @@
+-- `write_refusal`: the line of the fault, by the contract of `write_fault`, and `why`, which `push_str` appends, are the verdict.
 use Rattle.std.proofs.Common.{◌≡◌, ◌∙◌, ap, ℕ, List, ◌++◌, Result, Ok, Err, OnOk, is_ok, if◌then◌else◌}
 use Rattle.log_facts.specs.Said.{refusal_line}
 use Rattle.verifier.specs.declared.fault.VerifyFault.{VerifyFault}

@@ -1,3 +1,4 @@
+-- The text is whole lines: it is empty, or ends with a line feed.
 use Rattle.std.proofs.Common.{string_bytes}
 use Rattle.log_facts.specs.Said.{AreLines}
 use Rattle.log_listing.proofs.lines.write_lines.Given as goal

@@ -1,3 +1,5 @@
+-- `copy_entries`: each turn adds the next entry to the rows (`take_next`), by the contracts of `get_index` and `push_reserved`; after the
+-- last turn the rows are all entries from `start` on.
 use Rattle.std.proofs.Common.{◌∙◌, ◌+◌, ℕ, List, [], ◌∷◌, ◌++◌, drop, sym, ap, arith}
 use Rattle.std.proofs.lemmas.List.{take_all, length-drop}
 use Rattle.ordered_keys.proofs.Apart.{take_next}

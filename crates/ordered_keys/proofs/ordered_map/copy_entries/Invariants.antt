@@ -1,3 +1,5 @@
+-- The rows are the first `at` of the table's entries from `start` on. Their capacity is unchanged, and suffices for all entries from
+-- `start` on.
 use Rattle.std.proofs.Common.{◌≡◌, ◌+◌, ◌≤◌, take, drop, vec_len, vec_capacity}
 use Rattle.indexmap.specs.IndexMap.{index_map_len}
 use Rattle.ordered_keys.proofs.ordered_map.copy_entries.Given as goal

@@ -1,3 +1,5 @@
+-- `next_element`, by cases of `has_element`: an element with an entry is in the order, as `after` requires (`has_entry`), and nothing
+-- follows one without an entry (`has_no_entry`).
 use Rattle.std.proofs.Common.{ℕ, ◌∙◌, Option, sym, ap}
 use Rattle.ordered_keys.specs.inside.Ordered.{next_of_elements}
 use Rattle.ordered_keys.proofs.Behind.{has_entry, has_no_entry}

@@ -1,3 +1,5 @@
+-- `put_all`: the key of each row is absent in the table before the row is put, since no two entries of the table and the rows have equal
+-- keys (`absent_before`). Each turn puts one row last, by the contract of `put_last`, so after the loop all rows follow the old entries.
 use Rattle.std.proofs.Common.{◌≡◌, ◌+◌, ◌∙◌, ℕ, List, [], ◌∷◌, ◌++◌, length, take, Option, Some, slice_index_or, sym, ap, arith, append_assoc}
 use Rattle.std.specs.Map.{lookup}
 use Rattle.std.proofs.Math.Seq.{take-append-add}

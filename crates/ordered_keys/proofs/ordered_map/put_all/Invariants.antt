@@ -1,3 +1,5 @@
+-- The table has its old entries and then the first `index` rows, and has lost room for at most as many. At the call it had room for all
+-- rows, and no two keys of its entries and the rows are equal.
 use Rattle.std.proofs.Common.{◌≡◌, ◌+◌, ◌≤◌, ◌++◌, length, take}
 use Rattle.indexmap.specs.IndexMap.{spare}
 use Rattle.ordered_keys.specs.inside.Ordered.{AreApart}

@@ -1,3 +1,5 @@
+-- `put_last`: the new entry follows all others, by the contract of `insert` of the index map and since the key is absent
+-- (`insert_entry-new`).
 use Rattle.std.proofs.Common.{◌∙◌}
 use Rattle.indexmap.proofs.CallerLemmas.{insert_entry-new}
 use Rattle.ordered_keys.proofs.ordered_map.put_last.Goals as goal

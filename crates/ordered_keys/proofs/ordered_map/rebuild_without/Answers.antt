@@ -1,3 +1,6 @@
+-- `rebuild_without`: the first half of the swapped table, and the second without its last entry, are the old entries after a swap removal
+-- (`rest_is`); that last entry is the one at `index` of the old table (`taken_is`). As `put_all` requires, no two entries that are left
+-- have equal keys (`apart_left`), since the table's keys are distinct, by the contract of `len`.
 use Rattle.std.proofs.Common.{◌≡◌, ◌<◌, ◌∙◌, ◌-◌, ◌/◌, ℕ, List, Some, ◌++◌, length, take, drop, slice_get, get_or, sym, ap, subst, arith}
 use Rattle.std.proofs.lemmas.Option.{same_Some}
 use Rattle.std.specs.List.{swap, swap_remove}

@@ -1,3 +1,5 @@
+-- `join_group`: each turn writes the join of the next slot of the group, by the contract of `join_slot`; so after the loop the slots of the
+-- group are joined, and all others unchanged (by cases: before, in or after the group). While each join returns false, no slot changes.
 use Rattle.std.proofs.Common.{◌≡◌, ℕ, ◌+◌, ◌*◌, ◌<◌, ◌≤◌, ◌==◌, arith, rules, set, length-set, sym, ap, ap₂, ◌∙◌, refl, inl, inr}
 use Rattle.std.proofs.lemmas.List.{get_or_default, set-get_or}
 use Rattle.std.proofs.lemmas.Bool.{false≢true, cond-true, cond-false, eq-eqb, ne_eqb, cases_lt}

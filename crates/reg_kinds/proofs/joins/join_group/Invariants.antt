@@ -1,3 +1,5 @@
+-- The slots before `i` are as after the join of the group; those from `i` on, and all registers, are as at the call. While `changes` is
+-- false, no slot has changed.
 use Rattle.std.proofs.Common.{◌≡◌, ℕ, ◌<◌, ◌≤◌, false, length, get_or}
 use Rattle.reg_kinds.specs.declared.kind.Slot.TheVariants.{Bytes}
 use Rattle.reg_kinds.specs.Kinds.{slot_at}

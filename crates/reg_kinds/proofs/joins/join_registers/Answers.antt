@@ -1,3 +1,5 @@
+-- `join_registers`: each call of `join_register` makes the number of joined registers greater by one, by its contract (`one_joined`); after
+-- the last call all registers are joined, and the stack is unchanged (`all_joined`).
 use Rattle.std.proofs.Common.{rules, arith}
 use Rattle.reg_kinds.specs.declared.facts.Facts.{Facts}
 use Rattle.reg_kinds.proofs.RegisterJoins.{AreJoinedBelow, none_joined, one_joined, all_joined}

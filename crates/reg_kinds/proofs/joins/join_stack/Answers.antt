@@ -1,3 +1,5 @@
+-- `join_stack`: each turn writes the join of the next stack slot, by the contract of `join_slot`; after the loop all slots are joined, and
+-- no register has changed.
 use Rattle.std.proofs.Common.{◌≡◌, arith, length-set, ap₂, ◌∙◌}
 use Rattle.std.proofs.lemmas.List.{get_or_default}
 use Rattle.reg_kinds.specs.declared.kind.Slot.TheVariants.{Bytes}

@@ -1,3 +1,5 @@
+-- The stack slots before `i` are the joins of those of `facts` at the call and of `edge`; those from `i` on, and all registers, are as at
+-- the call.
 use Rattle.std.proofs.Common.{◌≡◌, ℕ, ◌<◌, ◌≤◌, length, get_or}
 use Rattle.reg_kinds.specs.declared.kind.Slot.TheVariants.{Bytes}
 use Rattle.reg_kinds.specs.Kinds.{slot_at}

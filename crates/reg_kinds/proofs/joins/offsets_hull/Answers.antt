@@ -1,3 +1,5 @@
+-- `offsets_hull`: the pointer from the lesser of the low offsets to the greater of the high ones is the hull (`hull_is`), by the contracts
+-- of `min`, `max` and `ValuePointer::new`, since the offsets fit their type.
 use Rattle.std.proofs.Common.{FitsSigned, w32, rules}
 use Rattle.reg_kinds.proofs.PointerLemmas.{hull_is}
 use Rattle.reg_kinds.proofs.joins.offsets_hull.Goals as goal

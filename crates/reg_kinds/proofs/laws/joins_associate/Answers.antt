@@ -1,3 +1,5 @@
+-- `joins_associate`: the join of kinds is associative, since the hull of ranges is commutative and associative (`hull_is_a_join`); the
+-- joins of slots and of facts follow from it.
 use Rattle.reg_kinds.specs.Laws.{KindsAssociate, SlotsAssociate}
 use Rattle.reg_kinds.proofs.KindGroups.{kinds_associate}
 use Rattle.reg_kinds.proofs.FactLaws.{slots_associate, facts_associate}

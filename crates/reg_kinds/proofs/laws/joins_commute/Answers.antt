@@ -1,3 +1,5 @@
+-- `joins_commute`: the join of kinds is commutative, since the hull of ranges is (`hull_is_a_join`); the joins of slots and of facts follow
+-- from it.
 use Rattle.reg_kinds.specs.Laws.{KindsCommute, SlotsCommute}
 use Rattle.reg_kinds.proofs.KindOrder.{kinds_commute}
 use Rattle.reg_kinds.proofs.FactLaws.{slots_commute, facts_commute}

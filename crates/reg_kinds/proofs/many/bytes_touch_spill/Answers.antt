@@ -1,3 +1,5 @@
+-- `bytes_touch_spill`: a touched spill that the loop finds is one of all slots (`one_below`). If it finds none, there is none, since a slot
+-- that it leaves out ends before the bytes or begins after them (`spill_apart`).
 use Rattle.std.proofs.Common.{sym, inl, inr, ⊎_elim, arith, below_more}
 use Rattle.std.proofs.lemmas.Bool.{cases_lt}
 use Rattle.reg_kinds.proofs.SlotTests.{none_below, one_below, spill_apart}

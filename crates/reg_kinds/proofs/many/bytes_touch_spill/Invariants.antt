@@ -1,3 +1,4 @@
+-- No stack slot before `index` is a spill that the bytes touch.
 use Rattle.std.proofs.Common.{◌≡◌, ℕ, ◌<◌, false}
 use Rattle.reg_kinds.specs.Kinds.{slot_at}
 use Rattle.words.specs.Stack.{touches}

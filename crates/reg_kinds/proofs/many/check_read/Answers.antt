@@ -1,3 +1,5 @@
+-- `check_read`: a read of bytes in the stack that touch no spill is rejected exactly if one of them may be unwritten (`input_is`), by the
+-- contracts of `start_of`, `bytes_touch_spill` and `is_any_unwritten`.
 use Rattle.std.proofs.Common.{sym, ◌∙◌, w32}
 use Rattle.std.proofs.Math.Facts.{to_z-of_z}
 use Rattle.reg_kinds.proofs.SlotTests.{input_is}

@@ -1,3 +1,5 @@
+-- `facts_after_call`: each turn writes the kind of the next register after the helper's call, by the contract of `called_kind`; after the
+-- loop all registers have theirs, and the stack is unchanged.
 use Rattle.std.proofs.Common.{◌≡◌, arith, length-set, ap, ◌∙◌, ◌==◌, if◌then◌else◌}
 use Rattle.std.specs.Prelude.{nat_le}
 use Rattle.std.proofs.lemmas.List.{get_or_default}

@@ -1,3 +1,5 @@
+-- `fill_slots`: each turn writes what is known of the next stack slot after the helper's write, by the contract of `filled_slot`; after the
+-- loop all slots are written so, and no register has changed.
 use Rattle.std.proofs.Common.{◌≡◌, ℕ, arith, length-set, ap, ◌∙◌, if◌then◌else◌}
 use Rattle.reg_kinds.specs.declared.kind.Slot.{Slot}
 use Rattle.reg_kinds.specs.declared.kind.Slot.TheVariants.{Bytes}

@@ -1,3 +1,4 @@
+-- The stack slots before `i` are as after the helper's write; those from `i` on, and all registers, are unchanged.
 use Rattle.std.proofs.Common.{◌≡◌, ℕ, ◌<◌, ◌≤◌, length, get_or, if◌then◌else◌}
 use Rattle.reg_kinds.specs.declared.kind.Slot.TheVariants.{Bytes}
 use Rattle.reg_kinds.specs.Kinds.{slot_at}

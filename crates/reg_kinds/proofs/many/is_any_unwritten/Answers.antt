@@ -1,3 +1,5 @@
+-- `is_any_unwritten`: a slot that the loop finds, in which one of the bytes may be unwritten, is one of all slots (`one_below`). If it
+-- finds none, there is none, since a slot that it leaves out has none of the bytes (`lacks_apart`).
 use Rattle.std.proofs.Common.{sym, inl, inr, ⊎_elim, arith, below_more}
 use Rattle.std.proofs.lemmas.Bool.{cases_lt}
 use Rattle.reg_kinds.proofs.SlotTests.{none_below, one_below, lacks_apart}

@@ -1,3 +1,4 @@
+-- Of the bytes, no stack slot before `index` has one that may be unwritten.
 use Rattle.std.proofs.Common.{◌≡◌, ℕ, ◌<◌, false}
 use Rattle.reg_kinds.specs.Kinds.{slot_at}
 use Rattle.reg_kinds.specs.Many.{lacks, bits_in}

@@ -1,3 +1,4 @@
+-- `ones`: the shifts give the mask (`ones_are`), which fits a byte (`ones_small`), so the cast loses no bit.
 use Rattle.std.proofs.Common.{arith}
 use Rattle.reg_kinds.specs.BitLaws.{ones_small}
 use Rattle.reg_kinds.proofs.SlotTests.{ones_are}

@@ -1,3 +1,5 @@
+-- `settle_both_registers`: each turn settles the next register for both edges, by the contract of `settle_both_kinds`, whose precondition
+-- holds since `facts` and `taken` still have the old kind there. After the loop all registers are settled, the stack is unchanged.
 use Rattle.std.specs.Prelude.{not}
 use Rattle.std.proofs.Common.{◌≡◌, arith, length-set, ap, sym, ◌∙◌}
 use Rattle.std.proofs.lemmas.List.{get_or_default}

@@ -1,3 +1,5 @@
+-- The registers before `r` are settled: in `facts` for the falling edge, in `taken` for the jumping edge. Those from `r` on have in both
+-- the kinds that they had in `facts` at the call. No stack slot has changed.
 use Rattle.std.specs.Prelude.{not}
 use Rattle.std.proofs.Common.{◌≡◌, ℕ, ◌<◌, ◌≤◌, length, get_or}
 use Rattle.reg_kinds.specs.declared.kind.Kind.TheVariants.{Unreadable}

@@ -1,3 +1,5 @@
+-- `settle_both_stacks`: each turn settles the next stack slot for both edges, by the contract of `settle_both_slots`, whose precondition
+-- holds since `facts` and `taken` still have the old slot there. After the loop all stack slots are settled, no register has changed.
 use Rattle.std.specs.Prelude.{not}
 use Rattle.std.proofs.Common.{◌≡◌, arith, length-set, ap, sym, ◌∙◌}
 use Rattle.std.proofs.lemmas.List.{get_or_default}

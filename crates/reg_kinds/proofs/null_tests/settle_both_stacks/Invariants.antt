@@ -1,3 +1,5 @@
+-- The stack slots before `i` are settled: in `facts` for the falling edge, in `taken` for the jumping edge. Those from `i` on are in both
+-- as they were in `facts` at the call. No register has changed.
 use Rattle.std.specs.Prelude.{not}
 use Rattle.std.proofs.Common.{◌≡◌, ℕ, ◌<◌, ◌≤◌, length, get_or}
 use Rattle.reg_kinds.specs.declared.kind.Slot.TheVariants.{Bytes}

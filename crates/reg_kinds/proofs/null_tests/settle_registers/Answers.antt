@@ -1,3 +1,5 @@
+-- `settle_registers`: each turn settles the next register, by the contract of `settle_kind`; after the loop all registers are settled, and
+-- the stack is unchanged.
 use Rattle.std.proofs.Common.{◌≡◌, arith, length-set, ap, ◌∙◌}
 use Rattle.std.proofs.lemmas.List.{get_or_default}
 use Rattle.reg_kinds.specs.declared.kind.Kind.TheVariants.{Unreadable}

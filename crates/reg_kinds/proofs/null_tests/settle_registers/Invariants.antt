@@ -1,3 +1,4 @@
+-- The registers before `r` are settled; those from `r` on, and the stack, are unchanged.
 use Rattle.std.proofs.Common.{◌≡◌, ℕ, ◌<◌, ◌≤◌, length, get_or}
 use Rattle.reg_kinds.specs.declared.kind.Kind.TheVariants.{Unreadable}
 use Rattle.reg_kinds.specs.Kinds.{kind_at}

@@ -1,3 +1,5 @@
+-- `settle_stack`: each turn settles the next stack slot, by the contract of `settle_slot`; after the loop all stack slots are settled, and
+-- no register has changed.
 use Rattle.std.proofs.Common.{◌≡◌, arith, length-set, ap, ◌∙◌}
 use Rattle.std.proofs.lemmas.List.{get_or_default}
 use Rattle.reg_kinds.specs.declared.kind.Slot.TheVariants.{Bytes}

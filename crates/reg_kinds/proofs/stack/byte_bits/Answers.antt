@@ -1,3 +1,5 @@
+-- `byte_bits`: for a half and a word the shift of the mask loses no bit, since the access is aligned to its size (`half_bits`,
+-- `word_bits`).
 use Rattle.std.proofs.Common.{◌%◌, ap, ◌∙◌, sym}
 use Rattle.words.specs.declared.stack.AccessSize.{AccessSize}
 use Rattle.words.specs.Stack.{bytes_of}

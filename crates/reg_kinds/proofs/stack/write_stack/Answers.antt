@@ -1,3 +1,5 @@
+-- `write_stack`: the returned index is that of a stack slot, and no other slot changes, by the contract of `set_slot`, which writes one
+-- item of the list.
 use Rattle.std.proofs.Common.{rules, ap, ◌∙◌, get_or-set_other}
 use Rattle.reg_kinds.specs.declared.kind.Slot.TheVariants.{Bytes}
 use Rattle.reg_kinds.specs.declared.facts.Facts.{Facts}

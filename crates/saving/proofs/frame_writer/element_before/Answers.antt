@@ -1,3 +1,5 @@
+-- `element_before`: each turn skips one entry more, by the contract of `map_entry` (`skip_one`); if no entry follows, none is left either
+-- after all `count` are skipped (`all_skipped`).
 use Rattle.std.proofs.Common.{option_map, sym, ap, ◌∙◌, arith}
 use Rattle.tenant.specs.Entry.{numbered_entries, lent_entry}
 use Rattle.saving.proofs.SaveSteps.{skip_one, all_skipped}

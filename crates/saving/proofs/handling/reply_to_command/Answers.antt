@@ -1,3 +1,6 @@
+-- `reply_to_command`, by cases of the command: the reply, the next state and the births are those of the machine (`seen`), by the contracts
+-- of the tenant's function and of `write_command_reply`; what holds of the borrowed bytes holds of the part (`on_lent`). There is room for
+-- a new birth, since the births after a command are few by the law `births_are_kept` (`few_after`).
 use Rattle.std.proofs.Common.{ℕ, ◌+◌, ◌≤◌, false, List, length, filter, refl, sym, ap, subst, ◌∙◌, arith}
 use Rattle.arena.specs.Memory.{part_bytes}
 use Rattle.command_frames.specs.declared.command.Command.{Command as CodeCommand}

@@ -1,3 +1,5 @@
+-- `maps_are_held`: exactly the maps of open objects are live, in a new tenant and after each command; `Held` proves it by cases of the
+-- command.
 use Rattle.saving.proofs.Held as proof
 use Rattle.saving.proofs.laws.maps_are_held.Goals as goal
 

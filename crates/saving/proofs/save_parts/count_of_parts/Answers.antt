@@ -1,3 +1,5 @@
+-- `count_of_parts`: one part creates the object, and the quotient, rounded up by `div_ceil`, of the keys that `key_count` counts is the
+-- number of the others.
 use Rattle.std.proofs.Common.{ℕ, ◌+◌, ap, ◌∙◌}
 use Rattle.tenant.specs.Kept.{state_in}
 use Rattle.saving.proofs.PartAt.{part_count}

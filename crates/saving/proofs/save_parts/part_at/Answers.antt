@@ -1,3 +1,6 @@
+-- `part_at`: the result has the commands of the part at the index. By the loop's invariant this is the part `left` of the births that are
+-- left: `part_of_birth` finds it in the first one, or it has at most `left` parts, whose number (`count_of_parts`) is subtracted from
+-- `left`. After the last birth comes one part, which closes descriptors.
 use Rattle.std.proofs.Common.{◌+◌, [], drop, sym, ap, ◌∙◌, arith}
 use Rattle.std.specs.Prelude.{slice_get, option_map}
 use Rattle.std.proofs.Math.ListN.{drop_of_length-le}

@@ -1,3 +1,5 @@
+-- `part_of_birth`: after the creation, a program has no part, and a map a piece of its keys if the piece's first key exists. A saturated
+-- product is above the number of keys, by `small` of `key_count`.
 use Rattle.std.proofs.Common.{sym, ap, ◌∙◌}
 use Rattle.std.specs.Prelude.{slice_get}
 use Rattle.tenant.specs.Kept.{state_in}

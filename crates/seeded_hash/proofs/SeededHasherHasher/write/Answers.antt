@@ -1,3 +1,6 @@
+-- `write` of `SeededHasher`: the hasher is that of `written`, by cases of the length. A short key takes the equations of `short_word` and
+-- `folded_product`; for a longer one the loop's invariant says at its end that all blocks are mixed in, and the equation of `word_at` gives
+-- the last words.
 use Rattle.std.proofs.Common.{◌≡◌, ℕ, suc, ◌+◌, ◌-◌, ◌*◌, ◌/◌, length, refl, arith}
 use borrow.Author.Tests.{le-leb, lt-leb}
 use Rattle.seeded_hash.specs.Hashing.{blocks_mixed, written}

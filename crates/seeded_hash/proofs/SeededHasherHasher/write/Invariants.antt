@@ -1,8 +1,9 @@
+-- Before each turn of the loop of `write` the blocks before `at` are mixed into the state, `at` begins a block, and some bytes are left;
+-- each turn leaves fewer.
 use Rattle.std.proofs.Common.{◌≡◌, ◌-◌, ◌/◌, ◌%◌, ◌<◌}
 use Rattle.seeded_hash.specs.Hashing.{blocks_mixed}
 use Rattle.seeded_hash.proofs.SeededHasherHasher.write.Given as goal
 
--- the blocks before `at` are mixed in
 abbrev pub invariant-loop-at : goal.invariant-loop-at
 invariant-loop-at l = record {
   whole : l.at % 16 ≡ 0;

@@ -1,3 +1,5 @@
+-- `target_of`: the result is what the descriptor names. By the loop's invariant that is its target in the rest of the list, whose first
+-- entry has the descriptor or can be left out; at the end of the list it names nothing.
 use Rattle.std.proofs.Common.{sym, ◌∙◌}
 use Rattle.tagged_model.proofs.NamedTargets.{found_here, found_later, found_nowhere}
 use Rattle.tagged_model.proofs.named.target_of.Goals as goal

@@ -1,3 +1,5 @@
+-- `hold_all`: each map gets as many references as its handle is listed; shapes, keys and values are unchanged. In each turn `hold` adds one
+-- to a live map (`there`), which has room for it, since there is room for all (`few`).
 use Rattle.std.proofs.Common.{arith}
 use Rattle.tenant.proofs.LoadingHolds.{IsHeld, held_one, holds_one, held_all, held_then}
 use Rattle.tenant.proofs.Times.{times-more, times-left, times-all, times-none}

@@ -1,3 +1,5 @@
+-- Before each turn of the loop of `hold_all` each map has a reference more for each time that its handle was passed; shapes, keys and
+-- values are those before the loop.
 use Rattle.std.proofs.Common.{◌≡◌, ℕ, ◌+◌, take}
 use Rattle.bpf_maps.specs.Live.{references_at}
 use Rattle.tenant.specs.Kept.{times_listed}

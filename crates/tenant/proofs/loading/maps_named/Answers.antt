@@ -1,3 +1,5 @@
+-- `maps_named`: the result has the handles of the maps that the descriptors name. One more descriptor adds its handle at the end, or
+-- nothing if it names no map, by the contracts of `map_named` and `push`.
 use Rattle.std.proofs.Common.{◌≡◌, ℕ, ◌+◌, List, ◌++◌, take, get_or, Vec, Global, Option, Some, refl, sym, ap, ◌∙◌}
 use Rattle.std.proofs.lemmas.List.{append-nil, map-append}
 use Rattle.fd_table.specs.Table.{named}

@@ -1,3 +1,4 @@
+-- Before each turn of the loop of `maps_named` the handles that were found are those of the maps that the descriptors so far name.
 use Rattle.std.proofs.Common.{◌≡◌, take}
 use Rattle.tenant.specs.Machine.{handles_from}
 use Rattle.tenant.proofs.LoadingHandles.{seconds}

@@ -1,3 +1,5 @@
+-- `asked_shape`: the shape that `MapShape::new` makes is that of the machine, since its fields determine it; the contract of `map_kind`
+-- gives the kind.
 use Rattle.std.proofs.Common.{Option, sym, ap, ◌∙◌}
 use Rattle.tagged_model.specs.declared.shape.MapKind.{MapKind}
 use Rattle.tenant.specs.Machine.{asked_shape}

@@ -1,3 +1,5 @@
+-- `release_all`: each release leaves the other maps as they are and takes one reference of its map, by the contract of `release`. So by
+-- induction over the list a map loses as many as its handle is listed; it is live at each release, since more references are left.
 use Rattle.std.proofs.Common.{arith}
 use Rattle.tenant.proofs.AtHandles.{held_is_live}
 use Rattle.tenant.proofs.Releases.{IsReleased, left_released, holds_released}

@@ -1,3 +1,5 @@
+-- `release_all`: each live map has the shape, the keys and the values that it had, and its references, with the times that its handle is
+-- among the handles before this one, are as many as at the call.
 use Rattle.std.proofs.Common.{◌≡◌, ℕ, ◌+◌, take}
 use Rattle.bpf_maps.specs.Live.{references_at}
 use Rattle.tenant.specs.Kept.{times_listed}

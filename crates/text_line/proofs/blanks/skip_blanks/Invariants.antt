@@ -1,3 +1,4 @@
+-- `skip_blanks`: the line and the rest are equal without the blanks at their fronts, and each turn makes the rest shorter.
 use Rattle.std.proofs.Common.{◌≡◌, length}
 use Rattle.text_line.specs.Blanks.{skip_blanks}
 use Rattle.text_line.proofs.blanks.skip_blanks.Given as goal

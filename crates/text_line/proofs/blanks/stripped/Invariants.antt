@@ -1,3 +1,4 @@
+-- `stripped`: the line without the blanks at both ends is the rest without those at its end, and each turn makes the rest shorter.
 use Rattle.std.proofs.Common.{◌≡◌, length, reverse}
 use Rattle.text_line.specs.Blanks.{skip_blanks, stripped}
 use Rattle.text_line.proofs.blanks.stripped.Given as goal

@@ -1,3 +1,4 @@
+-- `printed_is_read`: the printed text of an instruction is read as its written form, whose numbers fit by the law `written_in_range`.
 use Rattle.text_line.proofs.Printed.{printed}
 use Rattle.text_line.proofs.laws.printed_is_read.Goals as goal
 

@@ -1,3 +1,5 @@
+-- `read_line`: if the line has tokens, its reading is what `line_of` makes of them, or none, by the contracts of `tokens` and `line_of`,
+-- and since a line has at most one list of tokens (`read_as`).
 use Rattle.std.proofs.Common.{List, sym, subst}
 use Rattle.text_line.specs.declared.token.Token.{Token as CodeToken}
 use Rattle.text_line.specs.Token.{IsTokens}

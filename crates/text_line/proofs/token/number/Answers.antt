@@ -1,3 +1,4 @@
+-- `number`: the text after `0x` is ASCII, as `value` requires, since each rest of an ASCII text is.
 use Rattle.std.proofs.Common.{◌≡◌, List, ℕ, drop, subst}
 use Rattle.std.specs.Str.{IsAscii}
 use Rattle.std.proofs.lemmas.Str.{IsAscii-drop}

@@ -1,3 +1,5 @@
+-- `symbol`: by cases of the length that `symbol_len` returns. If it is 0, no symbol is at the front, as none is empty; else the text is
+-- split after the symbol that `symbol_at` finds.
 use Rattle.std.proofs.Common.{◌≡◌, List, ℕ, drop, arith, ap, sym, Option, option_map, length}
 use Rattle.std.specs.Option.{option_map_or}
 use Rattle.text_line.specs.Token.{symbol}

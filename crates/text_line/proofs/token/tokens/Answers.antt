@@ -1,3 +1,5 @@
+-- `tokens`: if the rest is empty or a comment, the tokens so far are all; if no token is at its front, the line has no tokens. Otherwise
+-- the token at its front, by the contract of `first_token`, is the next one of each list of tokens of the line.
 use Rattle.std.proofs.Common.{◌≡◌, List, ℕ, [], true, false, sym, ap, ◌∙◌, append-nil, subst}
 use Rattle.std.proofs.lemmas.Str.{IsUtf8-from_ascii}
 use Rattle.text_line.specs.Blanks.{skip_blanks}

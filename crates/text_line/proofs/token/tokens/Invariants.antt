@@ -1,3 +1,5 @@
+-- `tokens`: the rest is ASCII, and the tokens of the line are those so far and then those of the rest: each list of tokens of the rest
+-- completes one of the line, and each of the line is completed so. Each turn makes the rest shorter.
 use Rattle.std.proofs.Common.{◌≡◌, ◌++◌, List, length}
 use Rattle.std.specs.Str.{IsAscii}
 use denote.Shadow.{shadow}
@@ -6,7 +8,6 @@ use Rattle.text_line.specs.Token.{Token, HasTokens}
 use Rattle.text_line.specs.inside.Shown.{shown_tokens}
 use Rattle.text_line.proofs.token.tokens.Given as goal
 
--- the tokens of the line are those so far and those of the rest
 abbrev pub invariant-loop-text : goal.invariant-loop-text
 invariant-loop-text l = record {
   is_text : shadow (Utf8 l.rest);

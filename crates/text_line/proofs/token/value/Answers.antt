@@ -1,3 +1,5 @@
+-- `value`: the parsed number is the value of the longest front of digits, or none if it is too large, by the contract of `from_str_radix`:
+-- the digits are all of the radix, and the first byte is one (`value_is`).
 use Rattle.std.proofs.Common.{◌≡◌, List, ℕ, take, ap, ◌∙◌, Option}
 use Rattle.std.specs.List.{prefix_len}
 use Rattle.text_line.specs.inside.Class.{in_class}

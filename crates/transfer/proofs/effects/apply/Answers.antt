@@ -1,3 +1,4 @@
+-- `apply`: the load of a direct value is rejected for the reason for which `value_of` rejects it, by that function's contract.
 use Rattle.std.proofs.Common.{rules, ◌≡◌, ℕ, Err, sym, ap, ◌∙◌}
 use Rattle.std.proofs.lemmas.Result.{err_from_is_err_and}
 use Rattle.insn_set.specs.declared.insn.Insn.{Insn}

@@ -1,3 +1,5 @@
+-- `store`: a store to the stack leads to the facts that `write_stack` leaves, or is rejected for its reason with unchanged facts, by the
+-- contract of `write_stack` and cases of its result.
 use Rattle.std.proofs.Common.{rules, ◌≡◌, ℕ, Result, Ok, Err, sym, ap, subst}
 use Rattle.std.specs.Prelude.{IsOk, MatchResult}
 use Rattle.std.proofs.lemmas.Bool.{false≢true}

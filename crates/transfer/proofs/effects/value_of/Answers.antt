@@ -1,3 +1,5 @@
+-- `value_of`: if the map has a direct value at the offset, the kind is a pointer to it. By the contract of `has_direct_value` the offset is
+-- so small that it is unchanged as a signed number.
 use Rattle.std.proofs.Common.{◌≡◌, ◌<◌, ℤ, pos, true, Some, Ok, w32, FitsSigned, to_z, of_z, sym, ap, ◌∙◌, arith}
 use Rattle.std.proofs.lemmas.Bool.{cond-true}
 use Rattle.std.proofs.lemmas.Int.{to_z-of_z}

@@ -1,3 +1,4 @@
+-- `calls_are_sound`: by cases of the helper (`HelperCalls`), from the laws of arguments in memory, of map calls, and of look-up sites.
 use Rattle.transfer.proofs.HelperCalls.{calls_are_sound}
 use Rattle.transfer.proofs.laws.calls_are_sound.Goals as goal
 

@@ -1,3 +1,5 @@
+-- `transfer_is_sound`: by cases of the instruction (`Cover`), from the laws of ranges (results of operators, edges of comparisons), of null
+-- tests, of reads and writes of the stack and of values, and of calls.
 use Rattle.transfer.proofs.Cover.{effects_covered}
 use Rattle.transfer.proofs.laws.transfer_is_sound.Goals as goal
 

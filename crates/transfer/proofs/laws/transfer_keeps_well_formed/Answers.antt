@@ -1,3 +1,4 @@
+-- `transfer_keeps_well_formed`: by cases of the instruction (`Stays`), as results of operators and ranges on edges are ranges of words.
 use Rattle.transfer.proofs.Stays.{transfer_keeps_well_formed}
 use Rattle.transfer.proofs.laws.transfer_keeps_well_formed.Goals as goal
 

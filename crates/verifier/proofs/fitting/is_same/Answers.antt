@@ -1,3 +1,5 @@
+-- `is_same`: `==` on shapes is equality. Two shapes that are equal by it have equal kinds and numbers, and so are equal, as the proof
+-- that these form a shape is unique; and each shape is equal to itself by it.
 use Rattle.std.proofs.Common.{◌≡◌, ℕ, Bool, true, false, ◌&&◌, Option, Some, None, IsTrue, refl, sym, ap, subst, ◌∙◌}
 use Rattle.std.specs.Option.{option_eq}
 use Rattle.std.proofs.Props.{props}

@@ -1,3 +1,5 @@
+-- `judge`: the watcher receives nothing before the pass, if the shape has a fault or memory runs out. In the pass it receives the facts by
+-- the contract of `check_safety`, whose objects are those of the program's maps, by the contracts of `loaded_maps` and `objects_at`.
 use Rattle.std.proofs.Common.{List, ℕ, refl, subst, ap, ◌∙◌}
 use Rattle.std.proofs.lemmas.Result.{err_from_is_err_and}
 use Rattle.insn_set.specs.Program.{slot_count}

@@ -1,3 +1,4 @@
+-- `one_judgement`: by laws of `insn_codec` bytes spell one program or have one fault; a program is accepted, or rejected for one reason.
 use Rattle.verifier.proofs.Judgements.{one_judgement_is}
 use Rattle.verifier.proofs.laws.one_judgement.Goals as goal
 

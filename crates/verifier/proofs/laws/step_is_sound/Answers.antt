@@ -1,3 +1,4 @@
+-- `step_is_sound`: in a program the transfer function is sound for the instruction, and leaves facts well formed, by its two laws.
 use Rattle.verifier.proofs.Steps.{slots_covered}
 use Rattle.verifier.proofs.laws.step_is_sound.Goals as goal
 

@@ -1,3 +1,5 @@
+-- `steps_go_on`: the facts on the edge that a step takes admit the next state, by the laws of the transfer function, and so do the facts
+-- before the slot to which it leads, into which they are joined, by the law `join_admits`.
 use Rattle.verifier.proofs.Steps.{each_step}
 use Rattle.verifier.proofs.laws.steps_go_on.Goals as goal
 

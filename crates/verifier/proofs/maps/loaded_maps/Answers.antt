@@ -1,3 +1,5 @@
+-- `loaded_maps`: by induction over the slots the list is that of the instructions so far, as `add_at` appends the descriptor of a load, and
+-- a slot without a load changes nothing. If no descriptor is open, the program loads no map, as its shape has no fault.
 use Rattle.std.proofs.Common.{◌+◌, arith, List, ℕ, sym, ap, subst, ◌∙◌}
 use Rattle.tagged_model.specs.Cells.{and_then}
 use Rattle.insn_set.specs.declared.insn.Insn.{Insn}

@@ -1,3 +1,6 @@
+-- `check_safety`: by induction over the slots. By the contract of `step`, and since joins commute and associate, the pass has the facts
+-- before each slot; so its error is the first fault of safety, and without an error no slot has one. The watcher receives those facts in
+-- order. The targets of jumps are slots of the program, as required, and so meet the precondition of `step`.
 use Rattle.std.proofs.Common.{◌≡◌, ℕ, ◌+◌, ◌<◌, ◌≤◌, Option, Some, None, sym, subst, ap, ◌∙◌, inl, inr, arith, below_more}
 use Rattle.std.specs.Option.{option_copied}
 use Rattle.std.specs.Prelude.{IfSome}

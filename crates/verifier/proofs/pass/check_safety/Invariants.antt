@@ -1,3 +1,5 @@
+-- `check_safety`: the pass has the facts that the slots before this one send to it and to later ones, none of those slots has a fault, and
+-- the watcher has received the facts before each of them that a run may reach.
 use Rattle.std.proofs.Common.{◌≡◌, ℕ, ◌<◌, None}
 use Rattle.tagged_model.specs.Named.{shapes_named}
 use Rattle.verifier.specs.Seen.{SeesBelow}
@@ -5,8 +7,6 @@ use Rattle.verifier.specs.Verdict.{safety_fault}
 use Rattle.verifier.proofs.Inflow.{IsBefore}
 use Rattle.verifier.proofs.pass.check_safety.Given as goal
 
--- the current facts and those kept for later slots are the facts that the slots so far send, none of these has a fault, and the
--- watcher has received the facts before each of them
 abbrev pub invariant-loop-slot : goal.invariant-loop-slot
 invariant-loop-slot g l =
     record {

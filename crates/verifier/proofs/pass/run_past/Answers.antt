@@ -1,3 +1,4 @@
+-- `run_past`: the slot that the flow names is one of the stack, as `renumber_written` requires, by clause `stack` of `apply` (`in_stack`).
 use Rattle.verifier.proofs.NumberedSteps.{in_stack}
 use Rattle.verifier.proofs.pass.run_past.Goals as goal
 

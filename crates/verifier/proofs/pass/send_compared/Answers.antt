@@ -1,3 +1,4 @@
+-- `send_compared`: only the ranges of the operands change in `hand`, as ranges that are set twice are the later ones (`ranged_twice`).
 use Rattle.std.proofs.Common.{ap, ◌∙◌}
 use Rattle.std.proofs.lemmas.Result.{on_ok_weaker}
 use Rattle.interval.specs.Refine.{RangePair}

@@ -1,3 +1,4 @@
+-- `check_and_count`: the target of the jump is a slot of the program, as `add` requires, since the instruction has no fault of its shape.
 use Rattle.std.proofs.Common.{ℕ, ◌<◌, sym, subst}
 use Rattle.std.specs.Prelude.{IfSome}
 use Rattle.insn_set.specs.Flow.{jump_target}

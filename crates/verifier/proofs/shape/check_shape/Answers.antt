@@ -1,3 +1,6 @@
+-- `check_shape`: by induction over the instructions no slot so far has a fault, and the counts are the most on paths, by the contracts of
+-- `join` and `check_and_add`. So the error is the first fault, and without one each jump lands in the program; and the counts at the end
+-- are the cost, since a path has them, and none has more (`is_most`).
 use Rattle.std.proofs.Common.{◌≡◌, ℕ, ◌+◌, ◌<◌, ◌≤◌, ◌==◌, ◌||◌, nat_lt, length, get_or, replicate}
 use Rattle.std.proofs.Common.{List, Some, None, refl, sym, subst, ap, ◌∙◌, inl, inr, arith, rules}
 use Rattle.std.proofs.lemmas.List.{length-replicate, get_or-replicate}

@@ -1,11 +1,11 @@
+-- `check_shape`: an instruction begins at the slot, or it is the end. The counts of instructions and of calls are the most on the paths to
+-- this and later slots whose last edge is from an earlier slot, and on paths that ended; no earlier slot has a fault of its shape.
 use Rattle.std.proofs.Common.{◌≡◌, ℕ, ◌<◌, ◌≤◌, ◌-◌, length, None}
 use Rattle.insn_set.specs.Program.{slot_count, Adjoins}
 use Rattle.verifier.specs.Shape.{structure_fault}
 use Rattle.verifier.specs.inside.Longest.{arriving, most_from, most_ended, one, one_if_call}
 use Rattle.verifier.proofs.shape.check_shape.Given as goal
 
--- the slot is the end, or an instruction begins there; the counts are the most on the ways along edges from slots before this one, and
--- none of these has a fault
 abbrev pub invariant-loop-slot : goal.invariant-loop-slot
 invariant-loop-slot l =
     record {

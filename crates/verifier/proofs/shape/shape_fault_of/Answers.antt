@@ -1,3 +1,4 @@
+-- `shape_fault_of`: a fault of the jump's target, as `jump_reason` returns it, is the first fault of all, by the order of the conditions.
 use Rattle.std.proofs.Common.{Bool, not, ◌&&◌, List, [], ◌∷◌}
 use Rattle.std.specs.Prelude.{nat_le}
 use Rattle.insn_set.specs.Program.{slot_count}

@@ -1,3 +1,4 @@
+-- `append_empty`: one more empty entry makes the list longer by one, and changes no slot's entry, as one past the end counts as empty.
 use Rattle.std.proofs.Common.{ℕ, ◌+◌, ◌∷◌, [], Option, Box, Global, List, None, length, map, ap, ◌∙◌, length-append}
 use Rattle.std.specs.Prelude.{option_map, box_value}
 use Rattle.verifier.specs.declared.numbered_facts.NumberedFacts.{NumberedFacts}

@@ -1,3 +1,4 @@
+-- `append_empty`: the list has an entry for each slot before this one, and the entry of each slot is that at the call.
 use Rattle.std.proofs.Common.{◌≡◌, ℕ, length, map}
 use Rattle.std.specs.Prelude.{option_map, box_value}
 use Rattle.verifier.specs.inside.Numbers.{entry_of}

@@ -1,3 +1,4 @@
+-- `verify`: the copy has the program's instructions, so by the contract of `judge` it is accepted, with its maps, objects and cost.
 use Rattle.verifier.proofs.KeptPrograms.{copy_is_whole}
 use Rattle.verifier.proofs.verified.verify.Goals as goal
 

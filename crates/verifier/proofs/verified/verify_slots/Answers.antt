@@ -1,3 +1,5 @@
+-- `verify_slots`: the program is accepted with its maps, their objects and its cost, by the contract of `judge`. If that is out of memory,
+-- the slots spell a program, so a program may have as many bytes; and a fault is at one of its slots (`slot_within`).
 use Rattle.std.proofs.Common.{arith, ap, refl}
 use Rattle.verifier.specs.declared.refusal.Refusal.{Refusal}
 use Rattle.verifier.proofs.Judgements.{may_be_program, slot_within}

@@ -1,3 +1,5 @@
+-- `signed_remainder` of 32 bits: for a divisor other than 0 the remainder is the dividend less the divisor times the quotient, on the low
+-- halves, by the contracts of the casts and of `wrapping_rem` (`rest_of_32`).
 use Rattle.std.proofs.Common.{ap₂, arith, ◌∙◌}
 use Rattle.words.specs.Words.{signed_remainder}
 use Rattle.words.proofs.Signed.{rest_of_32}

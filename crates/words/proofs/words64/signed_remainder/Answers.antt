@@ -1,3 +1,5 @@
+-- `signed_remainder` of 64 bits: for a divisor other than 0 the remainder is the dividend less the divisor times the quotient, by the
+-- contracts of the casts and of `wrapping_rem` (`rest_of_64`).
 use Rattle.std.proofs.Common.{arith}
 use Rattle.words.proofs.Signed.{rest_of_64}
 use Rattle.words.proofs.words64.signed_remainder.Goals as goal

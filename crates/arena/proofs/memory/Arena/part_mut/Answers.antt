@@ -1,3 +1,5 @@
+-- `part_mut` of `Arena`: the slice has the bytes of the part, by the contract of `slice_mut`; when the borrow ends, the memory has the
+-- slice's bytes from the start of the part on, and all others are unchanged (`relent`).
 use Rattle.std.proofs.Common.{◌≡◌, ℕ, ◌*◌, List, refl, ap, ◌∙◌}
 use Rattle.words.specs.ByteLaws.{range_is_bytes}
 use Rattle.arena.specs.Bytes.{written_at, bytes_at}

@@ -1,3 +1,5 @@
+-- `element_of` of `ArrayMap`: the result is that of a look-up, by the two cases of the test: in an array an index is found, as its own
+-- element, exactly if it is less than `max_entries` (`found_array`).
 use Rattle.std.proofs.Common.{◌≡◌, true, false, ap, arith}
 use Rattle.std.proofs.lemmas.Bool.{lt-ltb, le-ltb}
 use Rattle.bpf_maps.specs.KeyTable.{KeyTable}

@@ -1,3 +1,5 @@
+-- `entry_after` of `ArrayMap`: the entry after an element is that of the next index, since the entries of an array are its indices in
+-- order (`array_entries`); none follows if this index is not less than `max_entries`.
 use Rattle.std.proofs.Common.{◌≡◌, ℕ, ◌+◌, ◌<◌, ◌≤◌, ◌∙◌, Option, sym, ap, arith}
 use Rattle.std.specs.Option.{option_map_or}
 use Rattle.ordered_keys.specs.Orders.{next_entry}

@@ -1,3 +1,5 @@
+-- `index_after` of `ArrayMap`: after a present key the next key is that of the next index (`after_present`); an absent key, also one of
+-- another size, has the first key after it (`after_absent`).
 use Rattle.std.proofs.Common.{◌∙◌, sym}
 use Rattle.bpf_maps.proofs.Arrays.{after_present, after_absent}
 use Rattle.bpf_maps.proofs.Following.{absent_by_size}

@@ -1,3 +1,5 @@
+-- `index_spelled` of `ArrayMap`: a look-up of the key finds the index that its bytes spell, if that is less than `max_entries`, since the
+-- table is always that of a new array (`found_array`).
 use Rattle.std.proofs.Common.{nat_lt, refl, sym, arith}
 use Rattle.bpf_maps.proofs.Arrays.{found_array}
 use Rattle.bpf_maps.proofs.array_map.ArrayMap.index_spelled.Goals as goal

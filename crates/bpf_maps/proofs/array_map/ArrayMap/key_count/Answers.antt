@@ -1,3 +1,4 @@
+-- `key_count` of `ArrayMap`: the table has `max_entries` keys, since it is that of a new array (`length_new`).
 use Rattle.std.proofs.Common.{length, sym, ap, ◌∙◌}
 use Rattle.bpf_maps.specs.KeyTable.{KeyTable}
 use Rattle.bpf_maps.proofs.Arrays.{length_new}

@@ -1,3 +1,5 @@
+-- `keys_are_its_indices` of `ArrayMap`: contracts see the table of a new array of a shape whose kind is `Array`, by the type's view and
+-- invariant; such a shape has keys of the size of an index, and such a table is sound (`sound_array`).
 use Rattle.std.proofs.Common.{◌∙◌, sym, ap, subst}
 use Rattle.bpf_maps.specs.KeyTable.{KeyTable, new_keys, IsSound}
 use Rattle.bpf_maps.proofs.Shapes.{array_key}

@@ -1,3 +1,4 @@
+-- `end_run` of `ArrayMap`: the table is unchanged by the end of a run, since a new array keeps no element apart (`run_ends`).
 use Rattle.bpf_maps.proofs.Arrays.{run_ends}
 use Rattle.bpf_maps.proofs.array_map.ArrayMapValueMap.end_run.Goals as goal
 

@@ -1,3 +1,5 @@
+-- `key_after` of `ArrayMap`: if the index from `index_after` is less than `max_entries`, the returned key has the bytes of this index, and
+-- is the next key, by the contract of `index_after`.
 use Rattle.std.proofs.Common.{◌≡◌, ℕ, Bool, true, List, Option, Some, None, nat_lt, if◌then◌else◌, ◌∙◌, sym, ap, arith}
 use Rattle.std.proofs.lemmas.Bool.{lt-ltb}
 use Rattle.words.specs.Bytes.{low_bytes}

@@ -1,3 +1,4 @@
+-- `remove` of `ArrayMap`: the error `Invalid` and an unchanged table are what the definition of a deletion requires of the kind `Array`.
 use Rattle.std.proofs.Common.{Err, refl, sym, subst}
 use Rattle.tagged_model.specs.declared.shape.MapKind.{MapKind}
 use Rattle.tagged_model.specs.declared.fault.MapFault.TheVariants.{Invalid}

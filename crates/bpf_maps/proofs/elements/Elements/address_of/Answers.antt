@@ -1,3 +1,5 @@
+-- `address_of` of `Elements`: by cases of the two tests, a key of another size, or of an index that is not less than the count, is absent
+-- (`no_key`, `no_element`); else the index is the key's element, and its value has the returned address and lies in the part.
 use Rattle.std.proofs.Common.{ℕ, ap₂, ◌+◌, ◌*◌, ◌%◌, ◌^◌, ◌<◌, ◌∙◌, IfSome, ap, subst, arith}
 use Rattle.bpf_maps.specs.Live.{offset_at, shape_at, value_address, LiesInPart}
 use Rattle.bpf_maps.proofs.ElementAddresses.{no_key, no_element, element, element_lies, element_address}

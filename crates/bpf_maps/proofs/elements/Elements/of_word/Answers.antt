@@ -1,3 +1,5 @@
+-- `of_word` of `Elements`: the halves of a shape's word are the shape's count and stride (`elements_from`); a shape whose count is not 0 is
+-- that of an array, and so has keys of the size of an index.
 use Rattle.std.proofs.Common.{ℕ, ap₂, ◌∙◌}
 use Rattle.bpf_maps.specs.declared.elements.Elements.{Elements}
 use Rattle.bpf_maps.proofs.ElementAddresses.{elements_from, shape_key_size}

@@ -1,3 +1,5 @@
+-- `add` of `HashMap`: the last spare element is free, as not all spare ones are kept apart (`is_free`). The key gets it, and the elements
+-- kept apart are unchanged, so the invariant holds (`kept_by_add`), and the change is that of an update of an absent key (`claims_new`).
 use Rattle.std.proofs.Common.{◌≡◌, ◌≢◌, ℕ, ◌∙◌, ◌-◌, sym, ap, subst, refl, ◌<◌, length, take, get_or, vec_len}
 use Rattle.tagged_model.specs.Table.{with_key}
 use Rattle.bpf_maps.specs.KeyTable.{KeyTable, IsFree}

@@ -1,3 +1,5 @@
+-- `element_of` of `HashMap`: an element that `get` of the index finds is less than `max_entries`, since the type's invariant makes the
+-- table sound.
 use Rattle.std.proofs.Common.{◌∙◌, ap, subst}
 use Rattle.tagged_model.specs.Table.{look_up}
 use Rattle.bpf_maps.specs.KeyTable.{KeyTable, table_of, IsSound}

@@ -1,3 +1,4 @@
+-- `elements_are_distinct` of `HashMap`: the kind is that of the type's invariant, which also makes the table of keys sound.
 use Rattle.std.proofs.Common.{◌∙◌, sym, ap, subst}
 use Rattle.bpf_maps.specs.KeyTable.{KeyTable, IsSound}
 use Rattle.bpf_maps.proofs.Kept.{sound}

@@ -1,3 +1,5 @@
+-- `renew` of `HashMap`: the cleared index has no key, and the list has each element once, by the contracts of `clear` and `put_elements`;
+-- so the invariant holds, and contracts see the table of a new hash map.
 use Rattle.std.proofs.Common.{◌≡◌, ℕ, ◌+◌, ◌∙◌, List, [], sym, ap, subst, length, arith}
 use Rattle.std.specs.Map.{values_of}
 use Rattle.tagged_model.specs.declared.shape.MapKind.{MapKind}

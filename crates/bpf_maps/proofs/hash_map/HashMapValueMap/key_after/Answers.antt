@@ -1,3 +1,5 @@
+-- `key_after` of `HashMap`: the returned key has the size of the map's keys, since all keys of the table have it (`sized` of the
+-- invariant), and so it fits in the room for a key.
 use Rattle.std.proofs.Common.{subst, IfSome, length, ◌≡◌}
 use Rattle.bpf_maps.specs.KeyRef.{key_bytes}
 use Rattle.bpf_maps.specs.KeyTable.{KeyTable}

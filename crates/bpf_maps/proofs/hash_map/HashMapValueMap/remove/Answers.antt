@@ -1,3 +1,6 @@
+-- `remove` of `HashMap`: the removal of an absent key changes no entry (`without-absent`), as `NoEntry` requires. The element of a present
+-- key becomes the last of those kept apart, by the push and the swap (`exchanged`, `first-put`). In both cases the invariant holds,
+-- and so the table is sound.
 use Rattle.std.proofs.Common.{◌≡◌, ℕ, ◌+◌, ◌∙◌, sym, ap, subst, refl, Some, None, [], ◌∷◌, ◌++◌, List, take}
 use Rattle.std.specs.List.{swap}
 use Rattle.tagged_model.specs.Table.{found}

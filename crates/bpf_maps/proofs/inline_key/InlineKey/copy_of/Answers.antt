@@ -1,3 +1,5 @@
+-- `copy_of` of `InlineKey`: the invariant holds, as the copied bytes and the zeros after them fill the array, by induction over the bytes
+-- (`filled`).
 use Rattle.std.proofs.Common.{◌≡◌, ℕ, ◌-◌, List, ◌++◌, length, drop, replicate, sym, subst}
 use Rattle.bpf_maps.proofs.InlineKeys.{filled}
 use Rattle.bpf_maps.proofs.inline_key.InlineKey.copy_of.Goals as goal

@@ -1,3 +1,5 @@
+-- `claim` of `Maps`: the handle's map is in the slab under the key of the handle (`is_under`), and the claim in it changes only its table
+-- of keys, of which shape and soundness are kept (`change`); so the invariant holds, and the clauses are those of that claim.
 use Rattle.std.proofs.Common.{◌<◌, IfOk, subst, ◌∙◌}
 use Rattle.bpf_maps.specs.KeyTable.{KeyTable}
 use Rattle.bpf_maps.proofs.ByHandle.{has_key}

@@ -1,3 +1,6 @@
+-- `create` of `Maps`: without a free handle, or without room, the error is `NoSpace`, and after refused memory no map has changed. Else
+-- the lowest free handle gets a map in an area after the others (`IsAdded`), whose bytes `clear` has set to 0; from this and the
+-- type's invariant follow the clauses and the new invariant.
 use Rattle.std.proofs.Common.{◌≡◌, ◌+◌, ◌*◌, ◌/◌, refl, sym, ap, subst, ◌∙◌, arith, inl, inr}
 use Rattle.bpf_maps.specs.declared.part.TheConstants.{STACK_AND_CONTEXT}
 use Rattle.bpf_maps.specs.declared.stored_map.StoredMap.{StoredMap}

@@ -1,3 +1,5 @@
+-- `end_run` of `Maps`: the stored map's own `end_run` frees the elements that were kept apart, and keeps the shape. So, as in each change
+-- of one map's keys (`KeyChanges`), nothing else changes, and the invariant still holds.
 use Rattle.std.proofs.Common.{ap, ◌∙◌, sym}
 use Rattle.bpf_maps.specs.KeyTable.{KeyTable, after_run}
 use Rattle.bpf_maps.proofs.ByHandle.{has_key}

@@ -1,3 +1,5 @@
+-- `entry_after` of `Maps`: the stored map has the live map's keys, so the entry that it returns follows there too. By `next_within` its
+-- element is less than `max_entries`, since the table of keys is sound.
 use Rattle.std.proofs.Common.{◌≡◌, option_map, is_some, sym, ap, subst}
 use Rattle.ordered_keys.specs.Orders.{next_entry}
 use Rattle.bpf_maps.specs.KeyRef.{shown_entry}

@@ -1,3 +1,5 @@
+-- `hold`: the stored map gets one more reference, and keeps its keys and its area. So, as in each change of one map (`IsChange`), the other
+-- maps and all areas are unchanged, and the invariant still holds. The sum does not overflow, by the precondition `few`.
 use Rattle.std.proofs.Common.{refl, ap, sym, ◌∙◌, ◌+◌, arith, option_map, ℕ, is_some}
 use Rattle.bpf_maps.specs.Live.{one_more}
 use Rattle.bpf_maps.specs.declared.stored_map.StoredMap.{StoredMap}

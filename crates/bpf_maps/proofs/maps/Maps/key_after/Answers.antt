@@ -1,3 +1,5 @@
+-- `key_after` of `Maps`: the stored map has the live map's table of keys, so the key that it returns follows in that table, and has the
+-- size of its keys.
 use Rattle.std.proofs.Common.{◌≡◌, length, IfSome, option_map, sym, subst}
 use Rattle.bpf_maps.specs.KeyRef.{key_bytes}
 use Rattle.bpf_maps.specs.KeyTable.{KeyTable, table_of}

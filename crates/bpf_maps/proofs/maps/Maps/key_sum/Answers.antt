@@ -1,3 +1,5 @@
+-- `key_sum`: without a handle the sum is 0, and each turn adds the number of keys at one more handle (`more_keys`), which `key_count`
+-- returns and bounds.
 use Rattle.std.proofs.Common.{◌<◌, length, refl, arith}
 use Rattle.bpf_maps.specs.Sum.{total}
 use Rattle.bpf_maps.proofs.Totals.{more_keys}

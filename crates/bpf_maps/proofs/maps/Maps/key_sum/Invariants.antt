@@ -1,3 +1,5 @@
+-- `key_sum`: the sum is the number of keys of the maps at the handles so far, and at most the most entries of a map for each of these
+-- handles.
 use Rattle.std.proofs.Common.{◌≡◌, ◌*◌, ◌≤◌, length, take}
 use Rattle.bpf_maps.specs.Sum.{total}
 use Rattle.bpf_maps.proofs.maps.Maps.key_sum.Given as goal

@@ -1,3 +1,5 @@
+-- `live_count`: without a handle the count is 0, and each turn counts one more handle, by cases of `is_live`: a live map adds one
+-- (`one_more_live`), a handle without a map nothing (`no_more_live`).
 use Rattle.std.proofs.Common.{◌<◌, length, refl, sym, ◌∙◌, arith}
 use Rattle.bpf_maps.specs.Sum.{total}
 use Rattle.bpf_maps.proofs.Totals.{one_more_live, no_more_live}

@@ -1,3 +1,5 @@
+-- `maps_are_laid`: each clause follows from the invariant of `Maps`, by the lemmas in `Whole` and `ByHandle`, first for the fields and then
+-- for the live maps that contracts see.
 use Rattle.std.proofs.Common.{◌≡◌, ◌≤◌, length, subst, arith}
 use Rattle.bpf_maps.specs.declared.part.TheConstants.{LARGEST_SUM, MAPS}
 use Rattle.bpf_maps.specs.Live.{LiveMaps, IsLaid, IsPacked, AreSound, areas}

@@ -1,3 +1,5 @@
+-- `new` of `Maps`: by induction over the number of handles, none of them has a key of the slab. So none has a map, the areas take no bytes,
+-- and what the invariant requires of each key and each map holds, since no map exists.
 use Rattle.std.proofs.Common.{◌≡◌, ℕ, zero, suc, List, Option, Some, None, refl, sym, ap, ◌∙◌, arith, get_or, replicate, length, is_some, count_by}
 use Rattle.std.proofs.lemmas.Option.{none-some}
 use Rattle.slab.specs.Slab.{Slab}

@@ -1,3 +1,4 @@
+-- `next_key` of `Maps`: the stored map has the live map's table of keys, so the key that it writes follows in that table.
 use Rattle.std.proofs.Common.{sym, subst}
 use Rattle.bpf_maps.specs.KeyTable.{KeyTable, table_of, GivesKey}
 use Rattle.tagged_model.specs.Table.{next_of}

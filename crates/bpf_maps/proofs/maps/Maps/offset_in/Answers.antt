@@ -1,3 +1,5 @@
+-- `offset_in`: the stored map has the start and the stride of the live map, so the result is the value's offset. By the law `maps_are_laid`
+-- the value lies in the part, so neither the product nor the sum overflows.
 use Rattle.std.proofs.Common.{◌≡◌, ℕ, ◌+◌, ◌*◌, ◌≤◌, Option, Some, refl, sym, subst, ap, arith}
 use Rattle.std.specs.Option.{IsSome}
 use Rattle.bpf_maps.specs.declared.part.TheConstants.{PART}

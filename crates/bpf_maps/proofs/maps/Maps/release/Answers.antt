@@ -1,3 +1,6 @@
+-- `release`, by cases of the number of references. With more than one, only this number changes (lemmas in `Changes`). At the last one,
+-- `remove`, `clear` and `close_gap` together remove the map (`Goes`), and `copy_within` moves the bytes of the later areas down (lemmas in
+-- `Released`). In each case the condition of the clauses for the other case is false.
 use Rattle.std.proofs.Common.{◌≡◌, ◌+◌, ◌-◌, ◌<◌, ◌≤◌, ◌++◌, take, drop, refl, ap, is_some, option_map, ◌∙◌, arith, append_assoc}
 use Rattle.bpf_maps.specs.declared.part.TheConstants.{STACK_AND_CONTEXT}
 use Rattle.bpf_maps.specs.Live.{references_at, without_area, area_by, area_of}

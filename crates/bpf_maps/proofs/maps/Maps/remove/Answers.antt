@@ -1,3 +1,5 @@
+-- `remove` of `Maps`: the stored map has the live map's table of keys, before and after, so its own `remove` gives `removed`. A delete
+-- keeps the shape (`removes_shape`). So, as in each change of one map's keys (`KeyChanges`), nothing else changes.
 use Rattle.std.proofs.Common.{◌∙◌}
 use Rattle.bpf_maps.proofs.ByHandle.{has_key}
 use Rattle.bpf_maps.proofs.Changes.{seen_of, is_under, live_under}

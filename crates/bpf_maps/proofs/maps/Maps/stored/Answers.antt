@@ -1,3 +1,4 @@
+-- `stored`: the handle of a live map has a key of the slab (`has_key`), and under it the slab has the live map (`live_under`).
 use Rattle.bpf_maps.proofs.ByHandle.{has_key}
 use Rattle.bpf_maps.proofs.Changes.{is_under, live_under}
 use Rattle.bpf_maps.proofs.maps.Maps.stored.Goals as goal

@@ -1,3 +1,4 @@
+-- `clear` of `SlabKeys`: the word `NO_KEY` is seen as `None`, and setting a word sets what contracts see of it (`map-set`).
 use Rattle.std.proofs.Common.{ℕ, List, Option, None, set, ap, ◌∙◌}
 use Rattle.std.proofs.lemmas.List.{map-set}
 use Rattle.bpf_maps.specs.declared.slab_keys.TheConstants.{NO_KEY}

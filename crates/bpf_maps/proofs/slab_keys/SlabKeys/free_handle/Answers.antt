@@ -1,3 +1,5 @@
+-- `free_handle`: the first word that is `NO_KEY` has the index of the first `None` that contracts see. By induction over the words, a
+-- search in a mapped list finds the index that a search with the mapped test finds.
 use Rattle.std.proofs.Common.{◌≡◌, ℕ, ◌+◌, Bool, not, List, [], ◌∷◌, Some, None, map, cond, nat_lt, refl, sym, ap, ap₂, ◌∙◌}
 use Rattle.std.specs.Prelude.{is_none, position}
 use Rattle.std.specs.List.{position_or_len}

@@ -1,3 +1,4 @@
+-- `put`: a word less than `NO_KEY` is seen as a key (`is_key`), and setting a word sets what contracts see of it (`map-set`).
 use Rattle.std.proofs.Common.{◌≡◌, ℕ, ◌<◌, List, Option, Some, set, ap₂, ◌∙◌, arith}
 use Rattle.std.proofs.lemmas.List.{map-set}
 use Rattle.bpf_maps.specs.declared.slab_keys.TheConstants.{NO_KEY}

@@ -1,3 +1,4 @@
+-- `next_to_free`: the chosen index is that of a spare map, and this map suffices if one of the spare maps so far does.
 use Rattle.std.proofs.Common.{ℕ, ◌<◌, vec_len, slice_get}
 use Rattle.bpf_maps.specs.inside.Spares.{HasEntries}
 use Rattle.bpf_maps.proofs.spare_maps.SpareMaps.next_to_free.Given as goal

@@ -1,3 +1,4 @@
+-- `clear` of `WordIndex`: by `clear` of the map of numbers no entry is left, so the index has no key, and its invariant holds.
 use Rattle.std.proofs.Common.{◌^◌, sym, subst, ap}
 use Rattle.words.specs.Bytes.{low_bytes}
 use Rattle.bpf_maps.specs.KeyLists.{shown_by}

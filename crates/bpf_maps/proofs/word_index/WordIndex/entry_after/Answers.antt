@@ -1,3 +1,5 @@
+-- `entry_after` of `WordIndex`: the next entry among the numbers, with the number as its bytes (`of_word`), is the next entry among the
+-- keys (`next_shown`), both if an entry follows and if none does.
 use Rattle.std.proofs.Common.{ℕ, List, Option, Some, option_map, ◌∙◌, ap, sym}
 use Rattle.ordered_keys.specs.Orders.{next_entry}
 use Rattle.words.specs.Bytes.{low_bytes}

@@ -1,3 +1,5 @@
+-- `get` of `WordIndex`: a number in the index is that of the key exactly if it represents the key's bytes (`word_tests`), so the element
+-- that is found by the number is the key's (`found_shown`).
 use Rattle.std.proofs.Common.{◌∙◌, ap, sym, nat_eq}
 use Rattle.words.specs.Bytes.{low_bytes}
 use Rattle.tagged_model.specs.Table.{found}

@@ -1,3 +1,5 @@
+-- `insert` of `WordIndex`: the key's number is absent, since the key is, and no number has the element, since no key has it. The new number
+-- represents the key's bytes (`word_spelled`) and fits in the size of the keys (`key_below`), so the invariant still holds.
 use Rattle.std.proofs.Common.{◌≡◌, ◌<◌, ◌^◌, ◌∙◌, ap, sym, subst, nat_eq, length}
 use Rattle.std.specs.Map.{values_of}
 use Rattle.words.specs.Bytes.{low_bytes}

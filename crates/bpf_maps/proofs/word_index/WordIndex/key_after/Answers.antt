@@ -1,3 +1,5 @@
+-- `key_after` of `WordIndex`, by cases of the key's size: a key of another size is absent, so the first key is returned
+-- (`after_other_size`). Otherwise the key after it is the one whose number follows the key's number (`following_shown`).
 use Rattle.std.proofs.Common.{ℕ, List, Option, Some, option_map, ◌∙◌, ap, nat_eq}
 use Rattle.words.specs.Bytes.{low_bytes}
 use Rattle.tagged_model.specs.Table.{key_after}

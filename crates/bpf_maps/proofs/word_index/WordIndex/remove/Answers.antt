@@ -1,3 +1,5 @@
+-- `remove` of `WordIndex`: a number in the index is that of the key exactly if it represents the key's bytes (`word_tests`), so the map of
+-- numbers returns the key's element, and without the number the index has the other keys. Each number still fits in their size.
 use Rattle.std.proofs.Common.{◌≡◌, ◌^◌, ◌∙◌, ap, sym, subst, nat_eq, length}
 use Rattle.words.specs.Bytes.{low_bytes}
 use Rattle.tagged_model.specs.Table.{found, without}

@@ -1,3 +1,5 @@
+-- `install` of `Session`: if `install` of `Host` gives the program back, the host is unchanged, and so is the session, as a session with an
+-- equal host and equal other fields is equal (`same_session`).
 use Rattle.std.proofs.Common.{◌≡◌, ◌≤◌, ℕ, ap, ◌∙◌}
 use Rattle.std.specs.Prelude.{vec_capacity}
 use Rattle.std.proofs.Props.{props}

@@ -1,3 +1,4 @@
+-- `close`: after the bit of the closed descriptor is cleared and its entry is `None`, each bit still says whether its descriptor is open.
 use Rattle.std.proofs.Common.{arith}
 use Rattle.fd_table.proofs.TakenBits.{left_free}
 use Rattle.fd_table.proofs.table.FdTable.close.Goals as goal

@@ -1,3 +1,5 @@
+-- `free_index`: the index is that of the first free entry, by cases of whether a bit is 0: a bit is 0 exactly if its entry is free, so
+-- the lowest 0 is at the first free entry; if there is no 0, no entry is free.
 use Rattle.std.proofs.Common.{arith}
 use Rattle.fd_table.proofs.TakenBits.{some_free, none_free}
 use Rattle.fd_table.proofs.table.FdTable.free_index.Goals as goal

@@ -1,3 +1,4 @@
+-- `new`: the type's invariant holds of a table with nothing open: it has all its entries, and each bit is 0, as each entry is free.
 use Rattle.std.proofs.Common.{rules}
 use Rattle.fd_table.proofs.TakenBits.{none_taken}
 use Rattle.fd_table.proofs.table.FdTable.new.Goals as goal

@@ -1,3 +1,5 @@
+-- An object is opened: after its entry is taken and the entry's bit is set, each bit still says whether its descriptor is open, and the
+-- number of entries is unchanged.
 use Rattle.std.proofs.Common.{arith}
 use Rattle.fd_table.proofs.TakenBits.{taken_more}
 use Rattle.fd_table.proofs.table.FdTable.place.Goals as goal

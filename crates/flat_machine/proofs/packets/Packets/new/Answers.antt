@@ -1,3 +1,5 @@
+-- `new` of `Packets`: if the contexts are enough and `fault_of` finds no fault, the batch has none, as the invariant requires. So it has as
+-- many packets as ends, since one context is for all packets, or one for each.
 use Rattle.std.proofs.Common.{◌≡◌, None, true, length, sym, ◌∙◌}
 use Rattle.flat_machine.specs.Packets.{packets_in, batch_fault}
 use Rattle.flat_machine.proofs.PacketEnds.{fault_by, fits_all, enough_for, one_input_each, one_for_each}

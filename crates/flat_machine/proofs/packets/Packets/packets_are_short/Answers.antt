@@ -1,3 +1,4 @@
+-- `packets_are_short` of `Packets`: by the invariant the batch has no fault, so none of its packets is too long.
 use Rattle.std.proofs.Common.{◌≤◌, length, List, subst}
 use Rattle.std.specs.List.{All}
 use Rattle.flat_machine.specs.Packets.{BatchInput, longest_packet, packets_in}

@@ -1,3 +1,5 @@
+-- `judge_streams`: if the map arguments name maps (`maps_given`), none of them is wrong. After status 0 `judge` has read the whole input
+-- and has returned no refusal, so a known input has a program that is accepted with these maps.
 use Rattle.std.proofs.Common.{◌∙◌, subst, sym}
 use Rattle.host.specs.program.Judging.{AcceptsIfKnown}
 use Rattle.host.specs.inside.program.Asked.{texts_given}

@@ -1,3 +1,5 @@
+-- `parse_arguments`: the command that clap's calls build, one after another, is by their contracts that of the definition (`program`). It
+-- is simple and free (`is_simple_and_free`), by computation, so clap's contract gives result and failures.
 use Rattle.std.proofs.Common.{◌≡◌, ◌∙◌, ◌&&◌, Bool, not, ap, ap₂, refl, sym, subst, true, false, true≢false, codes}
 use Rattle.std.proofs.lemmas.Result.{IfOk-weaker}
 use Rattle.clap.specs.Words.{App, FailsBy, Shape, app_of, fault_of, is_simple, is_simple_and_free, new_app, subcommand_of, with_subcommand}

@@ -1,3 +1,4 @@
+-- `rewrite_streams`: by cases of what stops `rewrite` (no input, no memory, a rejected input, a failed write) no failure has exit status 2.
 use Rattle.std.proofs.lemmas.Result.{IfErr-weaker}
 use Rattle.host.proofs.OtherFailures.{refused_otherwise, stops_otherwise}
 use Rattle.host.proofs.program.arguments.rewrite_streams.Goals as goal

@@ -1,3 +1,4 @@
+-- `run`: the arguments ask for `verify` with the map arguments of the task, so after status 0 what `judge_streams` promises holds for them.
 use Rattle.std.proofs.Common.{◌≡◌, Some, rules}
 use Rattle.clap.specs.Walk.{texts}
 use Rattle.host.specs.program.Arguments.{Verifies, asked_by_arguments}

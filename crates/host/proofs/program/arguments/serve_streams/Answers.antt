@@ -1,3 +1,4 @@
+-- `serve_streams`: by its contract `serve_frames` fails only with a fault of serving a stream, and none of these has exit status 2.
 use Rattle.host.proofs.OtherFailures.{served_otherwise}
 use Rattle.host.proofs.program.arguments.serve_streams.Goals as goal
 

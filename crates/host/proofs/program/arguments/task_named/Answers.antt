@@ -1,3 +1,4 @@
+-- `task_named`: for `verify`, `get_strs` returns the map arguments of the definition, by its contract; its `None` means the empty list.
 use Rattle.std.proofs.Common.{◌≡◌, ◌∙◌, ap, codes, refl, sym, List, ℕ, Option, Some, None, option_map, unwrap_or, Bor, []}
 use Rattle.clap.specs.Words.{found_of, rows_of}
 use Rattle.clap.specs.Walk.{texts}

@@ -1,3 +1,4 @@
+-- `tenants_given`: the option's text is that of the definition, by the contract of `get_str`, and its number is that of `tenant_count`.
 use Rattle.std.proofs.Common.{◌∙◌, ap, sym, codes, option_and_then, option_map}
 use Rattle.clap.specs.Words.{found_of}
 use Rattle.clap.proofs.WalkLemmas.{first_value-rows}

@@ -1,3 +1,4 @@
+-- `decimal`: `parse` of decimal digits returns their value, or fails if there is no digit or the value is too large.
 use Rattle.std.proofs.Common.{rules, ◌∙◌}
 use Rattle.host.proofs.Digits.{parsed_digits}
 use Rattle.host.proofs.program.decimal.decimal.Goals as goal

@@ -1,3 +1,5 @@
+-- `judge`: if `refusal_of_input` fails, its failure is one of the input, which was read whole, and nothing is written. If the write fails,
+-- the line is, by the contracts of `refusal_of_input` and `verdict_line`, that of a verdict on this input.
 use Rattle.std.proofs.Common.{◌≡◌, ◌⊎◌, refl, subst, rules, string_bytes, inl, inr}
 use Rattle.host.specs.inside.program.Judgements.{IsLineOfAnyVerdict, IsJudgementLine}
 use Rattle.host.specs.inside.program.Rewriting.{IsUnreadable}

@@ -1,3 +1,5 @@
+-- `refusal_of_input`: an input has at most one list of slots (`slots_on`), and slots have at most one judgement (`one_judgement`), so any
+-- judgement of the input is the one found. If the input has one and `slots_on` fails, memory ran out.
 use Rattle.std.proofs.Common.{◌≡◌, ◌∙◌, Ok, Err, rules}
 use Rattle.host.specs.declared.program.failure.Failure.TheVariants.{Memory}
 use Rattle.host.proofs.Judgements.{memory_seen, one_verdict}

@@ -1,3 +1,5 @@
+-- `first_field`: `split_once` cuts the text at its first colon, so into the first field and the text of the other fields; a text that it
+-- does not cut has no colon, and so is one field.
 use Rattle.std.proofs.Common.{lit<}
 use Rattle.std.proofs.lemmas.Str.Pattern.{split_once_first}
 use Rattle.host.specs.program.Shapes.{colon}

@@ -1,3 +1,5 @@
+-- `further_map`: by the contract of `read_shape` the argument names no map if it fails, and otherwise only the map that it returns. So if
+-- one of `maps` has the descriptor of that map, this holds for every map that the argument names.
 use Rattle.std.proofs.Common.{◌≡◌, ◌∙◌, ap, sym, subst, true, IfNone}
 use Rattle.tagged_model.specs.declared.shape.Named.{Named}
 use Rattle.host.specs.program.Shapes.{has_descriptor, IsMapArgument}

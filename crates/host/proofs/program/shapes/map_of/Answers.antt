@@ -1,3 +1,5 @@
+-- `map_of`: an argument that has fewer than five fields, or whose fields spell no shape or no descriptor, names no map; any other names
+-- exactly the map of its shape and descriptor. By cases of the call that returns `None`.
 use Rattle.std.proofs.Common.{sym}
 use Rattle.host.proofs.MapArguments.{few_fields, no_descriptor, no_shape, none_named, one_named}
 use Rattle.host.proofs.program.shapes.map_of.Goals as goal

@@ -1,3 +1,5 @@
+-- `named_maps`: if the next argument names a map with a new descriptor, the list with this map is named by the arguments so far. If
+-- `further_map` returns `None`, the argument is the first wrong one, since those before it name the maps of the list.
 use Rattle.std.proofs.Common.{◌≡◌, ◌∙◌, ap, sym, subst, refl, inr, false}
 use Rattle.tagged_model.specs.declared.shape.Named.{Named}
 use Rattle.host.specs.program.Shapes.{has_descriptor, AreMapArguments, IsMapArgument}

@@ -1,3 +1,4 @@
+-- `read_shape`: the result is `Ok` of a map exactly if `map_of` returns this map, so the contract of `map_of` holds for it.
 use Rattle.std.proofs.Common.{◌≡◌, ◌∙◌, ap, sym, Option, Some, None, Ok, ok_or}
 use Rattle.host.proofs.program.shapes.read_shape.Goals as goal
 

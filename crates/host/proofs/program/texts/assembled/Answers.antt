@@ -1,3 +1,5 @@
+-- `assembled`: by the contract of `assemble` a program of the input's text is the one returned, and a fault of the text is the one
+-- returned, unless memory runs out. So an output of the input is the program's hex lines, and a text that is assembled has no fault.
 use Rattle.std.proofs.Common.{◌≡◌, ◌⊎◌, ◌∙◌, ap, sym, rules}
 use Rattle.bpf_text.specs.HexText.{hex_text}
 use Rattle.insn_set.specs.Program.{program_bytes}

@@ -1,3 +1,5 @@
+-- `program_on`: a fault of the input is one of its hex lines, which `slots_on` returns, or of their slots, which `read_program` returns,
+-- unless memory runs out. If neither fails, the input has no fault.
 use Rattle.std.proofs.Common.{◌≡◌, ◌⊎◌, ◌∙◌, rules}
 use Rattle.host.specs.program.Failure.{codec_failure}
 use Rattle.host.specs.declared.program.failure.Failure.TheVariants.{Memory}

@@ -1,3 +1,5 @@
+-- `slots_on`: since the input is UTF-8 (`text_in`), a fault of it is one of its lines, which `from_hex_lines` returns unless memory runs
+-- out. If it returns slots, the input has no fault.
 use Rattle.std.proofs.Common.{◌≡◌, ◌⊎◌, subst, sym, rules, IsUtf8}
 use Rattle.host.specs.program.Statuses.{text_failure}
 use Rattle.host.specs.inside.program.Rewriting.{IsUnreadable}

@@ -1,3 +1,4 @@
+-- `counts` of `Host`: if `kept` finds a stored tenant, that represents the tenant's state, and has its counts; if not, there is no state.
 use Rattle.std.proofs.Common.{◌∙◌}
 use Rattle.tenant.specs.Counts.{counts_if_served}
 use Rattle.host_core.proofs.Tenants.{of_kept, of_none}

@@ -1,3 +1,5 @@
+-- `describe` of `Host`: if `kept` finds a stored tenant, that represents the tenant's state, and its descriptor names what it names in this
+-- state; if not, there is no state.
 use Rattle.std.proofs.Common.{◌∙◌}
 use Rattle.tenant.specs.Described.{described_if_served}
 use Rattle.host_core.proofs.Tenants.{of_kept, of_none}

@@ -1,3 +1,6 @@
+-- `handle` of `Host`: the owner of a frame without a head, or of a tenant that is not served, has no state; the reply is that of the
+-- definition, and nothing changes. Any other frame changes only the state and the births of its tenant, by the contract of `handle` of
+-- `SavableTenant`. So each tenant still has a history, as the invariant requires.
 use Rattle.std.proofs.Common.{◌≡◌, ◌<◌, List, [], length, Some, None, refl, set, sym, ap, ◌∙◌, arith, to_z, of_z, w32}
 use Rattle.std.specs.Prelude.{ℤ, slice_get}
 use Rattle.arena.specs.Memory.{part_bytes}

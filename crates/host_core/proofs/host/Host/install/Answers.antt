@@ -1,3 +1,6 @@
+-- `install` of `Host`: for a tenant that is not served the status is that of the reply to a load. For any other the contract of `install`
+-- of `SavableTenant` shows that the host changes as by the frame that loads the program, or not at all if the program is stale. In both
+-- cases each tenant still has a history, as the invariant requires.
 use Rattle.std.proofs.Common.{◌≡◌, ◌<◌, ◌^◌, ℕ, None, length, refl, set, sym, ap, subst, ◌∙◌, arith, w32, to_z, of_z, rules}
 use Rattle.std.specs.Prelude.{ℤ, slice_get}
 use Rattle.arena.specs.Memory.{part_bytes}

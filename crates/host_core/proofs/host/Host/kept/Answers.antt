@@ -1,3 +1,4 @@
+-- `kept` of `Host`: a tenant that `get` finds represents, with its part, the state of this number; if `get` finds none, there is no state.
 use Rattle.arena.specs.Memory.{part_bytes}
 use Rattle.host_core.proofs.Tenants.{states_are, kept_is}
 use Rattle.host_core.proofs.host.Host.kept.Goals as goal

@@ -1,3 +1,5 @@
+-- `memory_was_refused` of `Host`: the flag of a stored tenant is that of the state that it represents; a number that is not served has no
+-- state, and so no flag.
 use Rattle.std.proofs.Common.{◌≡◌, List, length, Some, sym, ap, subst, arith}
 use Rattle.std.specs.Prelude.{slice_get}
 use Rattle.std.proofs.lemmas.Bool.{ltb-true, ltb-false}

@@ -1,3 +1,5 @@
+-- `new` of `Host`: by the contract of `new_tenants` all states are new and all births empty, so the host is a new one. The arena has a part
+-- for each tenant, and each tenant has a history without commands, as the invariant requires.
 use Rattle.std.proofs.Common.{◌≡◌, ℕ, List, [], replicate, sym, ap₂, subst, ◌∙◌, arith}
 use Rattle.std.specs.Vec.{vec_len}
 use Rattle.arena.specs.Memory.{Memory}

@@ -1,3 +1,5 @@
+-- `run_packets` of `Host`: a tenant that is not served has no state, and the refusal for this. For any other the contract of `run_packets`
+-- of `SavableTenant` gives runs, refusal and births; no other state changes. So each tenant still has a history, as the invariant requires.
 use Rattle.std.proofs.Common.{◌≡◌, ◌<◌, List, Option, None, length, set, refl, sym, ap, subst, ◌∙◌, arith}
 use Rattle.std.specs.Prelude.{slice_get}
 use Rattle.tenant.specs.Batch.{packets_in, inputs_of}

@@ -1,3 +1,5 @@
+-- `save` of `Host`: the tenant's record and its part of the arena, which exists by the host's invariant, represent its state, so what
+-- `save_part` returns is from that state. A tenant that is not served has no state, and its save no parts.
 use Rattle.std.proofs.Common.{◌≡◌, List, ℕ, length, Option, Some, IfOk, sym, ap, subst, ◌∙◌, arith}
 use Rattle.std.specs.Prelude.{slice_get, option_map}
 use Rattle.std.proofs.lemmas.Bool.{ltb-true, ltb-false}

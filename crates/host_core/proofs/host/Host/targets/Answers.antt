@@ -1,3 +1,5 @@
+-- `targets` of `Host`: by the contract of `kept` the record that it finds represents the tenant's state, whose descriptors the record's
+-- `targets` lists; if it finds none, the tenant has no state, and the list is empty.
 use Rattle.std.proofs.Common.{◌∙◌}
 use Rattle.std.proofs.lemmas.Result.{IfOk-weaker}
 use Rattle.host_core.specs.Targets.{targets_if_served}

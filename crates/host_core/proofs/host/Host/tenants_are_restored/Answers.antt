@@ -1,3 +1,5 @@
+-- `tenants_are_restored` of `Host`: by the host's invariant commands lead a new tenant to each state and its births, so the three laws of
+-- the body restore it.
 use Rattle.std.proofs.Common.{subst}
 use Rattle.host_core.specs.inside.Reached.{AreReached}
 use Rattle.host_core.proofs.Histories.{tenants_are_restored}

@@ -1,3 +1,5 @@
+-- `after` of `ElementOrder`: an element of the order has a link, and in the ring the element that follows it in the order comes after it,
+-- or the bound if it is the last, by the lemma `following_is`.
 use Rattle.std.proofs.Common.{◌≡◌, ℕ, ◌∙◌, ap, sym}
 use Rattle.ordered_keys.specs.Orders.{Order, following}
 use Rattle.ordered_keys.specs.inside.Links.{link_at, elements_in, after_in, before_in}

@@ -1,3 +1,5 @@
+-- `first` of `ElementOrder`: the bound has a link, and in the ring the first element comes after the bound, or the bound itself if there is
+-- none, by the lemma `first_is`.
 use Rattle.std.proofs.Common.{◌≡◌, ℕ, ◌<◌, ◌∙◌, ap, sym, vec_len, arith}
 use Rattle.std.proofs.lemmas.List.{get_or_read_under}
 use Rattle.ordered_keys.specs.Orders.{Order, first_element}

@@ -1,3 +1,5 @@
+-- `push` of `ElementOrder`: what is before the bound, the last element or the bound itself, has a link, and the count does not overflow.
+-- After the writes of three links these are a ring again, in which the new element is last.
 use Rattle.ordered_keys.proofs.Links.{last_within, count_fits, push_ring, push_elements}
 use Rattle.ordered_keys.proofs.element_order.ElementOrder.push.Goals as goal
 

@@ -1,3 +1,5 @@
+-- `remove` of `ElementOrder`: the element and its two neighbours have links, by the invariant. After the writes of the neighbours' links
+-- these are a ring again, of the order without the element.
 use Rattle.ordered_keys.proofs.Links.{member_within, before_inside, after_inside, remove_ring, remove_elements}
 use Rattle.ordered_keys.proofs.element_order.ElementOrder.remove.Goals as goal
 

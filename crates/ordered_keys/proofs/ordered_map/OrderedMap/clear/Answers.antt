@@ -1,3 +1,5 @@
+-- `clear` of `OrderedMap`: after both calls of `clear` the table has no entry and the order no element, so they agree; by the first call's
+-- contract the table loses no capacity, so it still has room for all entries.
 use Rattle.std.proofs.Common.{ap, arith}
 use Rattle.ordered_keys.specs.inside.Ordered.{in_order}
 use Rattle.ordered_keys.proofs.Tables.{indexed_cleared}

@@ -1,3 +1,5 @@
+-- `entry_after` of `OrderedMap`: the next element, by the contract of `next_element`, is in the order and so in range for `key_at`. The
+-- next entry is that of this element, with the key that `key_at` finds; if one of the two calls returns `None`, no entry follows.
 use Rattle.std.proofs.Common.{◌≡◌, ℕ, ◌∙◌, List, Option, Some, length, option_map, sym, ap}
 use Rattle.ordered_keys.specs.Orders.{BoundedKeys, lent_entry, next_entry}
 use Rattle.ordered_keys.specs.inside.Ordered.{key_of}

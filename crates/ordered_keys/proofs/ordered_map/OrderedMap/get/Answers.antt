@@ -1,3 +1,5 @@
+-- `get` of `OrderedMap`: a look-up in the table finds what one in the order finds (`same_found`), since the table's keys are distinct, by
+-- the contract of `len`, and all keys equivalent to `key` are equal, by the law of `Equivalent`.
 use Rattle.std.proofs.Common.{◌∙◌, ap}
 use Rattle.std.specs.Map.{lookup}
 use Rattle.ordered_keys.specs.Orders.{BoundedKeys}

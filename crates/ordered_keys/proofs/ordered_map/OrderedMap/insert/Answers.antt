@@ -1,3 +1,6 @@
+-- `insert`: the new entry follows the old ones in order (`shown_inserted`), and the table, the indices and the order still agree
+-- (`indexed_inserted`), by the contracts of `put_last` and `push`. These may be called: a key that is absent in the order is absent in the
+-- table, and the order has as many elements as entries, fewer than the bound, and the new one is not among them.
 use Rattle.std.proofs.Common.{◌≡◌, ℕ, ◌<◌, ◌∙◌, List, [], ◌∷◌, ◌++◌, length, length-append, sym, ap, subst, arith}
 use Rattle.std.proofs.Math.ListN.{set}
 use Rattle.std.specs.Map.{lookup, values_of}

@@ -1,3 +1,6 @@
+-- `key_after`, by cases of the look-up in the table: after an absent key comes the first one (`following_absent`), after a found one the
+-- key of the element that follows its element (`following_in_order`). The order has the found element once, and each of its elements is
+-- less than the bound, as `after` and `key_at` require.
 use Rattle.std.proofs.Common.{◌≡◌, ℕ, ◌<◌, ◌∙◌, List, Option, Some, None, IfSome, length, sym, ap, subst, arith}
 use Rattle.std.specs.Map.{lookup}
 use Rattle.std.specs.Option.{option_copied}

@@ -1,3 +1,6 @@
+-- `remove`, by cases of the look-up in the table: a key that it does not find is absent in the order, so nothing is removed. If it finds
+-- one, the others keep their order (`shown_removed`), and the table, the indices and the order still agree (`indexed_removed`), by the
+-- contracts of `take_out`, `element_at` and `ElementOrder::remove`.
 use Rattle.std.proofs.Common.{◌≡◌, ℕ, ◌∙◌, List, Some, None, is_some, slice_get, sym, ap, subst, arith}
 use Rattle.std.proofs.Math.ListN.{set}
 use Rattle.std.specs.Map.{lookup, remove_entry}

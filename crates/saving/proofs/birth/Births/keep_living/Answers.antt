@@ -1,3 +1,5 @@
+-- `keep_living`: `retain` filters the births by the result of `lives`, which by its contract is that of the state for any bytes of the
+-- part. Contracts see them reversed: to filter and then reverse is to reverse and then filter (`filter-reverse`).
 use Rattle.std.proofs.Common.{◌≡◌, List, reverse, filter, rules, ap, ◌∙◌}
 use Rattle.std.proofs.lemmas.Fn.{filter_same}
 use Rattle.tenant.specs.Kept.{state_in}

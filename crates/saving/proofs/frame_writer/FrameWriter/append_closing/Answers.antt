@@ -1,3 +1,5 @@
+-- `append_closing`: each turn appends the frame that closes the next descriptor, unless it is open, so the frames so far and those that are
+-- left are still all (`some_commands`, `closings_next`). After the last descriptor none is left.
 use Rattle.std.proofs.Common.{◌≡◌, ℕ, List, ◌+◌, ◌-◌, ◌++◌, ◌∙◌, ap, arith}
 use Rattle.fd_table.specs.Table.{first_descriptor, most, named}
 use Rattle.saving.specs.Restored.{closings}

@@ -1,3 +1,5 @@
+-- `append_create`: the appended frame is that of the command, by the contracts of `write_command` and `append_framed`, and its type is that
+-- of the shape's kind (`type_number`).
 use Rattle.std.proofs.Common.{◌≡◌, ◌++◌, ◌∙◌, ℕ, List, OnOk, ap, subst}
 use Rattle.command_frames.specs.Command.{map_create}
 use Rattle.command_frames.specs.Encoded.{frame_of}

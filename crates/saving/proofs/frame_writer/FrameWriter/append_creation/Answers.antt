@@ -1,3 +1,5 @@
+-- `append_creation`, by cases of the birth, a map's or a program's: the frame of the close, and then the frame that creates the object, are
+-- those of `creation` (`ok_more`), by the contracts of `append_close`, `append_map` and `append_program`.
 use Rattle.std.proofs.Common.{ap}
 use Rattle.command_frames.specs.Command.{close}
 use Rattle.fd_table.specs.Table.{named}

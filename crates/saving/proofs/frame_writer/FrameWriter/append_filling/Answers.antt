@@ -1,3 +1,5 @@
+-- `append_filling`: each turn appends a load of the filler, by the contract of `append_load`, so the frames so far and those that are left
+-- are still all (`one_command`, `filled_next`). After the last turn none is left.
 use Rattle.std.proofs.Common.{ℕ, ◌+◌, ◌-◌, ◌++◌, ◌∙◌, List, sym, ap, arith}
 use Rattle.command_frames.specs.Command.{prog_load}
 use Rattle.command_frames.specs.Frame.{framed}

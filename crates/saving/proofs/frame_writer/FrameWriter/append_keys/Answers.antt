@@ -1,3 +1,5 @@
+-- `append_keys`: the updates of the keys from index `first` on are those of the entries after the element that `element_before` returns
+-- (`some_puts`), and `append_updates_after` appends them. `map_shape` gives the live map, and to reserve room changes no frame.
 use Rattle.std.proofs.Common.{◌≡◌, ℕ, List, Option, ◌++◌, take, drop, sym, ap, subst, ◌∙◌}
 use Rattle.std.specs.Result.{OnOk}
 use Rattle.command_frames.specs.Command.{Command}

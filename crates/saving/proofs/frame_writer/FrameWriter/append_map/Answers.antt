@@ -1,3 +1,5 @@
+-- `append_map`: if `map_shape` returns a shape, the map is live and has it, so the frame of `append_create` is that of the only command of
+-- `made_empty` (`ok_one`).
 use Rattle.std.proofs.Common.{[], ◌∷◌, sym, ap, ◌∙◌}
 use Rattle.tagged_model.specs.declared.shape.MapShape.{MapShape}
 use Rattle.tenant.specs.Kept.{state_in}

@@ -1,3 +1,5 @@
+-- `append_updates_after`: each turn appends the update of the next entry, by the contract of `map_entry`, so the frames so far and those
+-- that are left are still all (`one_command`, `next_put`). None is left if no entry follows (`no_key`), or after the last turn (`no_put`).
 use Rattle.std.proofs.Common.{◌++◌, ◌+◌, ◌-◌, ℕ, List, Some, option_map, take, sym, ap, ◌∙◌, arith}
 use Rattle.command_frames.specs.Frame.{framed}
 use Rattle.tenant.specs.Entry.{numbered_entries, lent_entry}

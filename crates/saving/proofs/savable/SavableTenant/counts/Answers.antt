@@ -1,3 +1,4 @@
+-- `counts` of `SavableTenant`: by the contract of `Tenant::counts`, since the state of a savable tenant is that of its `Tenant`.
 use Rattle.std.proofs.Common.{ap, ◌∙◌}
 use Rattle.saving.specs.Recorded.{RecordedTenant, tenant_state}
 use Rattle.tenant.specs.Counts.{counts_of}

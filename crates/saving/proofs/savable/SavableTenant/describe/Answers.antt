@@ -1,3 +1,4 @@
+-- `describe` of `SavableTenant`: by the contract of `Tenant::describe`, since the state of a savable tenant is that of its `Tenant`.
 use Rattle.std.proofs.Common.{ap, ◌∙◌}
 use Rattle.saving.specs.Recorded.{RecordedTenant, tenant_state}
 use Rattle.tenant.specs.Described.{described}

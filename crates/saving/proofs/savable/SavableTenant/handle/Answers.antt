@@ -1,3 +1,6 @@
+-- `handle` of `SavableTenant`: a reply to the parsed command is a reply to the frame (`may_tell`, `may_record`), by the contract of
+-- `reply_to_command`, and the births are right for the next state (`recorded_after`). A frame without a command gets the error of its fault
+-- and changes nothing (`refused_frame`); no reply is that of a fault of a run.
 use Rattle.std.proofs.Common.{Some, sym, subst}
 use Rattle.arena.specs.Memory.{part_bytes}
 use Rattle.command_frames.specs.Shown.{shown_command}

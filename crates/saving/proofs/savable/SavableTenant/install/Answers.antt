@@ -1,3 +1,6 @@
+-- `install` of `SavableTenant`: reply and births are those of the frame that loads the program. `Tenant::install` gives the result of the
+-- load, the law `encoding_inverts_parsing` the command of the frame, `status_of` the status, and `note` the births. By the laws
+-- `maps_are_held` and `births_are_kept` there is room for the birth, and the invariant still holds.
 use Rattle.std.proofs.Common.{◌+◌, ◌≤◌, List, [], length, Some, refl, sym, subst, ap, ◌∙◌, w32, SFits, to_z, of_z, rules}
 use Rattle.std.proofs.lemmas.Int.{to_z-of_z}
 use Rattle.fd_table.specs.Table.{most}

@@ -1,3 +1,4 @@
+-- `memory_was_refused` of `SavableTenant`: the result is the flag of the tenant's state, by the contract of `Tenant::memory_was_refused`.
 use Rattle.std.proofs.Common.{ap, ◌∙◌}
 use Rattle.saving.specs.Recorded.{RecordedTenant, tenant_state}
 use Rattle.saving.proofs.savable.SavableTenant.memory_was_refused.Goals as goal

@@ -1,3 +1,5 @@
+-- `new` of `SavableTenant`: the invariant holds for a new state without births, by the clauses `new` of the laws `maps_are_held` and
+-- `births_are_kept`.
 use Rattle.saving.proofs.Recorded.{recorded_new}
 use Rattle.saving.proofs.savable.SavableTenant.new.Goals as goal
 

@@ -1,3 +1,5 @@
+-- `run_packets` of `SavableTenant`: the invariant still holds, since each test run preserves it by the laws `maps_are_held` and
+-- `births_are_kept`, and a rejected batch changes nothing; the runs are those of the contract of `Tenant::run_packets`.
 use Rattle.std.proofs.Common.{OnOk, subst}
 use Rattle.arena.specs.Memory.{part_bytes}
 use Rattle.tenant.specs.Batch.{RunsBatch, packets_in, inputs_of}

@@ -1,3 +1,5 @@
+-- `save_part` of `SavableTenant`: the frames are those of the part at the index, if the save has it. By `oldest_first` and `part_at` its
+-- commands are found, or none are; `write` appends their frames to a new, empty writer.
 use Rattle.std.proofs.Common.{◌≡◌, ℕ, List, [], ◌++◌, Option, Some, None, sym, ap, ap₂, subst, ◌∙◌}
 use Rattle.std.specs.Prelude.{slice_get, option_map}
 use Rattle.command_frames.specs.Command.{Command}

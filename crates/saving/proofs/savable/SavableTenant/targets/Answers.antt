@@ -1,3 +1,4 @@
+-- `targets` of `SavableTenant`: the list is that of the tenant's state, by the contract of `Tenant::targets`.
 use Rattle.std.proofs.Common.{◌≡◌, ℕ, List, IfOk, subst}
 use Rattle.saving.specs.Recorded.{RecordedTenant, tenant_state}
 use Rattle.tenant.specs.Machine.{targets}

@@ -1,3 +1,5 @@
+-- `maps` of `LoadedProgram`: the stored handles are those that contracts see in pairs with descriptors, since by the invariant there is one
+-- for each descriptor.
 use Rattle.std.proofs.Common.{sym, ap, ◌∙◌}
 use Rattle.std.proofs.lemmas.Slice.Zip.{seconds-zip}
 use Rattle.verifier.specs.Maps.{maps_of}

@@ -1,3 +1,6 @@
+-- `close` of `Tenant`: reply and state are the machine's, and the tenant is still well formed. An absent descriptor changes nothing. Else,
+-- by cases of its object, `release` takes one reference from a live map, or `release_all` takes a program's references, which the invariant
+-- counts; `closed_is` and `closed_kept` conclude from the references and maps that are left.
 use Rattle.std.proofs.Common.{◌≡◌, ℕ, ◌+◌, ◌≤◌, List, Option, Some, None, sym, ap, subst, ◌∙◌}
 use Rattle.bpf_maps.specs.Live.{references_at}
 use Rattle.fd_table.specs.Table.{named}

@@ -1,3 +1,5 @@
+-- `counts` of `Tenant`: each count is that of the tenant's state. Those of maps, keys and bytes are sums over the live maps, which equal
+-- the sums over the state's maps; the contracts of `program_count`, `open_count` and `memory_was_refused` give the others.
 use Rattle.std.proofs.Common.{length, sym, ap, ◌∙◌}
 use Rattle.bpf_maps.specs.Sum.{total}
 use Rattle.tenant.specs.Counts.{counts_of}

@@ -1,3 +1,6 @@
+-- `create` of `Tenant`: reply and state are the machine's, and the tenant is still well formed, by cases of the contract of `Maps::create`.
+-- A new map has the lowest free handle and, by `open`, the lowest free descriptor; an error means that there is no room, or that memory is
+-- refused, and changes at most the flag.
 use Rattle.std.proofs.Common.{ℕ, false, List, Option, Ok, sym, ap, ap₂, subst, ◌∙◌}
 use Rattle.bpf_maps.specs.Live.{create_fault}
 use Rattle.tenant.specs.declared.object.OpenObject.{OpenObject}

@@ -1,3 +1,6 @@
+-- `delete` of `Tenant`: reply and state are the machine's, and the tenant is still well formed, by cases of the contract of `remove`; after
+-- a removal `end_run` frees the element. By the laws `calls_refine_values` and `live_maps_refine_values` the map of values changes as that
+-- of elements does. The machine rejects a key of another size too.
 use Rattle.std.proofs.Common.{◌≡◌, length, Ok, Err, sym, ap, ◌∙◌}
 use Rattle.bpf_maps.specs.Live.{shape_at}
 use Rattle.tagged_model.specs.declared.shape.MapShape.{MapShape}

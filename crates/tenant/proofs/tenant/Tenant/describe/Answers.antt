@@ -1,3 +1,5 @@
+-- `describe` of `Tenant`: a map that a descriptor names is live, as `described_map` requires, and the state has it under its handle, so its
+-- description is the state's.
 use Rattle.std.proofs.Common.{Option, Some, sym, ap, subst, ◌∙◌}
 use Rattle.std.specs.Option.{option_map_or}
 use Rattle.tenant.specs.Described.{described_map, described_object, nothing_there}

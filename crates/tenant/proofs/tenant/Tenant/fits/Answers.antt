@@ -1,3 +1,5 @@
+-- `fits` of `Tenant`: a true result means that the program fits. A turn after which the loop continues found two shapes equal (`shape_at`,
+-- `has_shape`); at the end the loop's invariant covers all descriptors of the program's maps.
 use Rattle.std.proofs.Common.{◌≡◌, refl, sym, subst, ◌∙◌}
 use Rattle.std.specs.List.{All}
 use Rattle.std.proofs.lemmas.List.{take_all}

@@ -1,3 +1,4 @@
+-- Before each turn of the loop of `fits` each descriptor so far names a map of the shape with which the program was accepted.
 use Rattle.std.proofs.Common.{◌≡◌, ℕ, List, take}
 use Rattle.std.specs.List.{All}
 use Rattle.tagged_model.specs.Named.{shapes_named}
@@ -6,7 +7,6 @@ use Rattle.tenant.specs.Kept.{state_in}
 use Rattle.tenant.specs.Machine.{targets}
 use Rattle.tenant.proofs.tenant.Tenant.fits.Given as goal
 
--- each descriptor before this one names a map of the same shape
 abbrev pub invariant-loop-fd : goal.invariant-loop-fd
 invariant-loop-fd l =
     (part : List ℕ)

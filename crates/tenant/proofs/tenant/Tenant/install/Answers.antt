@@ -1,3 +1,5 @@
+-- `install` of `Tenant`: the program is given back exactly if it does not fit, by `fits`. Else `open_program` opens what `program_here`
+-- makes of it: a result of the machine for the load of its slots.
 use Rattle.std.proofs.Common.{Ok, refl, sym, ap, subst, ◌∙◌}
 use Rattle.std.proofs.lemmas.Bool.{true≢false}
 use Rattle.insn_set.specs.Program.{program_bytes}

@@ -1,3 +1,5 @@
+-- `is_live` of `Tenant`: the map is live exactly if the tenant's state has it, by the contract of `Maps::is_live` and the number of handles
+-- (`maps_are_laid`).
 use Rattle.std.proofs.Common.{is_some, sym, ap, ◌∙◌}
 use Rattle.tenant.specs.Kept.{KeptTenant, state_in}
 use Rattle.tenant.specs.State.{live}

@@ -1,3 +1,5 @@
+-- `load` of `Tenant`: the machine may have the result: by `program_of` and `open_program` the accepted program at the lowest free
+-- descriptor, or a refusal, with a descriptor free. With its flag set the tenant is still well formed.
 use Rattle.std.proofs.Common.{sym, ap, subst, ◌∙◌}
 use Rattle.fd_table.specs.Table.{lowest}
 use Rattle.tenant.specs.Kept.{KeptTenant, state_in}

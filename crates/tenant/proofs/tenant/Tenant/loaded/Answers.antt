@@ -1,3 +1,5 @@
+-- `loaded` of `Tenant`: the loaded program is the machine's. By the law `loaded_maps_have_shapes` `maps_named` finds for each of its
+-- descriptors the handle of a live map of the shape that was accepted; by `maps_are_listed` none is twice.
 use Rattle.std.proofs.Common.{◌≡◌, ℕ, List, [], length, sym, ap, ap₂, subst, ◌∙◌}
 use Rattle.verifier.specs.Maps.{maps_of, objects_at}
 use Rattle.tenant.specs.Kept.{KeptTenant, IsWellFormedTenant, IsBound, state_in}

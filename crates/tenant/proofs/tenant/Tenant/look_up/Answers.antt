@@ -1,3 +1,5 @@
+-- `look_up` of `Tenant`: the reply is the machine's, for a key of another size, an absent one (`find`), and a present one, whose value
+-- begins at `value_at`; the law `calls_refine_values` gives the state's value by the element.
 use Rattle.std.proofs.Common.{◌≡◌, ℕ, ◌+◌, ◌-◌, List, length, take, drop, None, sym, ap, ap₂, subst, ◌∙◌, arith}
 use Rattle.bpf_maps.specs.Live.{shape_at, value_in}
 use Rattle.tagged_model.specs.Table.{look_up}

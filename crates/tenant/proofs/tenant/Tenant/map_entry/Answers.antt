@@ -1,3 +1,5 @@
+-- `map_entry` of `Tenant`: the result is the next entry of the map with its value, by the contracts of `entry_after` and `value_at`; a map
+-- that is not live has no entries. No two keys have one element, since the law `maps_are_laid` says that each table of keys is sound.
 use Rattle.std.proofs.Common.{◌≡◌, ℕ, ◌+◌, ◌-◌, ◌≤◌, List, take, drop, Option, Some, None, option_map, sym, ap, ap₂, subst, ◌∙◌, arith}
 use Rattle.std.specs.Map.{values_of}
 use Rattle.bpf_maps.specs.KeyRef.{key_bytes, shown_entry}

@@ -1,3 +1,4 @@
+-- `map_named` of `Tenant`: a map that a descriptor names is live, since by the invariant it has a reference for that descriptor.
 use Rattle.std.proofs.Common.{Some, sym, ap, subst, ◌∙◌}
 use Rattle.tenant.specs.Kept.{KeptTenant}
 use Rattle.tenant.specs.inside.Named.{IsMapOf}

@@ -1,3 +1,5 @@
+-- `map_shape` of `Tenant`: by cases of the contract of `is_live`, the shape is that of a live map, which the tenant's state has too, or the
+-- state has no map of this handle.
 use Rattle.std.proofs.Common.{◌≡◌, Some, None, IsSome, sym, subst, ◌∙◌}
 use Rattle.bpf_maps.specs.Live.{live_at, shape_at, map_in}
 use Rattle.tenant.specs.Kept.{KeptTenant, state_in}

@@ -1,3 +1,5 @@
+-- `new` of `Tenant`: by the contracts of `FdTable::new` and `Maps::new` nothing is open and no map live, so the tenant is well formed and
+-- has the state of a new one.
 use Rattle.tenant.proofs.New.{empty_is_kept, empty_is_new}
 use Rattle.tenant.proofs.tenant.Tenant.new.Goals as goal
 

@@ -1,3 +1,5 @@
+-- `next_key` of `Tenant`: the reply is the machine's, by cases: the contract of `key_after` and the law `calls_refine_values` give the next
+-- key or none; a key that is not empty and has another size is invalid.
 use Rattle.std.proofs.Common.{◌≡◌, length, Some, None, sym, ap, subst, ◌∙◌}
 use Rattle.bpf_maps.specs.KeyRef.{key_bytes}
 use Rattle.bpf_maps.specs.Live.{shape_at}

@@ -1,3 +1,5 @@
+-- `open_count` of `Tenant`: one more descriptor adds one to the number of open descriptors if it is open, and nothing if it is free, by the
+-- contract of `get`.
 use Rattle.std.proofs.Common.{◌≡◌, length, refl, sym, ap, subst, ◌∙◌, arith}
 use Rattle.bpf_maps.specs.Sum.{total}
 use Rattle.fd_table.specs.Table.{named}

@@ -1,3 +1,5 @@
+-- Before each turn of the loop of `open_count` the count is the number of open descriptors among those so far, and at most the number of
+-- these.
 use Rattle.std.proofs.Common.{◌≡◌, ◌-◌, ◌≤◌, take}
 use Rattle.bpf_maps.specs.Sum.{total}
 use Rattle.fd_table.specs.Table.{first_descriptor}

@@ -1,3 +1,5 @@
+-- `open_program` of `Tenant`: by `open` and `hold_all` only the lowest free descriptor changes in the state, and the tenant is still well
+-- formed. The references fit, since no object names a map twice.
 use Rattle.std.proofs.Common.{◌≡◌, ℕ, ◌+◌, ◌<◌, List, Option, sym, ap, subst, ◌∙◌}
 use Rattle.tenant.specs.declared.object.OpenObject.{OpenObject}
 use Rattle.tenant.specs.Kept.{KeptTenant, IsWellFormedTenant, IsBound, times_listed, state_in}

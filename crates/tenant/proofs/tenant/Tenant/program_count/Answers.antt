@@ -1,3 +1,5 @@
+-- `program_count` of `Tenant`: one more descriptor adds one to the number of programs if it names one, and nothing otherwise, by the
+-- contract of `program_at`.
 use Rattle.std.proofs.Common.{◌≡◌, length, refl, sym, ap, subst, ◌∙◌, arith}
 use Rattle.bpf_maps.specs.Sum.{total}
 use Rattle.fd_table.specs.Table.{named}

@@ -1,3 +1,5 @@
+-- `program_of` of `Tenant`: by the contracts of `verify_slots` and `targets` an accepted program is accepted with the open descriptors, and
+-- has their objects for its maps, as `loaded` requires.
 use Rattle.std.proofs.Common.{ap, subst, ◌∙◌}
 use Rattle.verifier.specs.Maps.{maps_of, objects_at}
 use Rattle.verifier.specs.Verdict.{IsAccepted}

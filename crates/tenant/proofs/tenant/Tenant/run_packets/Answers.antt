@@ -1,3 +1,6 @@
+-- `run_packets` of `Tenant`: the runs are the packets' test runs, in their order, by the contract of `run_packets` of `flat_machine`; by
+-- the invariant the program's maps are bound to it, and the tenant is still well formed. An error is, by cases, that of `program_at`, of
+-- too few results, or of `Packets::new`; without packets nothing is run.
 use Rattle.std.proofs.Common.{◌≡◌, ◌≤◌, ℕ, List, length, take, Some, None, sym, ap, subst, ◌∙◌, option_map, arith}
 use Rattle.std.specs.Prelude.{Result, Ok, Err, IsErrAnd}
 use Rattle.std.specs.List.{All}

@@ -1,3 +1,5 @@
+-- `shape_at` of `Tenant`: the shape is that in the list of open descriptors, by the contract of `target` and cases of the target: the list
+-- has at each descriptor the target of its object.
 use Rattle.std.proofs.Common.{Some, sym, ap, ◌∙◌}
 use Rattle.tagged_model.specs.Named.{shape_in}
 use Rattle.tenant.specs.Kept.{state_in}

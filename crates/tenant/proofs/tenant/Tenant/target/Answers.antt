@@ -1,3 +1,4 @@
+-- `target` of `Tenant`: a map that a descriptor names is live, as `shape` requires, and the state's map of this handle has its shape.
 use Rattle.std.proofs.Common.{◌≡◌, Option, Some, sym, ap, subst, ◌∙◌}
 use Rattle.std.specs.Prelude.{option_map}
 use Rattle.bpf_maps.specs.Live.{shape_at}

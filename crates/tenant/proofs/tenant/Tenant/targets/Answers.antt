@@ -1,3 +1,5 @@
+-- `targets` of `Tenant`: the list is that of the machine. One more descriptor adds the target of its object at the end, or nothing if it is
+-- free, by the contracts of `target` and `push`; after the last turn the whole table was passed.
 use Rattle.std.proofs.Common.{◌≡◌, ℕ, ◌+◌, ◌-◌, List, ◌++◌, length, take, Vec, Global, Option, Some, refl, sym, ap, subst, ◌∙◌, arith}
 use Rattle.std.proofs.Math.Seq.{take-length}
 use Rattle.std.proofs.lemmas.List.{append-nil}

@@ -1,3 +1,4 @@
+-- `targets`: the list has the open descriptors before this one, each with what the verifier is given of its object, for any part.
 use Rattle.std.proofs.Common.{◌≡◌, ◌-◌, ℕ, List, take}
 use Rattle.fd_table.specs.Table.{first_descriptor}
 use Rattle.tenant.specs.Kept.{state_in}

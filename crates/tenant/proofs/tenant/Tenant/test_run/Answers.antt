@@ -1,3 +1,6 @@
+-- `test_run`: the maps of the program are bound for `run_with`, since in a well-formed tenant they are live and have the program's shapes.
+-- By its contract the run preserves which maps are live, their shapes and references, so the tenant is still well formed; and it represents
+-- the tagged run of the program that the descriptor names, so the reply and the state are the machine's.
 use Rattle.std.proofs.Common.{ℕ, List, sym, ap, subst, ◌∙◌}
 use Rattle.arena.specs.Memory.{part_bytes}
 use Rattle.fd_table.specs.Table.{named}

@@ -1,3 +1,6 @@
+-- `update`: the reply and the state are the machine's, in three cases: the claim is rejected, it gives an element, or the size is wrong.
+-- A claim follows the verdict on the update by the contract of `claim`, and leaves the tenant well formed; then the value is in the element
+-- of its key by the contracts of `value_at` and `write_at`. Laws of the live maps and of values lead from elements to values.
 use Rattle.std.proofs.Common.{◌≡◌, ℕ, ◌+◌, List, [], length, Ok, Err, sym, ap, ap₂, ◌∙◌}
 use Rattle.bpf_maps.specs.InPart.{IsValueAt, with_value}
 use Rattle.words.specs.Bytes.{written_at}

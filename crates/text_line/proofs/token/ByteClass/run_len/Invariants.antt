@@ -1,3 +1,4 @@
+-- `run_len`: the longest front of the class is the bytes so far and then that of the later bytes; each turn passes one byte.
 use Rattle.std.proofs.Common.{◌≡◌, ◌+◌, ◌-◌, ◌≤◌, length, drop}
 use Rattle.std.specs.List.{prefix_len}
 use Rattle.text_line.specs.inside.Class.{in_class}

@@ -1,3 +1,5 @@
+-- `join` of `NumberedFacts`: the registers are joined first, by the contract of `join_registers`, and then one group of stack slots after
+-- another, by that of `join_stack_group`; after all groups this is the join of all facts (`all_joined`).
 use Rattle.std.proofs.Common.{rules, ◌≡◌, ℕ, refl, sym, subst, arith}
 use Rattle.verifier.specs.declared.numbered_facts.NumberedFacts.{NumberedFacts}
 use Rattle.verifier.specs.inside.Numbers.{IsJoinedBelow}

@@ -1,3 +1,4 @@
+-- `join` of `NumberedFacts`: the registers and the groups of stack slots before this one are joined, and the other groups are unchanged.
 use Rattle.verifier.specs.inside.Numbers.{IsJoinedBelow}
 use Rattle.verifier.proofs.numbered_facts.NumberedFacts.join.Given as goal
 

@@ -1,3 +1,5 @@
+-- `join_other_group`: the join of one group, by cases of what `join_group` returns: if the group may have changed, it has the new number;
+-- else its slots are unchanged, by the contract of `join_group`, and so is its number.
 use Rattle.std.proofs.Common.{rules, ℕ, get_or, set, ap, ◌∙◌}
 use Rattle.verifier.specs.declared.numbered_facts.NumberedFacts.{NumberedFacts}
 use Rattle.verifier.proofs.GroupJoins.{group_changed, group_unchanged}

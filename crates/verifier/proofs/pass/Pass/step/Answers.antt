@@ -1,3 +1,6 @@
+-- `step` of `Pass`: by the contract of `join_at` the facts in hand become the join of those on the falling edge and on jumps to the slot
+-- (`arrived`). With this each clause is that of `run_past_if_reached`; the facts on both edges are those of the transfer function, with
+-- numbers that mean one group (`stepped`).
 use Rattle.std.proofs.Common.{◌≡◌, ◌⊎◌, Option, IfErr, subst}
 use Rattle.std.proofs.lemmas.Result.{on_ok_weaker}
 use Rattle.reg_kinds.specs.declared.facts.Facts.{Facts}

@@ -1,3 +1,5 @@
+-- `join_at`: the facts of the slot's entry are joined into `known`, by the contract of `join`; the entries of later slots are unchanged, as
+-- only this entry is taken.
 use Rattle.std.proofs.Common.{Some, refl, sym, ap, ◌∙◌, arith}
 use Rattle.verifier.specs.declared.numbered_facts.NumberedFacts.{NumberedFacts}
 use Rattle.std.specs.Prelude.{option_map, box_value}

@@ -1,3 +1,4 @@
+-- `put`: the entry is joined by the contract of `put_within`, and as `reach` changes no slot's entry, this is so of the list at the call.
 use Rattle.std.proofs.lemmas.Result.{on_ok_weaker}
 use Rattle.verifier.proofs.EntryLists.{put_after}
 use Rattle.verifier.proofs.target_facts.TargetFacts.put.Goals as goal

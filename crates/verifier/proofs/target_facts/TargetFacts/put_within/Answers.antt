@@ -1,3 +1,4 @@
+-- `put_within`: the slot's entry is joined by the contract of `join_entry`, and no other entry of the list is set.
 use Rattle.std.proofs.lemmas.Result.{on_ok_weaker}
 use Rattle.verifier.proofs.EntryLists.{put_is}
 use Rattle.verifier.proofs.target_facts.TargetFacts.put_within.Goals as goal

@@ -1,3 +1,4 @@
+-- `reach`: no slot's entry changes, by the contract of `append_empty`, read on the list that contracts see.
 use Rattle.std.proofs.Common.{ℕ, ap, ◌∙◌}
 use Rattle.std.proofs.lemmas.Result.{on_ok_weaker}
 use Rattle.verifier.specs.inside.Numbers.{entry_of}

@@ -1,3 +1,5 @@
+-- `cost` of `Verified`: the kept cost is the most on a path, by the type's invariant. By the law `runs_are_paths` a run executes a path, so
+-- it has no more instructions or calls.
 use Rattle.std.proofs.Common.{subst}
 use Rattle.verifier.specs.Cost.{IsCostOf}
 use Rattle.verifier.specs.Verified.{Accepted, shapes_in}

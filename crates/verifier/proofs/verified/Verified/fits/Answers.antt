@@ -1,3 +1,4 @@
+-- `fits` of `Verified`: by the contracts of `shape_of` and `has_shape` one more map has its old shape in each turn; at the end all have.
 use Rattle.std.proofs.Common.{◌≡◌, refl, sym, subst, ◌∙◌}
 use Rattle.std.specs.List.{All}
 use Rattle.std.proofs.lemmas.List.{take_all}

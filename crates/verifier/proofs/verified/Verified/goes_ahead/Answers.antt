@@ -1,3 +1,4 @@
+-- `goes_ahead`: by the type's invariant the program has no fault of its shape, so each edge leads to an instruction at a later slot.
 use Rattle.std.proofs.Common.{subst}
 use Rattle.verifier.specs.Verified.{Accepted, GoesAhead}
 use Rattle.verifier.proofs.Leads.{goes_ahead}

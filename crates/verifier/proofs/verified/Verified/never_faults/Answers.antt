@@ -1,3 +1,4 @@
+-- `never_faults`: from the law `accepted_programs_never_fault`, with the objects with which the program was accepted, by its invariant.
 use Rattle.std.proofs.Common.{◌≢◌, List, subst}
 use Rattle.tagged_model.specs.declared.shape.Named.{Named}
 use Rattle.tagged_model.specs.declared.value.Outcome.TheVariants.{Fault}

@@ -1,3 +1,5 @@
+-- `replace_objects`: by the contract of `fits` the maps have their shapes in `named` too, so the program is accepted with it, and is what
+-- its bytes are judged to be. The kept objects are those of its maps, by the contract of `objects_at`; its maps and its cost are unchanged.
 use Rattle.std.proofs.Common.{List, ℕ, Ok, sym, ap, subst, ◌∙◌}
 use Rattle.insn_set.specs.Program.{program_bytes}
 use Rattle.verifier.specs.Fits.{Fits}

@@ -1,3 +1,4 @@
+-- `runs_are_paths`: from the law `accepted_runs_are_paths`, with the objects with which the program was accepted, by its invariant.
 use Rattle.std.proofs.Common.{List, subst}
 use Rattle.tagged_model.specs.Named.{shapes_named}
 use Rattle.tagged_model.specs.declared.shape.Named.{Named}

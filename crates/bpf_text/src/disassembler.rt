@@ -18,6 +18,7 @@ use insn_codec::{
 use insn_set::{alu_symbol, condition_symbol, extension_name, order_name, size_name};
 use std::alloc::{AllocError, Global};
 use std::fmt::Write;
+use words::{BITS_64, UNSIGNED};
 
 // ---- names
 
@@ -201,10 +202,10 @@ fn write_store(
     ensures { OnOk result (string_bytes text.new ≡ string_bytes text.old
         ++ printed_insn (Insn.Store size dst src off)) }
 {
-    let (size, base) = (size_name(false, size), wide_name(dst));
+    let (size, base) = (size_name(UNSIGNED, size), wide_name(dst));
     let (sign, offset) = signed_parts(i32::from(off));
     write!(text, "*({size} *)({base} {sign} {offset}) = ")?;
-    write_operand(text, true, src)
+    write_operand(text, BITS_64, src)
 }
 
 /// Appends the line of the atomic operation `op` with register `src`, on `size` bytes at the address in register `dst` plus `off`, without
@@ -222,7 +223,7 @@ fn write_atomic(
     ensures { OnOk result (string_bytes text.new ≡ string_bytes text.old
         ++ printed_insn (Insn.Atomic size op dst src off)) }
 {
-    let (size, base) = (size_name(false, size.access()), wide_name(dst));
+    let (size, base) = (size_name(UNSIGNED, size.access()), wide_name(dst));
     let (sign, offset) = signed_parts(i32::from(off));
     let (op, src) = (op.symbol(), wide_name(src));
     write!(text, "lock *({size} *)({base} {sign} {offset}) {op} {src}")

@@ -17,6 +17,7 @@ use crate::by_class::{
 use crate::fault::{CodecFault, FaultKind};
 use crate::opcode::{SourceBit, is_second_slot};
 use insn_set::{Insn, RawSlot, Reg};
+use words::{BITS_32, BITS_64};
 
 /// Reads a wide instruction into `entry` (RFC 9669, section 5.4). `slot` is its first slot, which has passed `check_fields`, and `dst` the
 /// register in its destination field. The source field of `slot` is 0 for a number of 64 bits, 1 for a map, and 2 for an address in the
@@ -107,10 +108,10 @@ fn read_slot(entry: &mut Insn, slot: &RawSlot, rest: &[u8]) -> Result<Option<Raw
         1 => read_load(entry, slot),
         2 => read_store(SourceBit::Imm, entry, slot),
         3 => read_register_store(entry, slot),
-        4 => read_alu(false, entry, slot),
-        5 => read_jump(true, entry, slot),
-        6 => read_jump(false, entry, slot),
-        _ => read_alu(true, entry, slot),
+        4 => read_alu(BITS_32, entry, slot),
+        5 => read_jump(BITS_64, entry, slot),
+        6 => read_jump(BITS_32, entry, slot),
+        _ => read_alu(BITS_64, entry, slot),
     }
 }
 

@@ -11,7 +11,7 @@ use crate::arithmetic::{difference, product, quotient, remainder, sum};
 use crate::bitwise::{and, exclusive_or, or};
 use crate::range::{Range, greatest};
 use crate::shifts::{shift_left, shift_right, sign_extend, signed_shift_right};
-use words::{AluOp, KeptBits, Operator, words32, words64};
+use words::{AluOp, BITS_32, BITS_64, KeptBits, Operator, words32, words64};
 
 /// The range of the results of `op` on 64 bits, for first operands (destinations) in `a` and second ones (sources) in `b`. `exact`: it is
 /// that of the table of ranges (`range_of`). `sound`: it includes the result of every two members. An operand that `op` does not read is
@@ -39,7 +39,7 @@ fn binary64(op: AluOp, a: Range, b: Range) -> Range
     if are_alu_constants(op, a, b) {
         Range::constant(words64::alu(op, a.lo, b.lo))
     } else {
-        alu_range(true, op, a, b)
+        alu_range(BITS_64, op, a, b)
     }
 }
 
@@ -55,7 +55,7 @@ fn unary64(op: Operator, a: Range, b: Range) -> Range
     if are_constants(op, a, b) {
         Range::constant(words64::operate(op, a.lo, b.lo))
     } else {
-        general_range(true, op, a, b)
+        general_range(BITS_64, op, a, b)
     }
 }
 
@@ -76,7 +76,7 @@ pub fn alu32(op: Operator, a: Range, b: Range) -> Range
     if are_constants(op, a, b) {
         Range::constant(words32::operate(op, a.lo, b.lo))
     } else {
-        general_range(false, op, a, b)
+        general_range(BITS_32, op, a, b)
     }
 }
 
@@ -87,12 +87,12 @@ fn range_of_low_word(r: Range) -> Range
     ensures value { result ≡ operand_range 32 r }
     ensures bound { result.hi < 2 ^ 32 }
 {
-    if r.hi <= greatest(false) {
+    if r.hi <= greatest(BITS_32) {
         r
     } else if r.is_constant() {
         Range::constant(words32::move_low(r.lo))
     } else {
-        Range::full(false)
+        Range::full(BITS_32)
     }
 }
 
@@ -172,7 +172,7 @@ fn all_of_kept_bits(bits: KeptBits) -> Range
 {
     match bits {
         KeptBits::Bits16 => Range::new(0, 0xffff),
-        KeptBits::Bits32 => Range::full(false),
-        KeptBits::Bits64 => Range::full(true),
+        KeptBits::Bits32 => Range::full(BITS_32),
+        KeptBits::Bits64 => Range::full(BITS_64),
     }
 }

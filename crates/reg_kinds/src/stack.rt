@@ -10,7 +10,7 @@ use crate::facts::Facts;
 use crate::kind::{Kind, Slot};
 use crate::reason::Reason;
 use interval::Range;
-use words::{AccessSize, STACK_SIZE};
+use words::{AccessSize, BITS_32, BITS_64, STACK_SIZE};
 
 /// The offset of the stack's lowest byte from its upper end: -512.
 pub(crate) const LOWEST: i32 = -(STACK_SIZE as i32);
@@ -112,7 +112,7 @@ pub fn loaded(size: AccessSize, signed: bool) -> Kind
     ensures { result ≡ loaded size signed }
 {
     if signed {
-        Kind::Scalar(Range::full(true))
+        Kind::Scalar(Range::full(BITS_64))
     } else {
         Kind::Scalar(zero_extended(size))
     }
@@ -126,8 +126,8 @@ fn zero_extended(size: AccessSize) -> Range
     match size {
         AccessSize::Byte => Range { lo: 0, hi: 0xff },
         AccessSize::Half => Range { lo: 0, hi: 0xffff },
-        AccessSize::Word => Range::full(false),
-        AccessSize::Double => Range::full(true),
+        AccessSize::Word => Range::full(BITS_32),
+        AccessSize::Double => Range::full(BITS_64),
     }
 }
 

@@ -20,6 +20,7 @@ use insn_set::{
     AluOp, AtomicOp, ExtendedBits, Reg, alu_by_symbol, condition_by_symbol, extension_by_name,
     order_by_name,
 };
+use words::BITS_64;
 
 // ---- operations
 
@@ -88,7 +89,7 @@ fn unary(wide: bool, dst: Reg, tokens: &[Token<'_>]) -> Option<Operation>
     }
     let (name, rest) = name(tokens)?;
     let (how, bits) = order_by_name(name)?;
-    in_place(true, dst, Operation::End { how, bits }, rest)
+    in_place(BITS_64, dst, Operation::End { how, bits }, rest)
 }
 
 /// An operation on `dst`, an `r` register if `wide`, else a `w` register, from the tokens after `op`, the operator that the symbol in the
@@ -134,7 +135,7 @@ fn store(tokens: &[Token<'_>]) -> Option<Form>
         return None;
     };
     let rest = after_symbol(rest, "=")?;
-    let Some((src, rest)) = operand(true, rest) else {
+    let Some((src, rest)) = operand(BITS_64, rest) else {
         return None;
     };
     if signed {
@@ -156,7 +157,7 @@ fn atomic(tokens: &[Token<'_>]) -> Option<Form>
     let size = atomic_size(signed, size)?;
     let (symbol, rest) = leading_symbol(rest)?;
     let op = AtomicOp::from_symbol(symbol)?;
-    let Some((src, rest)) = register(true, rest) else {
+    let Some((src, rest)) = register(BITS_64, rest) else {
         return None;
     };
     let access = Access::Atomic { size, op, src };

@@ -12,6 +12,7 @@ use crate::form::{Address, JumpTarget, Number, SourceOperand, WideValue};
 use crate::names::register_named;
 use crate::token::Token;
 use insn_set::{AccessSize, Reg, load_by_name};
+use words::BITS_64;
 
 // ---- one token, and the tokens after it
 
@@ -203,7 +204,7 @@ pub(crate) fn address<'t, 'a>(
     let rest = after_symbol(rest, "*")?;
     let rest = after_symbol(rest, ")")?;
     let rest = after_symbol(rest, "(")?;
-    let Some((base, rest)) = register(true, rest) else {
+    let Some((base, rest)) = register(BITS_64, rest) else {
         return None;
     };
     let (offset, rest) = signed(rest)?;

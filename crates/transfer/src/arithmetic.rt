@@ -10,7 +10,7 @@ ghost use Rattle.transfer.specs.Arithmetic.{pointer_moved, is_maybe_value, of_sc
 use interval::{Range, alu32, alu64};
 use reg_kinds::{Kind, Reason, ValuePointer};
 use tagged_model::FARTHEST_OFFSET;
-use words::{AluOp, Operator};
+use words::{AluOp, BITS_64, Operator};
 
 /// The direction in which a number moves a pointer: forwards in a sum, backwards in a difference.
 #[derive(Clone, Copy, Debug, PartialEq, Eq)]
@@ -191,7 +191,12 @@ fn sum(a: Kind, b: Kind) -> Result<Kind, Reason>
     ensures { result ≡ sum_kind a b }
 {
     match (a, b) {
-        (Kind::Scalar(_), Kind::Scalar(_)) => of_scalars(true, Operator::Binary(AluOp::Add), a, b),
+        (Kind::Scalar(_), Kind::Scalar(_)) => of_scalars(
+            BITS_64,
+            Operator::Binary(AluOp::Add),
+            a,
+            b,
+        ),
         (Kind::Scalar(range), pointer) => pointer_moved(Direction::Forwards, pointer, range),
         (pointer, Kind::Scalar(range)) => pointer_moved(Direction::Forwards, pointer, range),
         _ => Err(Reason::PointerArithmetic),
@@ -206,7 +211,12 @@ fn difference(a: Kind, b: Kind) -> Result<Kind, Reason>
     ensures { result ≡ difference_kind a b }
 {
     match (a, b) {
-        (Kind::Scalar(_), Kind::Scalar(_)) => of_scalars(true, Operator::Binary(AluOp::Sub), a, b),
+        (Kind::Scalar(_), Kind::Scalar(_)) => of_scalars(
+            BITS_64,
+            Operator::Binary(AluOp::Sub),
+            a,
+            b,
+        ),
         (Kind::Scalar(_), _) => Err(Reason::PointerArithmetic),
         (pointer, Kind::Scalar(range)) => pointer_moved(Direction::Backwards, pointer, range),
         _ => Err(Reason::PointerArithmetic),

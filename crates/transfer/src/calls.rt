@@ -11,6 +11,7 @@ use insn_set::Reg;
 use interval::Range;
 use reg_kinds::{Facts, Kind, Reason, ValuePointer, check_read, facts_after_call, fill_stack};
 use tagged_model::{Helper, MapShape, Named, shape_of};
+use words::BITS_64;
 
 /// A length that is passed to a helper is below this, in bytes: 2^29. So it fits in 32 bits; the stack and values are much shorter.
 pub const LENGTHS_END: u64 = 0x2000_0000;
@@ -159,7 +160,7 @@ fn check_context(kind: Kind) -> Result<(), Reason>
 fn any_number() -> Kind
     ensures { result ≡ any_number }
 {
-    Kind::Scalar(Range::full(true))
+    Kind::Scalar(Range::full(BITS_64))
 }
 
 /// Updates the facts for a call of `helper` at `slot`; `named` lists the objects of the open descriptors. The arguments, in registers 1 to

@@ -28,7 +28,7 @@ use insn_set::{AtomicSize, Insn, Load, Movsx, Operand, Reg};
 use interval::Range;
 use reg_kinds::{Facts, Kind, Reason, ValuePointer, loaded, read_stack, write_stack};
 use tagged_model::{CONTEXT_WORDS, Named, known_helper, shape_of};
-use words::{AccessSize, AluOp, Operator};
+use words::{AccessSize, AluOp, BITS_32, BITS_64, Operator, UNSIGNED};
 
 /// The size of the context in bytes: each of its words has four.
 const CONTEXT_SIZE: i16 = 4 * CONTEXT_WORDS as i16;
@@ -82,7 +82,7 @@ fn context_read(offset: i16, size: AccessSize, signed: bool) -> Result<Kind, Rea
         && offset < CONTEXT_SIZE
         && offset % 4 == 0
     {
-        Ok(Kind::Scalar(Range::full(false)))
+        Ok(Kind::Scalar(Range::full(BITS_32)))
     } else {
         Err(Reason::ContextAccess)
     }
@@ -211,9 +211,9 @@ fn change_stack(facts: &mut Facts, offset: i32, size: AccessSize) -> Result<usiz
     ensures refused { IfErr result (λ reason. stack_changed facts.old offset size ≡ Err reason) }
     ensures stays { OnErr result (facts.new ≡ facts.old) }
 {
-    let old = read_stack(facts, offset, size, false)?;
+    let old = read_stack(facts, offset, size, UNSIGNED)?;
     number_or(Reason::PartOfSpill, old)?;
-    write_stack(facts, offset, size, Kind::Scalar(Range::full(true)))
+    write_stack(facts, offset, size, Kind::Scalar(Range::full(BITS_64)))
 }
 
 /// Whether an offset in bytes, which may be negative, is a multiple of the number of bytes of `size`: 1, 2, 4 or 8. The offset of an atomic
@@ -495,7 +495,7 @@ pub fn apply(facts: &mut Facts, named: &[Named], slot: usize, insn: &Insn) -> Re
             Ok(Flow::Falls)
         }
         Insn::End { how, bits, dst } => {
-            operate_on_one(facts, true, Operator::End { how, bits }, dst, dst)?;
+            operate_on_one(facts, BITS_64, Operator::End { how, bits }, dst, dst)?;
             Ok(Flow::Falls)
         }
         Insn::Ja { .. } | Insn::Jal { .. } => Ok(Flow::Jumps),
@@ -539,7 +539,7 @@ pub fn apply(facts: &mut Facts, named: &[Named], slot: usize, insn: &Insn) -> Re
             off,
         } => {
             let base = check_readable(facts.kind(dst))?;
-            let value = check_readable(source(facts, true, &src))?;
+            let value = check_readable(source(facts, BITS_64, &src))?;
             Ok(flow_after_write(store(facts, named, size, off, base, value)?))
         }
         Insn::Atomic {

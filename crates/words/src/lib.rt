@@ -24,5 +24,7 @@ pub mod words32;
 pub mod words64;
 
 pub use context::GIVEN_WORDS;
-pub use operator::{AluOp, ByteOrder, Condition, ExtendedBits, KeptBits, Operator};
-pub use stack::{AccessSize, REGISTERS, STACK_SIZE, STACK_SLOTS};
+pub use operator::{
+    AluOp, BITS_32, BITS_64, ByteOrder, Condition, ExtendedBits, KeptBits, Operator,
+};
+pub use stack::{AccessSize, REGISTERS, SIGNED, STACK_SIZE, STACK_SLOTS, UNSIGNED};

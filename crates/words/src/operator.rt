@@ -1,5 +1,11 @@
 //! The operators and the conditions.
 
+/// The argument `wide` of an operation on whole registers, of 64 bits.
+pub const BITS_64: bool = true;
+
+/// The argument `wide` of an operation on the lower halves of registers, of 32 bits.
+pub const BITS_32: bool = false;
+
 /// An operator with two operands (RFC 9669, section 4.1): the first is the destination, the second the source. A shift is by the second
 /// operand modulo the width, 64 or 32.
 #[derive(Clone, Copy, Debug, PartialEq, Eq)]

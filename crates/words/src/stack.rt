@@ -9,6 +9,12 @@ pub const STACK_SIZE: usize = 512;
 /// The number of eight-byte slots of the stack.
 pub const STACK_SLOTS: usize = STACK_SIZE / 8;
 
+/// The argument `signed` of a load that extends the sign.
+pub const SIGNED: bool = true;
+
+/// The argument `signed` of a load that extends with zeros.
+pub const UNSIGNED: bool = false;
+
 /// The number of bytes that a load or a store moves (RFC 9669, section 5): 1, 2, 4 or 8.
 #[derive(Clone, Copy, Debug, PartialEq, Eq)]
 pub enum AccessSize {

@@ -10,27 +10,16 @@ use Rattle.reg_kinds.specs.declared.reason.Reason.{Reason}
 use Rattle.reg_kinds.specs.declared.reason.Reason.TheVariants.{OutsideStack, UnwrittenStack, PartOfSpill}
 use Rattle.reg_kinds.specs.Kinds.{slot_at}
 use Rattle.words.specs.Stack.{is_in_stack, byte_index, touches}
-use Rattle.words.specs.StackLaws.{in_stack}
-use Rattle.reg_kinds.specs.Many.{bits_in, any_below, is_touched_spill, lacks, stack_input}
+use Rattle.words.specs.StackLaws.{in_stack, each_slot_fails}
+use Rattle.reg_kinds.specs.Many.{bits_in, is_touched_spill, touches_spill, lacks, has_unwritten_byte, stack_input}
 use Rattle.tagged_model.specs.Cells.{Cell, byte_at, gathered}
 use Rattle.tagged_model.specs.State.{RunState, stack_byte, stack_bytes}
-use Rattle.tagged_model.specs.StateInvariant.{IsInRange, AreBytes}
+use Rattle.tagged_model.specs.StateInvariant.{IsInRange}
+use Rattle.words.specs.Bytes.{AreBytes}
 use Rattle.abstraction.specs.Admits.{Witness, HasSlot, AdmitsBy}
 use Rattle.abstraction.proofs.CellBytes.{all_read}
 use Rattle.abstraction.proofs.MaskBits.{bit_in, each_in_mask}
 use Rattle.abstraction.proofs.StackAccesses.{refused}
-
--- ---- tests of every slot
-
--- if no index below n passes the test, each of them fails it
-pub none_below : (n : ℕ) (test : ℕ → Bool) → any_below n test ≡ false → (i : ℕ) → i < n → test i ≡ false
-unfolding any_below
-none_below zero test e i lt = absurd (omega arith)
-none_below (suc n) test e i lt =
-    let h = or_parts (test n) (any_below n test) e in
-    ⊎_elim (λ below. none_below n test h.1 i below)
-    (λ le. let same : n ≡ i = omega arith in subst (λ k. test k ≡ false) same h.0)
-    (cases_lt i n)
 
 -- ---- the conditions of a read
 
@@ -43,13 +32,13 @@ may_read : (f : Facts) (x : ℤ) (n : ℕ) → stack_input f x n ≡ Ok tt → M
 may_read f x n e =
     let h =
     passed (is_in_stack x n)
-    (any_below 64 (λ i. is_touched_spill (slot_at f i) (touches (byte_index x) n i)))
-    (any_below 64 (λ i. lacks (slot_at f i) (bits_in (byte_index x) n i)))
+    (touches_spill f (byte_index x) n)
+    (has_unwritten_byte f (byte_index x) n)
     e in
     record {
       within = h.0;
-      spills = none_below 64 (λ i. is_touched_spill (slot_at f i) (touches (byte_index x) n i)) h.1;
-      there = none_below 64 (λ i. lacks (slot_at f i) (bits_in (byte_index x) n i)) h.2;
+      spills = each_slot_fails (λ i. is_touched_spill (slot_at f i) (touches (byte_index x) n i)) h.1;
+      there = each_slot_fails (λ i. lacks (slot_at f i) (bits_in (byte_index x) n i)) h.2;
     }
   where
     passed : (a b c : Bool)

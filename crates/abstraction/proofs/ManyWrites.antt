@@ -18,7 +18,7 @@ use Rattle.tagged_model.specs.Cells.{Cell, bytes, byte_at, cell_over}
 use Rattle.tagged_model.specs.State.{RunState, with_cells, stack_written}
 use Rattle.tagged_model.specs.StateInvariant.{IsInRange}
 use Rattle.abstraction.specs.Admits.{Witness, HasBytes, HasSlot, AdmitsBy}
-use Rattle.tagged_model.specs.StateInvariant.{AreBytes as AreSmall}
+use Rattle.words.specs.Bytes.{AreBytes as AreSmall}
 use Rattle.abstraction.specs.AdmitsLaws.{no_bytes}
 use Rattle.abstraction.proofs.CellBytes.{AreBytes}
 use Rattle.abstraction.proofs.MaskBits.{only_in, of_either}

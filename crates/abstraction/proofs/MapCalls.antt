@@ -10,7 +10,8 @@ use Rattle.tagged_model.specs.Table.{Table, Verdict, Refused, Present, New, no_e
 use Rattle.tagged_model.specs.Table.{of_absent, of_found, look_up, verdict, removal_of, removal}
 use Rattle.tagged_model.specs.State.{RunMap, set_at, with_value}
 use Rattle.tagged_model.specs.Helpers.{with_object, put, updated, taken_out, removed}
-use Rattle.tagged_model.specs.StateInvariant.{AreBytes, IsMapOf}
+use Rattle.tagged_model.specs.StateInvariant.{IsMapOf}
+use Rattle.words.specs.Bytes.{AreBytes}
 use Rattle.abstraction.specs.Laws.{KeepsShapeAndObjects}
 use Rattle.tagged_model.specs.StateLaws.{owns_more, owns_with, owns_without}
 use Rattle.abstraction.proofs.Objects.{values_small}

@@ -6,12 +6,12 @@ use Rattle.std.proofs.lemmas.Int.{ints}
 use Rattle.std.proofs.lemmas.Option.{same_Some}
 use Rattle.std.proofs.lemmas.List.{length-take, length-drop, length-append}
 use Rattle.std.proofs.lemmas.List.Elements.{All-append, All-take, All-drop}
-use Rattle.words.specs.Bytes.{bytes_at, written_at}
+use Rattle.words.specs.Bytes.{bytes_at, written_at, AreBytes}
 use Rattle.reg_kinds.specs.declared.facts.Facts.{Facts}
 use Rattle.tagged_model.specs.declared.shape.MapShape.{MapShape}
 use Rattle.tagged_model.specs.Cells.{and_then}
 use Rattle.tagged_model.specs.State.{RunState, RunMap, set_at, value_bytes, value_written, with_value, with_map, object_bytes, object_written}
-use Rattle.tagged_model.specs.StateInvariant.{AreBytes, IsInRange, IsMapOf, HasMaps}
+use Rattle.tagged_model.specs.StateInvariant.{IsInRange, IsMapOf, HasMaps}
 use Rattle.abstraction.specs.Admits.{Witness, AdmitsBy, objects_of}
 use Rattle.abstraction.specs.Laws.{IsObject}
 

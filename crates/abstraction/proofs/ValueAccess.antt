@@ -1,11 +1,10 @@
 -- Loads and stores within the values of maps.
 use Rattle.std.proofs.Common.{ℕ, zero, suc, ◌/◌, ◌<◌, ◌^◌, length, sym, ap, subst, arith, pos, ◌+ℤ◌, ◌≤ℤ◌}
-use Rattle.words.specs.Bytes.{number_of, low_bytes}
+use Rattle.words.specs.Bytes.{number_of, low_bytes, AreBytes}
 use Rattle.words.specs.ByteLaws.{length-low_bytes, number_below}
 use Rattle.words.specs.Stack.{bytes_of}
 use Rattle.tagged_model.specs.declared.value.Tagged.TheVariants.{Scalar}
 use Rattle.tagged_model.specs.Cells.{widened, number_from}
-use Rattle.tagged_model.specs.StateInvariant.{AreBytes}
 use Rattle.abstraction.specs.Laws.{ValueLoadAdmits, ValueStoreAdmits}
 use Rattle.abstraction.proofs.Numbers.{widened_is}
 use Rattle.abstraction.proofs.Objects.{object_read, object_over}

@@ -17,7 +17,8 @@ use Rattle.tagged_model.specs.Cells.{number_from}
 use Rattle.tagged_model.specs.Table.{look_up, has_direct_value, direct_object}
 use Rattle.tagged_model.specs.Helpers as helpers
 use Rattle.tagged_model.specs.Helpers.{returns}
-use Rattle.tagged_model.specs.StateInvariant.{IsInRange, AreBytes, IsMapOf, HasMaps}
+use Rattle.tagged_model.specs.StateInvariant.{IsInRange, IsMapOf, HasMaps}
+use Rattle.words.specs.Bytes.{AreBytes}
 use Rattle.abstraction.specs.Admits.{Witness, IsOfKind, AdmitsBy, AreBelow, witness_at}
 
 -- the join of facts a and b admits every state that a or b admits, by the same witness

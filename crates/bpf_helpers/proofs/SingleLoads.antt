@@ -18,7 +18,8 @@ use Rattle.arena.specs.PartLaws.{part_within}
 use Rattle.bpf_helpers.specs.Layout.{Layout, IsWord}
 use Rattle.bpf_helpers.specs.Stands.{stack_top, IsRoom, Simulates}
 use Rattle.bpf_helpers.specs.Named.{part_offset}
-use Rattle.bpf_helpers.specs.Accesses.{MayExtend, address_from, LoadsGiveWords}
+use Rattle.bpf_helpers.specs.Accesses.{MayExtend, LoadsGiveWords}
+use Rattle.words.specs.Words.{plus_offset}
 use Rattle.bpf_helpers.proofs.Many.{also_some}
 use Rattle.bpf_helpers.proofs.Inputs.{object_there}
 use Rattle.bpf_helpers.proofs.Cells.{number_some, cell_loaded}
@@ -64,7 +65,7 @@ module _ (env : Environment) (l : Layout) (flat : FlatState) (s : RunState)
   stack_loaded : (size : AccessSize) (signed : Bool) (x off : ℤ) (w : ℕ) (v : Tagged)
       → MayExtend size signed → pos w ≡ pos l.front +ℤ x
       → stack_load s (x +ℤ off) size signed ≡ Some v
-      → Loads size signed (address_from w off) v
+      → Loads size signed (plus_offset w off) v
   stack_loaded size signed x off w v may h e =
       let start = part_start env.memory env.tenant in
       let a = also_some (access_start (x +ℤ off) size) (λ p. read_cell (s.cells (p / 8)) (p % 8) size signed) v e in
@@ -80,7 +81,7 @@ module _ (env : Environment) (l : Layout) (flat : FlatState) (s : RunState)
       cell_loaded env l flat.memory.bytes (start + 8 * (q / 8)) (s.cells (q / 8)) (q % 8) size
       signed v may (stands.stack (q / 8) lt) (omega arith)
       (in_one_slot size q is.aligned) a.2 in
-      loads_at size signed (address_from w off) q v
+      loads_at size signed (plus_offset w off) q v
       (in_front start w q l.front x off stands.front h is.value (omega arith))
       (omega arith)
       (subst (λ (p : ℕ). IsWord env l v (widened size signed (number_of (bytes_at flat.memory.bytes p (bytes_of size)))))
@@ -89,7 +90,7 @@ module _ (env : Environment) (l : Layout) (flat : FlatState) (s : RunState)
   word_loaded : (x off : ℤ) (w : ℕ) (v : Tagged)
       → pos w ≡ pos l.front +ℤ x
       → option_map (λ n. Scalar n) (word_at s.words (x +ℤ off)) ≡ Some v
-      → Loads Word false (address_from w off) v
+      → Loads Word false (plus_offset w off) v
   word_loaded x off w v h e =
       let start = part_start env.memory env.tenant in
       let a = mapped_some (λ n. Scalar n) (word_at s.words (x +ℤ off)) v e in
@@ -103,7 +104,7 @@ module _ (env : Environment) (l : Layout) (flat : FlatState) (s : RunState)
       let offset : stack_top env.memory env.tenant + 4 * (is.offset / 4) ≡ start + (512 + is.offset) = omega arith in
       let got : number_of (bytes_at flat.memory.bytes (stack_top env.memory env.tenant + 4 * (is.offset / 4)) 4) ≡ a.0 =
       stands.context (is.offset / 4) (omega arith) ∙ get_or_from_slice_get s.words (is.offset / 4) a.0 0 is.word in
-      loads_at Word false (address_from w off) (512 + is.offset) v
+      loads_at Word false (plus_offset w off) (512 + is.offset) v
       (in_front start w (512 + is.offset) l.front x off stands.front h value (omega arith))
       (omega arith)
       (subst (λ (u : Tagged). IsWord env l u (number_of (bytes_at flat.memory.bytes (start + (512 + is.offset)) 4))) a.2
@@ -115,18 +116,18 @@ module _ (env : Environment) (l : Layout) (flat : FlatState) (s : RunState)
   context_loaded : (size : AccessSize) (signed : Bool) (x off : ℤ) (w : ℕ) (v : Tagged)
       → pos w ≡ pos l.front +ℤ x
       → context_load s (x +ℤ off) size signed ≡ Some v
-      → Loads size signed (address_from w off) v
+      → Loads size signed (plus_offset w off) v
   context_loaded Word false x off w v h e = word_loaded x off w v h e
   context_loaded size signed x off w v h e = absurd (none-some v e)
 
   value_loaded : (size : AccessSize) (signed : Bool) (m number : ℕ) (x off : ℤ) (w : ℕ) (v : Tagged)
       → pos w ≡ pos (l.object_at m number) +ℤ x → number < l.counts m
       → number_from size signed (object_bytes s m number (x +ℤ off) (bytes_of size)) ≡ Some v
-      → Loads size signed (address_from w off) v
+      → Loads size signed (plus_offset w off) v
   unfolding Loads
   value_loaded size signed m number x off w v h placed e =
       let n = bytes_of size in
-      let from = address_from w off in
+      let from = plus_offset w off in
       let r = number_some size signed (object_bytes s m number (x +ℤ off) n) v e in
       let address = value_read env l flat s room stands m number w n x off (x +ℤ off) r.0 h refl placed r.1 in
       let read = object_there env l flat s room stands m number (x +ℤ off) from n r.0 address placed r.1 in
@@ -159,7 +160,7 @@ module _ (env : Environment) (l : Layout) (flat : FlatState) (s : RunState)
   loaded : (size : AccessSize) (signed : Bool) (p : Tagged) (off : ℤ) (w : ℕ) (v : Tagged)
       → MayExtend size signed → IsWord env l p w
       → load s size signed p off ≡ Some v
-      → Loads size signed (address_from w off) v
+      → Loads size signed (plus_offset w off) v
   loaded size signed (Pointer object.Stack x) off w v may h e = stack_loaded size signed x off w v may h.0 e
   loaded size signed (Pointer object.Context x) off w v may h e = context_loaded size signed x off w v h.0 e
   loaded size signed (Pointer (object.Value m number) x) off w v may h e =

@@ -18,7 +18,8 @@ use Rattle.arena.specs.Ranges.{IsInside}
 use Rattle.arena.specs.PartLaws.{part_within}
 use Rattle.bpf_helpers.specs.Layout.{Layout, IsWord, HasCell}
 use Rattle.bpf_helpers.specs.Stands.{IsRoom, Simulates}
-use Rattle.bpf_helpers.specs.Accesses.{address_from, PointerFits, StoresKeepSimulation}
+use Rattle.bpf_helpers.specs.Accesses.{PointerFits, StoresKeepSimulation}
+use Rattle.words.specs.Words.{plus_offset}
 use Rattle.bpf_helpers.proofs.Many.{also_some}
 use Rattle.bpf_helpers.proofs.Inputs.{memory_long}
 use Rattle.bpf_helpers.proofs.Outputs.{stack_stands, cell_kept, object_overwritten}
@@ -78,7 +79,7 @@ module _ (writes : WritesStayInside) (env : Environment) (l : Layout) (flat : Fl
   stack_stored : (size : AccessSize) (x off : ℤ) (w y : ℕ) (v : Tagged) (u : RunState)
       → pos w ≡ pos l.front +ℤ x → IsWord env l v y
       → PointerFits v y → stack_store s (x +ℤ off) size v ≡ Some u
-      → Stores (bytes_of size) (low_bytes (bytes_of size) y) (address_from w off) u
+      → Stores (bytes_of size) (low_bytes (bytes_of size) y) (plus_offset w off) u
   unfolding Stores
   stack_stored size x off w y v u h word small e =
       let start = part_start env.memory env.tenant in
@@ -98,7 +99,7 @@ module _ (writes : WritesStayInside) (env : Environment) (l : Layout) (flat : Fl
       let whole = part_within env.memory env.tenant room.is_part in
       let long = memory_long env l flat s room stands in
       let c =
-      is_at env.memory env.tenant room (size_of flat.memory) n (address_from w off) q
+      is_at env.memory env.tenant room (size_of flat.memory) n (plus_offset w off) q
       stands.changed.size
       (in_front start w q l.front x off stands.front h is.value (omega arith))
       (omega arith) in (
@@ -118,10 +119,10 @@ module _ (writes : WritesStayInside) (env : Environment) (l : Layout) (flat : Fl
       → length new ≡ n → pos w ≡ pos (l.object_at m number) +ℤ x
       → number < l.counts m
       → object_written s m number (x +ℤ off) new ≡ Some u
-      → Stores n new (address_from w off) u
+      → Stores n new (plus_offset w off) u
   unfolding Stores
   bytes_stored m number x off w n new u count h placed e =
-      let from = address_from w off in
+      let from = plus_offset w off in
       let address = value_overwritten env l flat s room stands m number w x off (x +ℤ off) new u h refl placed e in
       let r = object_overwritten writes env l flat s room stands m number (x +ℤ off) from new u address placed e in
       let seen = part_offset_seen (part_start flat.memory env.tenant) flat.memory.part (length new) from r.0 r.1 in
@@ -144,9 +145,9 @@ module _ (writes : WritesStayInside) (env : Environment) (l : Layout) (flat : Fl
       → pos w ≡ pos (l.object_at m number) +ℤ x → number < l.counts m
       → IsWord env l v y
       → object_stored s size m number (x +ℤ off) v ≡ Some u
-      → Stores (bytes_of size) (low_bytes (bytes_of size) y) (address_from w off) u
+      → Stores (bytes_of size) (low_bytes (bytes_of size) y) (plus_offset w off) u
   value_stored size m number x off w y (Scalar n) u h placed word e =
-      subst (λ (k : ℕ). Stores (bytes_of size) (low_bytes (bytes_of size) k) (address_from w off) u) (sym word)
+      subst (λ (k : ℕ). Stores (bytes_of size) (low_bytes (bytes_of size) k) (plus_offset w off) u) (sym word)
       (bytes_stored m number x off w (bytes_of size) (low_bytes (bytes_of size) n) u
       (length-low_bytes (bytes_of size) n) h placed e)
   value_stored size m number x off w y (Map k) u h placed word e = absurd (none-some u e)
@@ -155,7 +156,7 @@ module _ (writes : WritesStayInside) (env : Environment) (l : Layout) (flat : Fl
   stored : (size : AccessSize) (p : Tagged) (off : ℤ) (w y : ℕ) (v : Tagged) (u : RunState)
       → IsWord env l p w → IsWord env l v y
       → PointerFits v y → store s size p off v ≡ Some u
-      → Stores (bytes_of size) (low_bytes (bytes_of size) y) (address_from w off) u
+      → Stores (bytes_of size) (low_bytes (bytes_of size) y) (plus_offset w off) u
   stored size (Pointer object.Stack x) off w y v u h word small e = stack_stored size x off w y v u h.0 word small e
   stored size (Pointer (object.Value m number) x) off w y v u h word small e =
       value_stored size m number x off w y v u h.0 h.2 word e

@@ -7,7 +7,7 @@ use Rattle.std.proofs.lemmas.Bool.{lt-ltb, le-ltb}
 use Rattle.std.proofs.lemmas.List.{length-replicate}
 use Rattle.std.proofs.lemmas.List.Quantifiers.{position-Some}
 use Rattle.tagged_model.specs.declared.shape.MapShape.{MapShape}
-use Rattle.tagged_model.specs.Table.{new_table}
+use Rattle.tagged_model.specs.Table.{new_table, shape_area}
 use Rattle.tagged_model.specs.declared.fault.MapFault.{MapFault}
 use Rattle.tagged_model.specs.declared.fault.MapFault.TheVariants.{NoEntry, TooBig, Memory, Exists, Invalid, NoSpace}
 use Rattle.slab.specs.Slab.{Slab, get, slab_len}
@@ -19,7 +19,7 @@ use Rattle.bpf_maps.specs.KeyTable.{KeyTable, IsSound, new_keys}
 use Rattle.bpf_maps.specs.BpfMap.{keys_in}
 use Rattle.bpf_maps.specs.Elements.{elements_of, word_of}
 use Rattle.bpf_maps.specs.Live.{LiveMap, LiveMaps, live_at, live_or, free_handle, keys_at, offset, value_in, map_in, start_at}
-use Rattle.bpf_maps.specs.Live.{area_by, areas, create_fault, Creates, IsCreated, IsLaid, AreSound, SameValues, KeepsMaps}
+use Rattle.bpf_maps.specs.Live.{areas, create_fault, Creates, IsCreated, IsLaid, AreSound, SameValues, KeepsMaps}
 use Rattle.bpf_maps.specs.InMaps.{live_of, by_handle, stored_in, as_live_maps, AreKeys, IsWellFormedMaps}
 use Rattle.bpf_maps.specs.LiveLaws.{lowest_most}
 use Rattle.bpf_maps.proofs.Slots.{live_by, none_by, others_by, same_or_other}
@@ -34,11 +34,11 @@ use Rattle.bpf_maps.proofs.Stays.{keeps_live}
 
 -- if a handle is free, and the areas would not exceed LARGEST_SUM, `create` has no fault
 pub no_fault : (t : LiveMaps) (s : MapShape)
-    → is_none (free_handle t) ≡ false → areas t + area_by s ≤ LARGEST_SUM
+    → is_none (free_handle t) ≡ false → areas t + shape_area s ≤ LARGEST_SUM
     → create_fault t s ≡ None
 no_fault t s free fits =
-    let b : nat_lt LARGEST_SUM (areas t + area_by s) ≡ false = le-ltb LARGEST_SUM (areas t + area_by s) fits in
-    ap (λ (x : Bool). if x || nat_lt LARGEST_SUM (areas t + area_by s) then Some NoSpace else None) free
+    let b : nat_lt LARGEST_SUM (areas t + shape_area s) ≡ false = le-ltb LARGEST_SUM (areas t + shape_area s) fits in
+    ap (λ (x : Bool). if x || nat_lt LARGEST_SUM (areas t + shape_area s) then Some NoSpace else None) free
     ∙ ap (λ (x : Bool). if x then Some NoSpace else None) b
 
 or_true : (b : Bool) → (b || true) ≡ true
@@ -46,20 +46,20 @@ or_true true = refl
 or_true false = refl
 
 full_fault : (t : LiveMaps) (s : MapShape)
-    → (free_handle t ≡ None) ⊎ (LARGEST_SUM < areas t + area_by s) → create_fault t s ≡ Some NoSpace
+    → (free_handle t ≡ None) ⊎ (LARGEST_SUM < areas t + shape_area s) → create_fault t s ≡ Some NoSpace
 full_fault t s full =
     ⊎_elim
     (λ (e : free_handle t ≡ None).
-    ap (λ (o : Option ℕ). if is_none o || nat_lt LARGEST_SUM (areas t + area_by s) then Some NoSpace else None) e)
-    (λ (l : LARGEST_SUM < areas t + area_by s).
+    ap (λ (o : Option ℕ). if is_none o || nat_lt LARGEST_SUM (areas t + shape_area s) then Some NoSpace else None) e)
+    (λ (l : LARGEST_SUM < areas t + shape_area s).
     ap (λ (x : Bool). if x then Some NoSpace else None)
-    (ap (λ (x : Bool). is_none (free_handle t) || x) (lt-ltb LARGEST_SUM (areas t + area_by s) l)
+    (ap (λ (x : Bool). is_none (free_handle t) || x) (lt-ltb LARGEST_SUM (areas t + shape_area s) l)
     ∙ or_true (is_none (free_handle t))))
     full
 
 -- there is no room
 module _ {a : Inside} {t : LiveMaps} (shape : MapShape) {size : ℕ} (view : as_live_maps a ≡ t)
-    (h : IsWellFormedMaps a) (size_is : size ≡ area_by shape) where
+    (h : IsWellFormedMaps a) (size_is : size ≡ shape_area shape) where
   -- if no handle is free, or the areas would exceed LARGEST_SUM, `create` returns NoSpace and changes nothing
   pub creates_full : (position is_none a.keys ≡ None) ⊎ (LARGEST_SUM < a.bytes + size)
       → Creates (create_fault t shape) t shape (Err NoSpace) t
@@ -79,7 +79,7 @@ pub record IsRoom (a : Inside) (t : LiveMaps) (shape : MapShape) (size handle : 
   -- the invariant of the live maps holds
   pub whole : IsWellFormedMaps a
   -- the size is that of the area of a map of this shape
-  pub size_is : size ≡ area_by shape
+  pub size_is : size ≡ shape_area shape
   -- the handle is the lowest one without a key
   pub free : position is_none a.keys ≡ Some handle
   -- with the new one, the areas do not exceed LARGEST_SUM
@@ -230,7 +230,7 @@ module _ {a : Inside} {t : LiveMaps} {shape : MapShape} {size handle : ℕ} (r :
     -- the invariant of the live maps holds with the new map
     pub whole_one : IsWellFormedMaps after
     whole_one =
-        let x : area_by (keys_in e.map).shape ≡ area_by shape = ap (λ (q : KeyTable). area_by q.shape) d.table in
+        let x : shape_area (keys_in e.map).shape ≡ shape_area shape = ap (λ (q : KeyTable). shape_area q.shape) d.table in
         let room = h.room in
         let same = d.capacity in
         whole_added after handle h others e empty there d.start round elements_there
@@ -249,7 +249,7 @@ module _ {a : Inside} {t : LiveMaps} {shape : MapShape} {size handle : ℕ} (r :
     last_one = seen_of (λ l. l.start) live_new ∙ d.start ∙ ap (λ (n : ℕ). STACK_AND_CONTEXT + n) (h.sum ∙ ap areas view)
 
     -- all areas take more bytes than before, by the area of the new map
-    pub more_one : areas (as_live_maps after) ≡ areas t + area_by shape
+    pub more_one : areas (as_live_maps after) ≡ areas t + shape_area shape
     more_one =
         let bytes = whole_one.sum in
         let sum = h.sum in
@@ -373,5 +373,5 @@ pub same_fault : (old new : LiveMaps) (s : MapShape)
     → free_handle new ≡ free_handle old → areas new ≡ areas old
     → create_fault new s ≡ create_fault old s
 same_fault old new s free bytes =
-    ap₂ (λ (o : Option ℕ) (n : ℕ). if is_none o || nat_lt LARGEST_SUM (n + area_by s) then Some NoSpace else None)
+    ap₂ (λ (o : Option ℕ) (n : ℕ). if is_none o || nat_lt LARGEST_SUM (n + shape_area s) then Some NoSpace else None)
     free bytes

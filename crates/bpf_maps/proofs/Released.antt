@@ -9,7 +9,8 @@ use Rattle.bpf_maps.specs.declared.stored_map.StoredMap.{StoredMap}
 use Rattle.bpf_maps.specs.declared.spare_maps.SpareMaps.{SpareMaps}
 use Rattle.bpf_maps.specs.declared.maps.Maps.TheInside.{Inside}
 use Rattle.bpf_maps.specs.BpfMap.{keys_in}
-use Rattle.bpf_maps.specs.Live.{LiveMap, LiveMaps, live_at, live_or, shape_at, offset, area_by, areas, without_area}
+use Rattle.bpf_maps.specs.Live.{LiveMap, LiveMaps, live_at, live_or, shape_at, offset, areas, without_area}
+use Rattle.tagged_model.specs.Table.{shape_area}
 use Rattle.bpf_maps.specs.Live.{without_area_at, one_less, area_of, IsLaid, AreSound, SameValues, KeepsOthers, map_without, ClosesUp}
 use Rattle.bpf_maps.specs.Sum.{weight}
 use Rattle.bpf_maps.specs.InMaps.{live_of, live_maps_of, by_handle, stored_in, as_live_maps, AreKeys, closed_up, IsWellFormedMaps}
@@ -175,9 +176,9 @@ module _ {a : Inside} {t : LiveMaps} {handle map key size : ℕ} {old gone : Sto
   live_gone = live_here a g.taken.under.view g.taken.under.same was
 
   -- all areas take fewer bytes than before, by the area of the removed map
-  pub freed_gone : areas t ≡ areas (as_live_maps new) + area_by (shape_at t map)
+  pub freed_gone : areas t ≡ areas (as_live_maps new) + shape_area (shape_at t map)
   freed_gone =
-      let shape : area_by (shape_at t map) ≡ area_of (live_of gone) = seen_of (λ (x : LiveMap). area_of x) live_gone in
+      let shape : shape_area (shape_at t map) ≡ area_of (live_of gone) = seen_of (λ (x : LiveMap). area_of x) live_gone in
       let bytes = whole_gone.sum in
       let sum = was_whole.sum in
       let seen = ap areas g.taken.under.view in

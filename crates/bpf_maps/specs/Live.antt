@@ -6,10 +6,9 @@ use Rattle.tagged_model.specs.declared.shape.MapKind.TheVariants.{Hash}
 use Rattle.tagged_model.specs.declared.shape.MapShape.{MapShape}
 use Rattle.tagged_model.specs.declared.fault.MapFault.{MapFault}
 use Rattle.tagged_model.specs.declared.fault.MapFault.TheVariants.{NoEntry, TooBig, Memory, Exists, Invalid, NoSpace}
-use Rattle.tagged_model.specs.Shape.{area}
 use Rattle.bpf_maps.specs.declared.part.TheConstants.{STACK_AND_CONTEXT, PART}
 use Rattle.bpf_maps.specs.Limits.{most_bytes}
-use Rattle.tagged_model.specs.Table.{Table, with_values}
+use Rattle.tagged_model.specs.Table.{Table, with_values, shape_area}
 use Rattle.bpf_maps.specs.Sum.{total}
 use Rattle.bpf_maps.specs.KeyTable.{KeyTable, table_of, new_keys, IsSound}
 
@@ -157,13 +156,9 @@ KeepsOthers k old bytes new later = (other : ℕ) → other ≢ k → KeepsMap o
 
 -- ---- the space that the maps take
 
--- the number of bytes of the area of a map of this shape
-abbrev pub area_by : MapShape → ℕ
-area_by shape = area shape.value_size shape.max_entries
-
 -- the number of bytes of the area of a live map
 abbrev pub area_of : LiveMap → ℕ
-area_of l = area_by l.keys.shape
+area_of l = shape_area l.keys.shape
 
 -- the number of bytes that the areas of all live maps take together
 abbrev pub areas : LiveMaps → ℕ
@@ -240,7 +235,7 @@ pub record OnlyKeysChange (k : ℕ) (old new : LiveMaps) : Type 0 where
 -- of the live maps would take too many bytes; else None
 abbrev pub create_fault : LiveMaps → MapShape → Option MapFault
 create_fault t shape =
-    if is_none (free_handle t) || nat_lt most_bytes (areas t + area_by shape)
+    if is_none (free_handle t) || nat_lt most_bytes (areas t + shape_area shape)
     then Some NoSpace
     else None
 

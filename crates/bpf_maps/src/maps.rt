@@ -4,7 +4,7 @@ ghost use Rattle.std.specs.Prelude.{◌≡◌, ◌≢◌, ℕ, ◌+◌, ◌-◌,
 ghost use Rattle.std.specs.Prelude.{replicate, option_map, Some, None, is_some, IfSome, IfOk, OnErr, IsSome};
 ghost use Rattle.ordered_keys.specs.Orders.{next_entry};
 ghost use Rattle.tagged_model.specs.declared.shape.MapKind.TheVariants.{Array};
-ghost use Rattle.tagged_model.specs.Table.{look_up, verdict, removal, next_of, new_table};
+ghost use Rattle.tagged_model.specs.Table.{look_up, verdict, removal, next_of, new_table, shape_area};
 ghost use Rattle.bpf_maps.specs.declared.part.TheConstants.{PART, STACK_AND_CONTEXT};
 ghost use Rattle.bpf_maps.specs.Limits.{most_maps, most_bytes};
 ghost use Rattle.bpf_maps.specs.KeyTable.{table_of, IsSound, Claims, Removes, GivesKey, after_run};
@@ -12,7 +12,7 @@ ghost use Rattle.bpf_maps.specs.Elements.{elements_at, word_of};
 ghost use Rattle.bpf_maps.specs.KeyRef.{key_bytes, shown_entry};
 ghost use Rattle.bpf_maps.specs.Live.{live_at, keys_at, shape_at, references_at, without_area_at, offset_at, value_in, map_in, value_address};
 ghost use Rattle.bpf_maps.specs.Live.{LiesInPart, IsLaid, IsPacked, ClosesUp, start_at, AreSound, SameAreas, SameValues, KeepsMap};
-ghost use Rattle.bpf_maps.specs.Live.{KeepsMaps, KeepsOthers, area_by, areas, OnlyKeysChange, create_fault, Creates, one_more, one_less};
+ghost use Rattle.bpf_maps.specs.Live.{KeepsMaps, KeepsOthers, areas, OnlyKeysChange, create_fault, Creates, one_more, one_less};
 ghost use Rattle.bpf_maps.specs.InMaps.{live_of};
 
 use crate::bpf_map::BpfMap;
@@ -167,7 +167,7 @@ impl Maps {
             (λ i. replicate shape.value_size 0) shape) }
         ensures values { SameValues self.old part.old self.new part.new }
         ensures maps { KeepsMaps self.old part.old self.new part.new }
-        ensures more { IfOk result (λ k. areas self.new ≡ areas self.old + area_by shape) }
+        ensures more { IfOk result (λ k. areas self.new ≡ areas self.old + shape_area shape) }
         ensures front { take STACK_AND_CONTEXT part.new ≡ take STACK_AND_CONTEXT part.old }
         ensures length { length part.new ≡ PART }
         ensures unchanged { OnErr result (part.new ≡ part.old) }
@@ -254,7 +254,7 @@ impl Maps {
             → KeepsMap map self.old part.old self.new part.new }
         ensures room { 1 < references_at self.old map → areas self.new ≡ areas self.old }
         ensures freed { references_at self.old map ≤ 1
-            → areas self.old ≡ areas self.new + area_by (shape_at self.old map) }
+            → areas self.old ≡ areas self.new + shape_area (shape_at self.old map) }
         ensures front { take STACK_AND_CONTEXT part.new ≡ take STACK_AND_CONTEXT part.old }
         ensures length { length part.new ≡ PART }
     {

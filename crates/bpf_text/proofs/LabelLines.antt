@@ -2,10 +2,10 @@
 use Rattle.std.proofs.Common.{◌≡◌, ℕ, suc, ◌+◌, ◌<◌, Bool, true, false, cond, List, [], ◌∷◌, ◌++◌, length}
 use Rattle.std.proofs.Common.{take, map, get_or, Option, Some, None, Bor, subst, refl, sym, ap, ◌∙◌, arith}
 use Rattle.std.specs.Prelude.{option_map, is_some}
-use Rattle.std.specs.Option.{option_copied}
+use Rattle.std.specs.Option.{option_or, option_copied}
 use Rattle.text_line.specs.declared.form.Line.{Line as CodeLine}
 use Rattle.text_line.specs.Shown.{seen_option, seen_lines}
-use Rattle.bpf_text.specs.inside.Labels.{or_else, Labels, definition_of, line_start, FindsLabels, defined_label}
+use Rattle.bpf_text.specs.inside.Labels.{Labels, definition_of, line_start, FindsLabels, defined_label}
 use Rattle.text_line.specs.Line.{Line, blank, label, code, ReadAs}
 use Rattle.std.specs.Str.{bytes_eq}
 use Rattle.std.proofs.lemmas.Slice.Eq.{bytes_eq-Decides}
@@ -15,22 +15,22 @@ use Rattle.bpf_text.specs.declared.assembler.LineStart.{LineStart}
 use Rattle.bpf_text.specs.Assembly.{AreRead, line_slots, slots_on, defines, label_line}
 
 label_line_step : (name : List ℕ) (l x : Option Line) (xs : List (Option Line)) (b : Bool)
-    → label_line name (xs ++ x ∷ []) ≡ or_else (label_line name xs) (cond (defines name x) (Some (length xs)) None)
+    → label_line name (xs ++ x ∷ []) ≡ option_or (label_line name xs) (cond (defines name x) (Some (length xs)) None)
     → cond b (Some 0) (option_map suc (label_line name (xs ++ x ∷ [])))
-    ≡ or_else (cond b (Some 0) (option_map suc (label_line name xs)))
+    ≡ option_or (cond b (Some 0) (option_map suc (label_line name xs)))
     (cond (defines name x) (Some (suc (length xs))) None)
 label_line_step name l x xs true e = refl
 label_line_step name l x xs false e = ap (option_map suc) e ∙ pushed (label_line name xs) (defines name x) (length xs)
   where
     pushed : (o : Option ℕ) (b : Bool) (n : ℕ)
-        → option_map suc (or_else o (cond b (Some n) None)) ≡ or_else (option_map suc o) (cond b (Some (suc n)) None)
+        → option_map suc (option_or o (cond b (Some n) None)) ≡ option_or (option_map suc o) (cond b (Some (suc n)) None)
     pushed (Some k) b n = refl
     pushed None true n = refl
     pushed None false n = refl
 
 -- after one more line, a label has its line from before, or if it had none, the new one if this defines it
 pub label_line-append : (name : List ℕ) (xs : List (Option Line)) (x : Option Line)
-    → label_line name (xs ++ x ∷ []) ≡ or_else (label_line name xs) (cond (defines name x) (Some (length xs)) None)
+    → label_line name (xs ++ x ∷ []) ≡ option_or (label_line name xs) (cond (defines name x) (Some (length xs)) None)
 unfolding label_line
 label_line-append name [] x =
     elim (defines name x) as
@@ -56,7 +56,7 @@ bytes_eq-other a b false h k = refl
 abbrev some_definition : LineStart → Option LineStart
 some_definition p = Some p
 
-or_none : (o : Option LineStart) → or_else o None ≡ o
+or_none : (o : Option LineStart) → option_or o None ≡ o
 or_none None = refl
 or_none (Some p) = refl
 
@@ -71,22 +71,22 @@ noted_step : (old new : Option LineStart) (definition : LineStart) (name q : Lis
     → defined_label x ≡ Some name → bytes_eq name q ≡ b
     → (b ≡ true → old ≡ None)
     → new ≡ cond b (some_definition definition) old
-    → new ≡ or_else old (cond (defines q x) (some_definition definition) None)
+    → new ≡ option_or old (cond (defines q x) (some_definition definition) None)
 noted_step old new definition name q x true is eq none e =
     let here : defines q x ≡ true = defines_is q name x is ∙ bytes_eq-sym name q eq in
     e
-    ∙ sym (ap (λ (t : Bool). or_else old (cond t (some_definition definition) None)) here
-    ∙ ap (λ (o : Option LineStart). or_else o (some_definition definition)) (none refl))
+    ∙ sym (ap (λ (t : Bool). option_or old (cond t (some_definition definition) None)) here
+    ∙ ap (λ (o : Option LineStart). option_or o (some_definition definition)) (none refl))
 noted_step old new definition name q x false is eq none e =
     let there : defines q x ≡ false = defines_is q name x is ∙ bytes_eq-other name q (bytes_eq q name) eq refl in
-    e ∙ sym (ap (λ (t : Bool). or_else old (cond t (some_definition definition) None)) there ∙ or_none old)
+    e ∙ sym (ap (λ (t : Bool). option_or old (cond t (some_definition definition) None)) there ∙ or_none old)
 
 -- the definition of a name that had none is kept now
 pub noted : (old new : Labels) (definition : LineStart) (name : List ℕ) (x : Option Line)
     → defined_label x ≡ Some name → definition_of old name ≡ None
     → ((q : List ℕ) → definition_of new q ≡ cond (bytes_eq name q) (some_definition definition) (definition_of old q))
     → (q : List ℕ)
-    → definition_of new q ≡ or_else (definition_of old q) (cond (defines q x) (some_definition definition) None)
+    → definition_of new q ≡ option_or (definition_of old q) (cond (defines q x) (some_definition definition) None)
 noted old new definition name x is none change q =
     noted_step (definition_of old q) (definition_of new q) definition name q x (bytes_eq name q) is
     refl
@@ -94,8 +94,8 @@ noted old new definition name x is none change q =
     (change q)
 
 pushed_definition : (lines : List (Option Line)) (o : Option ℕ) (b : Bool) (i : ℕ)
-    → or_else (option_map (line_start lines) o) (cond b (some_definition (line_start lines i)) None)
-    ≡ option_map (line_start lines) (or_else o (cond b (Some i) None))
+    → option_or (option_map (line_start lines) o) (cond b (some_definition (line_start lines i)) None)
+    ≡ option_map (line_start lines) (option_or o (cond b (Some i) None))
 pushed_definition lines (Some k) b i = refl
 pushed_definition lines None true i = refl
 pushed_definition lines None false i = refl
@@ -107,18 +107,18 @@ pub finds_more : (lines : List (Option Line)) (i : ℕ) (x : Option Line) (old n
     → length (take i lines) ≡ i → FindsLabels lines old i
     → definition ≡ line_start lines i
     → ((q : List ℕ)
-    → definition_of new q ≡ or_else (definition_of old q) (cond (defines q x) (some_definition definition) None))
+    → definition_of new q ≡ option_or (definition_of old q) (cond (defines q x) (some_definition definition) None))
     → FindsLabels lines new (i + 1)
 finds_more lines i x old new definition more len finds is change = λ q.
     change q
-    ∙ ap (λ (o : Option LineStart). or_else o (cond (defines q x) (some_definition definition) None)) (finds q)
+    ∙ ap (λ (o : Option LineStart). option_or o (cond (defines q x) (some_definition definition) None)) (finds q)
     ∙ ap (λ (p : LineStart).
-    or_else (option_map (line_start lines) (label_line q (take i lines)))
+    option_or (option_map (line_start lines) (label_line q (take i lines)))
     (cond (defines q x) (some_definition p) None))
     is
     ∙ pushed_definition lines (label_line q (take i lines)) (defines q x) i
     ∙ ap (λ (n : ℕ).
-    option_map (line_start lines) (or_else (label_line q (take i lines)) (cond (defines q x) (Some n) None)))
+    option_map (line_start lines) (option_or (label_line q (take i lines)) (cond (defines q x) (Some n) None)))
     (sym len)
     ∙ ap (option_map (line_start lines)) (sym (label_line-append q (take i lines) x))
     ∙ ap (λ (xs : List (Option Line)). option_map (line_start lines) (label_line q xs)) (sym more)

@@ -3,14 +3,14 @@
 ghost use Rattle.std.specs.Prelude.{◌≡◌, ◌<◌, ◌≤◌, ◌⊎◌, ℕ, List, length, map, option_map, Some};
 ghost use Rattle.std.specs.Prelude.{None, if◌then◌else◌, IfOk, OnOk, IfErr, IsErrAnd, MatchResult};
 ghost use Rattle.std.specs.List.{AllByRecursion};
-ghost use Rattle.std.specs.Option.{option_to_list};
+ghost use Rattle.std.specs.Option.{option_or, option_to_list};
 ghost use Rattle.insn_set.specs.Program.{slot_count};
 ghost use Rattle.insn_set.specs.declared.insn.Insn.{Insn as AnyInsn};
 ghost use Rattle.text_line.specs.Shown.{seen_option, seen_lines};
 ghost use Rattle.bpf_text.specs.declared.fault.TextFault.{TextFault as AnyFault};
 ghost use Rattle.bpf_text.specs.Fault.{IsFirstFaultyLine, memory_fault, empty_fault};
 ghost use Rattle.bpf_text.specs.Assembly.{AreRead, IsAssembled, IsOwnFault, line_slots, slots_on, defines, fault_at, forms_from};
-ghost use Rattle.bpf_text.specs.inside.Labels.{defined_label, or_else, definition_of, FindsLabels};
+ghost use Rattle.bpf_text.specs.inside.Labels.{defined_label, definition_of, FindsLabels};
 ghost use Rattle.bpf_text.specs.inside.Labels.{kept_distance, code_fault, kept_fault, kept_form, IsNoneOrWellFormed};
 ghost use Rattle.text_line.specs.Form.{IsForm};
 ghost use Rattle.text_line.specs.Ranges.{resolved};
@@ -77,14 +77,14 @@ fn defined<'a>(line: &Option<Line<'a>>) -> Option<&'a str>
 /// Adds the label that a line defines to `labels`, with `definition`: the line's index, and the number of slots of the instructions on the
 /// lines before it. Nothing is added if the line has none of the forms (`None`), or defines no label, or one that an earlier line defines:
 /// the first definition counts. The contract states this for each name `q`: its definition is the one that `labels` had before, or else
-/// (`or_else`) the argument `definition`, if the line defines `q`. Fails only if memory is refused.
+/// (`option_or`) the argument `definition`, if the line defines `q`. Fails only if memory is refused.
 fn note<'a>(
     labels: &mut HashMap<&'a str, LineStart>,
     line: &Option<Line<'a>>,
     definition: LineStart,
 ) -> Result<(), AllocError>
     ensures { OnOk result ((q : List ℕ) → definition_of labels.new q
-        ≡ or_else (definition_of labels.old q)
+        ≡ option_or (definition_of labels.old q)
         (if defines q (seen_option line.now) then Some definition else None)) }
 {
     let Some(name) = defined(line) else {

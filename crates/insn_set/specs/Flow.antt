@@ -1,7 +1,7 @@
 -- The successors of an instruction: the next one, or a jump's target (RFC 9669, section 4.3); the
 -- register that the instruction writes; and the map that it names. All are read from its row of the
 -- table.
-use Rattle.std.specs.Prelude.{ℕ, ℤ, pos, negsuc, Option, Some, None, ◌+◌, ◌+ℤ◌, length, Bool, true, false, if◌then◌else◌}
+use Rattle.std.specs.Prelude.{ℕ, ℤ, pos, negsuc, Option, Some, None, ◌+◌, ◌+ℤ◌, ◌==◌, length, Bool, true, false, if◌then◌else◌}
 use Rattle.insn_set.specs.declared.insn.Insn.{Insn}
 use Rattle.insn_set.specs.declared.profile.Successors.{Successors}
 use Rattle.insn_set.specs.declared.profile.Successors.TheVariants.{Next, Jump, NextOrJump, Nothing}
@@ -87,6 +87,12 @@ jump_target i at = target_by (profile i).successors at
 -- registers that it changes, 0 to 5
 abbrev pub written_register : Insn → Option ℕ
 written_register i = (profile i).written
+
+-- the option has a number, and it is i: the slot to which a jump leads, or the register that an
+-- instruction writes. False for None: the slot would be below 0, or no register is written
+abbrev pub is_number : Option ℕ → ℕ → Bool
+is_number None i = false
+is_number (Some n) i = n == i
 
 -- the descriptor in a reference, that is, in what an instruction names outside its registers.
 -- `Nothing` and a helper (`Helper`, with its number id) have none: the result is None. A map

@@ -32,5 +32,5 @@ mod verdict;
 pub use edges::Edges;
 pub use kinds::{write_byte_range, write_kind, write_range};
 pub use log::{Log, LogStyle};
-pub use recorder::{Judged, KnownFacts, judge, nothing_known};
+pub use recorder::{Judged, KnownFacts, judge};
 pub use verdict::{is_of_shape, write_verdict};

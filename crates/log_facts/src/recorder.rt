@@ -4,11 +4,10 @@ ghost use Rattle.std.specs.Prelude.{IfOk};
 ghost use Rattle.log_facts.specs.Known.{IsJudged};
 
 use insn_codec::Program;
-use reg_kinds::{Facts, Kind, Reason, Slot};
+use reg_kinds::{Facts, Reason};
 use std::alloc::{AllocError, Global};
 use tagged_model::Named;
 use verifier::{Cost, VerifyFault, Watcher, verify_watched};
-use words::{REGISTERS, STACK_SLOTS};
 
 /// What the verifier knows before an instruction that a run may reach.
 #[derive(Clone, Copy, Debug, PartialEq, Eq)]
@@ -17,16 +16,6 @@ pub struct KnownFacts {
     pub slot: usize,
     /// The facts before it.
     pub facts: Facts,
-}
-
-/// Facts in which nothing is known: no register is readable, and no byte of the stack is written (each stack slot has the mask 0). A log
-/// compares the facts before its first instruction with these; if it shows all facts, it compares those before each instruction with these.
-/// If the pass reached no instruction, the reason of a rejection is written with these.
-pub fn nothing_known() -> Facts {
-    Facts {
-        registers: [Kind::Unreadable; REGISTERS],
-        slots: [Slot::Bytes(0); STACK_SLOTS],
-    }
 }
 
 /// A watcher of the pass, which keeps the facts before each instruction that the pass reaches, in order.

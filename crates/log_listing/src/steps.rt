@@ -2,7 +2,7 @@
 
 use crate::known::write_known;
 use insn_codec::{Insn, Program, Successors};
-use log_facts::{Edges, KnownFacts, nothing_known};
+use log_facts::{Edges, KnownFacts};
 use reg_kinds::Facts;
 use std::alloc::{AllocError, Global};
 use tagged_model::Named;
@@ -112,7 +112,7 @@ pub(crate) fn steps_of(
     known: &[KnownFacts],
     is_whole: bool,
 ) -> Result<Vec<Step>, AllocError> {
-    let nothing = nothing_known();
+    let nothing = Facts::nothing_known();
     let mut maker = StepMaker {
         alloc,
         program,

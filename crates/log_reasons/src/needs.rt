@@ -8,7 +8,7 @@ pub(crate) mod shape;
 
 use crate::reasons::reason_words;
 use insn_codec::{Insn, Program};
-use log_facts::{Judged, KnownFacts, is_of_shape, nothing_known};
+use log_facts::{Judged, KnownFacts, is_of_shape};
 use reg_kinds::{Facts, Reason};
 use std::alloc::{AllocError, Global};
 use tagged_model::Named;
@@ -76,7 +76,7 @@ fn reason_line(refusal: &RefusedProgram<'_>, between: &str) -> Result<String, Al
 fn last_facts(known: &[KnownFacts]) -> Facts {
     match known.last() {
         Some(last) => last.facts,
-        None => nothing_known(),
+        None => Facts::nothing_known(),
     }
 }
 

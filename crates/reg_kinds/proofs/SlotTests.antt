@@ -14,26 +14,7 @@ use Rattle.reg_kinds.specs.declared.reason.Reason.TheVariants.{OutsideStack, Unw
 use Rattle.reg_kinds.specs.Kinds.{slot_at}
 use Rattle.words.specs.Stack.{is_in_stack, byte_index, touches}
 use Rattle.reg_kinds.specs.BitLaws.{ones_small}
-use Rattle.reg_kinds.specs.Many.{any_below, is_touched_spill, lacks, bits_in, stack_input}
-
--- ---- tests
-
--- if an index below n passes a test, some index below n passes it
-pub one_below : (n i : ℕ) (test : ℕ → Bool) → i < n → test i ≡ true → any_below n test ≡ true
-unfolding any_below
-one_below zero i test lt e = absurd (omega arith)
-one_below (suc n) i test lt e =
-    ⊎_elim
-    (λ below. or_right (test n) (any_below n test) (one_below n i test below e))
-    (λ le. let same : i ≡ n = omega arith in or_left (test n) (any_below n test) (subst (λ k. test k ≡ true) same e))
-    (cases_lt i n)
-
--- if each index below n fails a test, none passes it
-pub none_below : (n : ℕ) (test : ℕ → Bool) → ((i : ℕ) → i < n → test i ≡ false) → any_below n test ≡ false
-unfolding any_below
-none_below zero test none = refl
-none_below (suc n) test none =
-    or_from (test n) (any_below n test) (none n (omega arith)) (none_below n test (λ i lt. none i (omega (arith, lt))))
+use Rattle.reg_kinds.specs.Many.{is_touched_spill, touches_spill, lacks, has_unwritten_byte, bits_in, stack_input}
 
 -- ---- slots that an access does not touch
 
@@ -70,33 +51,27 @@ lacks_apart f p n i h = ap (lacks (slot_at f i)) (no_bits p n i h) ∙ lacks_non
 
 -- ---- reads that are permitted
 
-abbrev pub spill_at : Facts → ℕ → ℕ → Bool
-spill_at f n p = any_below 64 (λ i. is_touched_spill (slot_at f i) (touches p n i))
-
-abbrev pub missing_at : Facts → ℕ → ℕ → Bool
-missing_at f n p = any_below 64 (λ i. lacks (slot_at f i) (bits_in p n i))
-
 abbrev pub seen_of : Bool → Bool → Result (Unit {0}) Reason
 seen_of a b = if a then Err PartOfSpill else (if b then Err UnwrittenStack else Ok tt)
 
 input_at : (f : Facts) (x : ℤ) (n p : ℕ) (a b : Bool)
     → (if is_in_stack x n then Some (byte_index x) else None) ≡ Some p
-    → a ≡ spill_at f n p → b ≡ missing_at f n p
+    → a ≡ touches_spill f p n → b ≡ has_unwritten_byte f p n
     → seen_of a b ≡ stack_input f x n
 input_at f x n p a b at e g =
     let h = cond_some (is_in_stack x n) (byte_index x) p at in
     ap (λ a. seen_of a b) e
-    ∙ ap (seen_of (spill_at f n p)) g
-    ∙ sym (ap (λ q. seen_of (spill_at f n q) (missing_at f n q)) h.1)
+    ∙ ap (seen_of (touches_spill f p n)) g
+    ∙ sym (ap (λ q. seen_of (touches_spill f q n) (has_unwritten_byte f q n)) h.1)
     ∙ sym (ap (λ t.
-    if not t then Err OutsideStack else seen_of (spill_at f n (byte_index x)) (missing_at f n (byte_index x)))
+    if not t then Err OutsideStack else seen_of (touches_spill f (byte_index x) n) (has_unwritten_byte f (byte_index x) n))
     h.0)
 
 -- if bytes lie in the stack, only a touched spill or an unwritten byte is a reason against a helper's read of them
 pub input_is : (f : Facts) (x y : ℤ) (n p : ℕ) (a b : Bool)
     → y ≡ x
     → (if is_in_stack y n then Some (byte_index y) else None) ≡ Some p
-    → a ≡ spill_at f n p → b ≡ missing_at f n p
+    → a ≡ touches_spill f p n → b ≡ has_unwritten_byte f p n
     → seen_of a b ≡ stack_input f x n
 input_is f x y n p a b same at e g =
     input_at f x n p a b (subst (λ z. (if is_in_stack z n then Some (byte_index z) else None) ≡ Some p) same at) e g

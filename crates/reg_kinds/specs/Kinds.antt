@@ -51,6 +51,10 @@ with_slots f s = record { registers = f.registers; slots = tabulate stack_slots 
 abbrev pub facts_of : (ℕ → Kind) → (ℕ → Slot) → Facts
 facts_of k s = record { registers = tabulate 11 k; slots = tabulate stack_slots s }
 
+-- the facts in which nothing is known: no register is readable, and no stack byte is written
+abbrev pub nothing_known : Facts
+nothing_known = facts_of (λ r. Unreadable) (λ i. Bytes 0)
+
 -- the kind of register r at program entry: register 1 holds the context, register 10 the frame
 -- pointer, and no other is readable
 abbrev pub entry_kind : ℕ → Kind

@@ -1,8 +1,8 @@
 -- Byte ranges of the stack that may span many slots: what a helper reads and writes. Starts count
 -- from the stack's lower end; a mask has bit k for byte k of a slot. The rules are this project's
 -- own.
-use Rattle.std.specs.Prelude.{ℕ, zero, suc, ◌+◌, ◌-◌, ◌*◌, ◌^◌, ◌==◌, ℤ, min, bit_and, nat_le, Bool, false, not, ◌||◌, if◌then◌else◌, Result, Ok, Err}
-use Rattle.words.specs.Stack.{stack_slots, is_in_stack, byte_index, touches}
+use Rattle.std.specs.Prelude.{ℕ, ◌+◌, ◌-◌, ◌*◌, ◌^◌, ◌==◌, ℤ, min, bit_and, nat_le, Bool, false, not, if◌then◌else◌, Result, Ok, Err}
+use Rattle.words.specs.Stack.{any_slot, is_in_stack, byte_index, touches}
 use Rattle.reg_kinds.specs.declared.kind.Kind.{Kind}
 use Rattle.reg_kinds.specs.declared.kind.Kind.TheVariants.{Unreadable}
 use Rattle.reg_kinds.specs.declared.kind.Slot.{Slot}
@@ -17,12 +17,6 @@ use Rattle.reg_kinds.specs.Stack.{bytes_over}
 -- is. A difference of natural numbers is 0 if the second is greater
 abbrev pub bits_in : ℕ → ℕ → ℕ → ℕ
 bits_in p n i = (2 ^ (min 8 (p + n - 8 * i) - (p - 8 * i)) - 1) * 2 ^ (p - 8 * i)
-
--- whether the test holds of at least one of the numbers 0 to n - 1, which are here those of stack
--- slots; false for n = 0
-unfoldable pub any_below : ℕ → (ℕ → Bool) → Bool
-any_below zero test = false
-any_below (suc n) test = test n || any_below n test
 
 -- whether a stack slot is a spill, and an access touches one of its eight bytes (`touched`). False
 -- for a slot of bytes (`Bytes`), whatever its mask. If it is true of a slot, a helper may not read
@@ -40,15 +34,21 @@ abbrev pub lacks : Slot → ℕ → Bool
 lacks (Bytes mask) bits = not (bit_and mask bits == bits)
 lacks (Spill k) bits = false
 
+-- at least one of the n bytes from byte index p on is in a spill
+abbrev pub touches_spill : Facts → ℕ → ℕ → Bool
+touches_spill f p n = any_slot (λ i. is_touched_spill (slot_at f i) (touches p n i))
+
+-- at least one of the n bytes from byte index p on may be unwritten
+abbrev pub has_unwritten_byte : Facts → ℕ → ℕ → Bool
+has_unwritten_byte f p n = any_slot (λ i. lacks (slot_at f i) (bits_in p n i))
+
 -- a helper may read n bytes at offset x from the stack's upper end (Ok): all lie in the stack, none
 -- in a spill, and each is written; or the first of these conditions that fails, as a reason
 abbrev pub stack_input : Facts → ℤ → ℕ → Result (Unit {0}) Reason
 stack_input f x n =
     if not (is_in_stack x n) then Err OutsideStack else
-    (if any_below stack_slots
-    (λ i. is_touched_spill (slot_at f i) (touches (byte_index x) n i)) then Err PartOfSpill else
-    (if any_below stack_slots
-    (λ i. lacks (slot_at f i) (bits_in (byte_index x) n i)) then Err UnwrittenStack else Ok tt))
+    (if touches_spill f (byte_index x) n then Err PartOfSpill else
+    (if has_unwritten_byte f (byte_index x) n then Err UnwrittenStack else Ok tt))
 
 -- the facts after a write of at least lo and at most hi bytes at offset x from the stack's upper
 -- end. The first lo bytes become written. A spill that the first hi bytes touch is lost: only those

@@ -14,7 +14,18 @@ pub struct Facts {
 impl Facts {
     ghost use Rattle.std.specs.Prelude.{◌≡◌, ◌<◌};
     ghost use Rattle.words.specs.declared.stack.TheConstants.{STACK_SLOTS};
-    ghost use Rattle.reg_kinds.specs.Kinds.{entry, kind_at, slot_at, with_kind, with_slot};
+    ghost use Rattle.reg_kinds.specs.Kinds.{nothing_known, entry, kind_at, slot_at, with_kind, with_slot};
+
+    /// The facts in which nothing is known: no register is readable, and no stack byte is written, so the mask of written bytes of each stack
+    /// slot is 0 (`Bytes(0)`).
+    pub fn nothing_known() -> Facts
+        ensures { result ≡ nothing_known }
+    {
+        Facts {
+            registers: [Kind::Unreadable; REGISTERS],
+            slots: [Slot::Bytes(0); STACK_SLOTS],
+        }
+    }
 
     /// The facts at program entry: register 1 holds the context, register 10 the upper end of the stack, at offset 0 (`Stack(0)`); no other
     /// register is readable, and no stack byte is written, so the mask of written bytes of each stack slot is 0 (`Bytes(0)`).

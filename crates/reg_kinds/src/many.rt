@@ -6,7 +6,7 @@ ghost use Rattle.std.specs.Prelude.{if◌then◌else◌, IfSome, MatchResult, Ok
 ghost use Rattle.words.specs.Stack.{stack_size, stack_slots, is_in_stack, byte_index, touches};
 ghost use Rattle.reg_kinds.specs.Kinds.{slot_at, with_slots};
 ghost use Rattle.reg_kinds.specs.Stack.{bytes_over};
-ghost use Rattle.reg_kinds.specs.Many.{bits_in, any_below, is_touched_spill, lacks, stack_input, stack_filled, called_facts};
+ghost use Rattle.reg_kinds.specs.Many.{bits_in, is_touched_spill, touches_spill, lacks, has_unwritten_byte, stack_input, stack_filled, called_facts};
 ghost use Rattle.reg_kinds.specs.declared.kind.Kind.TheVariants.{Unreadable};
 
 use crate::facts::Facts;
@@ -96,13 +96,12 @@ fn end_of_touched_slots(start: usize, count: usize) -> usize
 }
 
 /// Whether the `count` stack bytes from byte index `start` on touch a spill; if so, `check_read` rejects a helper's read of them. The
-/// contract is about all `stack_slots` stack slots (`any_below`). The loop leaves out those that end before the bytes or begin after them,
-/// since the bytes do not touch these. Helpers read keys and values, of at least one byte. With `count` 0 the stack slot of byte `start`
-/// counts as touched, unless this byte is its first: `touches` only compares both ends of the bytes with those of the slot.
+/// contract is about all stack slots (`touches_spill`). The loop leaves out those that end before the bytes or begin after them, since the
+/// bytes do not touch these. Helpers read keys and values, of at least one byte. With `count` 0 the stack slot of byte `start` counts as
+/// touched, unless this byte is its first: `touches` only compares both ends of the bytes with those of the slot.
 fn bytes_touch_spill(facts: &Facts, start: usize, count: usize) -> bool
     requires { start + count ≤ stack_size }
-    ensures { result ≡ any_below stack_slots
-        (λ i. is_touched_spill (slot_at facts.now i) (touches start count i)) }
+    ensures { result ≡ touches_spill facts.now start count }
 {
     for index in start / 8..end_of_touched_slots(start, count) {
         if is_touched_spill(facts.slot(index), touches(start, count, index)) {
@@ -113,12 +112,11 @@ fn bytes_touch_spill(facts: &Facts, start: usize, count: usize) -> bool
 }
 
 /// Whether at least one of the `count` stack bytes from byte index `start` on may be unwritten: then `check_read` rejects a helper's read
-/// of them. All bytes of a spill are written. In the contract, `bits_in` is the mask of these bytes in stack slot `i`, and `lacks` is
-/// whether one of them may be unwritten. The loop leaves out only stack slots that have none of these bytes, so that their masks are 0.
+/// of them. All bytes of a spill are written. The contract is about all stack slots (`has_unwritten_byte`). The loop leaves out only slots
+/// that have none of these bytes, so that their masks (`bits_in`) are 0.
 fn is_any_unwritten(facts: &Facts, start: usize, count: usize) -> bool
     requires { start + count ≤ stack_size }
-    ensures { result ≡ any_below stack_slots
-        (λ i. lacks (slot_at facts.now i) (bits_in start count i)) }
+    ensures { result ≡ has_unwritten_byte facts.now start count }
 {
     for index in start / 8..end_of_touched_slots(start, count) {
         if lacks(facts.slot(index), bits_in(start, count, index)) {

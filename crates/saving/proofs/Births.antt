@@ -13,7 +13,7 @@ use Rattle.tagged_model.specs.declared.fault.MapFault.{MapFault}
 use Rattle.tagged_model.specs.declared.value.Outcome.{Outcome}
 use Rattle.tagged_model.specs.declared.value.Outcome.TheVariants.{Value, Fault}
 use Rattle.tagged_model.specs.Table as call
-use Rattle.tagged_model.specs.Table.{look_up, verdict, removal, next_of}
+use Rattle.tagged_model.specs.Table.{look_up, verdict, removal, next_of, shape_area}
 use Rattle.tagged_model.specs.Step.{result_of}
 use Rattle.verifier.specs.Maps.{maps_of}
 use Rattle.tenant.specs.declared.errno.Errno.{Errno}
@@ -23,7 +23,7 @@ use Rattle.tenant.specs.declared.object.OpenObject.{OpenObject}
 use Rattle.tenant.specs.declared.object.OpenObject.TheVariants as object
 use Rattle.tenant.specs.Errno.{status_of}
 use Rattle.tenant.specs.Loaded.{LoadedProgram}
-use Rattle.tenant.specs.State.{Map, TenantState, new_tenant, live, is_named, shape_area, with_objects}
+use Rattle.tenant.specs.State.{Map, TenantState, new_tenant, live, is_named, with_objects}
 use Rattle.insn_set.specs.declared.insn.Insn.{Insn}
 use Rattle.verifier.specs.declared.refusal.Refusal.{Refusal}
 use Rattle.tenant.specs.Machine.{Answer, cause_errno, Answers, refuses, refuses_for_memory, kind_of, asked_shape, new_map}

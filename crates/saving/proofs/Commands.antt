@@ -17,7 +17,7 @@ use Rattle.tagged_model.specs.Cells.{and_then}
 use Rattle.tagged_model.specs.State.{set_at}
 use Rattle.tagged_model.specs.Step.{MapsByDescriptor, result_of, left_of}
 use Rattle.tagged_model.specs.Table as call
-use Rattle.tagged_model.specs.Table.{look_up, verdict, removal, next_of, with_new, with_object, with_deleted, after_run}
+use Rattle.tagged_model.specs.Table.{look_up, verdict, removal, next_of, with_new, with_object, with_deleted, after_run, shape_area}
 use Rattle.verifier.specs.Maps.{maps_of, objects_at}
 use Rattle.tenant.specs.declared.errno.Errno.{Errno}
 use Rattle.tenant.specs.declared.errno.Errno.TheVariants.{NoEntry, TooBig, BadDescriptor, Invalid, TooManyOpen, NoSpace}
@@ -25,7 +25,7 @@ use Rattle.tenant.specs.declared.object.OpenObject.{OpenObject}
 use Rattle.tenant.specs.declared.object.OpenObject.TheVariants as object
 use Rattle.tenant.specs.Loaded.{LoadedProgram}
 use Rattle.tenant.specs.Errno.{status_of, map_errno}
-use Rattle.tenant.specs.State.{Map, TenantState, live, is_named, shape_area, with_map_at, with_objects}
+use Rattle.tenant.specs.State.{Map, TenantState, live, is_named, with_map_at, with_objects}
 use Rattle.insn_set.specs.declared.insn.Insn.{Insn}
 use Rattle.verifier.specs.declared.refusal.Refusal.{Refusal}
 use Rattle.verifier.specs.Judgement.{Judges}

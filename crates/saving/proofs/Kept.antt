@@ -25,7 +25,8 @@ use Rattle.tenant.specs.declared.object.OpenObject.{OpenObject}
 use Rattle.tenant.specs.declared.object.OpenObject.TheVariants as object
 use Rattle.tenant.specs.Loaded.{LoadedProgram}
 use Rattle.bpf_maps.specs.Limits.{most_bytes}
-use Rattle.tenant.specs.State.{Map, TenantState, live, is_named, shape_area, map_area}
+use Rattle.tenant.specs.State.{Map, TenantState, live, is_named, map_area}
+use Rattle.tagged_model.specs.Table.{shape_area}
 use Rattle.tenant.specs.Machine.{object_target, entry_of, targets_from, targets, named_handle, handles_from, loaded_program, maps_left}
 use Rattle.saving.specs.Alike.{HoldsItsMaps}
 use Rattle.saving.specs.Restorable.{IsWholeMap, shapes_from, IsWholeProgram, IsRestorable}

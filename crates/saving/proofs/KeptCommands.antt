@@ -19,7 +19,7 @@ use Rattle.tagged_model.specs.declared.value.Outcome.TheVariants.{Value, Fault}
 use Rattle.tagged_model.specs.Step.{MapsByDescriptor, result_of, left_of}
 use Rattle.tagged_model.specs.Table as call
 use Rattle.tagged_model.specs.Table.{is_key, index_key, indexed, new_entries, look_up, verdict}
-use Rattle.tagged_model.specs.Table.{removal, next_of, with_new, with_object, with_deleted, after_run}
+use Rattle.tagged_model.specs.Table.{removal, next_of, with_new, with_object, with_deleted, after_run, shape_area}
 use Rattle.verifier.specs.Laws.{LoadedMapsHaveShapes}
 use Rattle.tenant.specs.declared.errno.Errno.{Errno}
 use Rattle.tenant.specs.declared.errno.Errno.TheVariants.{TooBig, Invalid, TooManyOpen}
@@ -27,7 +27,7 @@ use Rattle.tenant.specs.declared.object.OpenObject.{OpenObject}
 use Rattle.tenant.specs.declared.object.OpenObject.TheVariants as object
 use Rattle.tenant.specs.Loaded.{LoadedProgram}
 use Rattle.bpf_maps.specs.Limits.{most_bytes, most_maps}
-use Rattle.tenant.specs.State.{Map, TenantState, new_tenant, free_handle, live, is_named, shape_area, map_area, maps_area, with_map_at, with_objects}
+use Rattle.tenant.specs.State.{Map, TenantState, new_tenant, free_handle, live, is_named, map_area, maps_area, with_map_at, with_objects}
 use Rattle.insn_set.specs.declared.insn.Insn.{Insn}
 use Rattle.verifier.specs.declared.refusal.Refusal.{Refusal}
 use Rattle.verifier.specs.Judgement.{Judges}

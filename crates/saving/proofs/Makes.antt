@@ -19,14 +19,14 @@ use Rattle.tagged_model.specs.declared.shape.MapShape.{MapShape}
 use Rattle.tagged_model.specs.Shape.{is_shape, fits, has_key, is_from_to, longest_value, most_entries}
 use Rattle.tagged_model.specs.State.{set_at}
 use Rattle.tagged_model.specs.Table as call
-use Rattle.tagged_model.specs.Table.{is_key, found, index_key, indexed, new_entries, verdict, with_new, with_object}
+use Rattle.tagged_model.specs.Table.{is_key, found, index_key, indexed, new_entries, verdict, with_new, with_object, shape_area}
 use Rattle.tagged_model.specs.declared.fault.MapFault.TheVariants.{TooBig}
 use Rattle.tenant.specs.declared.errno.Errno.{Errno}
 use Rattle.tenant.specs.declared.errno.Errno.TheVariants.{Invalid}
 use Rattle.tenant.specs.declared.object.OpenObject.{OpenObject}
 use Rattle.tenant.specs.declared.object.OpenObject.TheVariants as object
 use Rattle.bpf_maps.specs.Limits.{most_bytes}
-use Rattle.tenant.specs.State.{Map, TenantState, live, is_named, named_from, map_area, maps_area, shape_area, free_handle, with_map_at}
+use Rattle.tenant.specs.State.{Map, TenantState, live, is_named, named_from, map_area, maps_area, free_handle, with_map_at}
 use Rattle.tenant.specs.Machine.{Answer, Answers, opens, gives, refuses, kind_of, asked_shape, shape_where, new_map}
 use Rattle.tenant.specs.Machine.{room_for, created, created_under, created_as, of_object, of_handle, element_put}
 use Rattle.tenant.specs.Described.{type_number}

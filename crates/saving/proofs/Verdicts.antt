@@ -11,7 +11,7 @@ use Rattle.insn_set.specs.declared.insn.Insn.{Insn}
 use Rattle.insn_set.specs.declared.profile.Reference.{Reference}
 use Rattle.insn_set.specs.declared.profile.Reference.TheVariants as names
 use Rattle.insn_set.specs.BeginLaws.{none_begins_past}
-use Rattle.insn_set.specs.Flow.{descriptor, descriptor_by, jumps, falls, jumps_to, falls_to, written_register}
+use Rattle.insn_set.specs.Flow.{descriptor, descriptor_by, jumps, falls, jumps_to, falls_to, written_register, is_number}
 use Rattle.insn_set.specs.Profile.{profile}
 use Rattle.insn_set.specs.Program.{IsProgram, begins_at, slot_count}
 use Rattle.reg_kinds.specs.declared.reason.Reason.{Reason}
@@ -28,7 +28,7 @@ use Rattle.transfer.specs.Effects.{effect}
 use Rattle.verifier.specs.Before.{facts_before, facts_from_below}
 use Rattle.verifier.specs.Laws.{MapsAreListed}
 use Rattle.verifier.specs.Maps.{maps_of, is_among, objects_at, shapes_of}
-use Rattle.verifier.specs.Shape.{is_map, is_not_open, is_not_map, lacks_direct_value, calls_unknown, is_number, leads_outside}
+use Rattle.verifier.specs.Shape.{is_map, is_not_open, is_not_map, lacks_direct_value, calls_unknown, leads_outside}
 use Rattle.verifier.specs.Shape.{leads_backward, is_reachable, reached_from, first_reason, shape_reason, shape_reason_at, structure_fault}
 use Rattle.verifier.specs.Verdict.{HasNoFault, IsAccepted, reason_of, safety_fault}
 use Rattle.saving.specs.Filler.{filler}

@@ -3,15 +3,12 @@
 use Rattle.std.specs.Prelude.{◌≡◌, ℕ, ◌<◌, ◌^◌, List, [], ◌∷◌, length, Option, Some}
 use Rattle.std.specs.List.{All}
 use Rattle.std.specs.Map.{keys_of}
+use Rattle.words.specs.Bytes.{AreBytes}
 use Rattle.tagged_model.specs.declared.shape.MapKind.TheVariants.{Array}
 use Rattle.tagged_model.specs.declared.shape.MapShape.{MapShape}
 use Rattle.tagged_model.specs.Table.{indexed}
 use Rattle.tagged_model.specs.Cells.{byte_at}
 use Rattle.tagged_model.specs.State.{RunState, RunMap, context_words}
-
--- each number of the list is below 256
-abbrev pub AreBytes : List ℕ → Type 0
-AreBytes bs = All (λ b. b < 256) bs
 
 -- the bytes of the stack, of values and of the packet are below 256, and the context has eleven
 -- words, each below 2 ^ 32

@@ -12,6 +12,7 @@ use Rattle.tagged_model.specs.declared.shape.MapKind.{MapKind}
 use Rattle.tagged_model.specs.declared.shape.MapKind.TheVariants.{Hash, Array}
 use Rattle.tagged_model.specs.declared.shape.MapShape.{MapShape}
 use Rattle.tagged_model.specs.declared.fault.MapFault.{MapFault}
+use Rattle.tagged_model.specs.Shape.{area}
 use Rattle.tagged_model.specs.declared.fault.MapFault.TheVariants.{NoEntry, TooBig, Exists, Invalid}
 
 -- a map: its shape, its keys in order, each with its object, and the number of objects deleted in
@@ -20,6 +21,10 @@ pub record Table (A : Type 0) : Type 0 where
   pub shape : MapShape
   pub entries : List (List ℕ × A)
   pub deleted : ℕ
+
+-- the number of bytes that the values of a map of this shape take
+abbrev pub shape_area : MapShape → ℕ
+shape_area shape = area shape.value_size shape.max_entries
 
 -- ---- lists of keys with their objects
 

@@ -6,7 +6,8 @@ use Rattle.std.proofs.Math.Bool.{or-true}
 use Rattle.std.proofs.lemmas.Option.{none-some, same_Some}
 use Rattle.bpf_maps.specs.declared.part.TheConstants.{MAPS, LARGEST_SUM}
 use Rattle.bpf_maps.specs.Live as live
-use Rattle.bpf_maps.specs.Live.{LiveMaps, LiveMap, live_or, live_at, references_at, keys_at, map_in, areas, area_by}
+use Rattle.bpf_maps.specs.Live.{LiveMaps, LiveMap, live_or, live_at, references_at, keys_at, map_in, areas}
+use Rattle.tagged_model.specs.Table.{shape_area}
 use Rattle.bpf_maps.specs.Live.{create_fault, Creates, IsCreated, KeepsMaps}
 use Rattle.bpf_maps.specs.KeyTable.{KeyTable}
 use Rattle.fd_table.specs.Table.{first_descriptor, lowest, with_open}
@@ -17,7 +18,7 @@ use Rattle.tenant.specs.declared.object.OpenObject.{OpenObject}
 use Rattle.tenant.specs.declared.object.OpenObject.TheVariants as object
 use Rattle.tenant.specs.Loaded.{LoadedProgram}
 use Rattle.bpf_maps.specs.Limits.{most_bytes, most_maps}
-use Rattle.tenant.specs.State.{Map, free_handle, shape_area}
+use Rattle.tenant.specs.State.{Map, free_handle}
 use Rattle.tenant.specs.declared.errno.Errno.TheVariants.{NoMemory}
 use Rattle.tenant.specs.Errno.{map_errno}
 use Rattle.tenant.specs.Machine.{refuses, room_for, new_map, created, created_under, created_as, created_at}
@@ -45,7 +46,7 @@ fault_if o large = if is_none o || large then Some fault.NoSpace else None
 room_is : (part : List ℕ) (k : KeptTenant) (shape : MapShape)
     → AreHeld k.live → length k.live.maps ≡ MAPS
     → room_for (state_in part k) (shape_area shape)
-    ≡ (if nat_lt LARGEST_SUM (areas k.live + area_by shape) then None else live.free_handle k.live)
+    ≡ (if nat_lt LARGEST_SUM (areas k.live + shape_area shape) then None else live.free_handle k.live)
 room_is part k shape is all =
     ap₂ (λ (bytes : ℕ) (handle : Option ℕ). if nat_lt most_bytes (bytes + shape_area shape) then None else handle)
     (areas_are part k is) (free_is part k all)
@@ -226,7 +227,7 @@ pub created_is : (refused : Bool) (part : List ℕ) (k : KeptTenant) (shape : Ma
     → created refused (state_in part k) (Ok shape) ≡ created_at refused (state_in part k) shape fd handle
 created_is refused part k shape {handle} {fd} is all low none free =
     let (p, lowest_is, room_there) =
-    room (live.free_handle k.live) (nat_lt LARGEST_SUM (areas k.live + area_by shape)) none in
+    room (live.free_handle k.live) (nat_lt LARGEST_SUM (areas k.live + shape_area shape)) none in
     ap (λ (o : Option ℕ). created_under refused (state_in part k) shape o) low
     ∙ ap (λ (o : Option ℕ). created_as refused (state_in part k) shape fd o)
     (room_is part k shape is all ∙ room_there ∙ sym lowest_is ∙ free)
@@ -250,7 +251,7 @@ create_refused part k t shape f {fd} is all low made =
         × (refuses (map_errno f) (state_in part (with_live k t)) ≡ created refused (state_in part k) (Ok shape))
     by_cause (inl (full, same)) =
         let (which, none) =
-        lost (live.free_handle k.live) (nat_lt LARGEST_SUM (areas k.live + area_by shape)) f full in (
+        lost (live.free_handle k.live) (nat_lt LARGEST_SUM (areas k.live + shape_area shape)) f full in (
           false,
           ap₂ (λ (g : MapFault) (u : LiveMaps). refuses (map_errno g) (state_in part (with_live k u))) which same
               ∙ sym (ap (λ (o : Option ℕ). created_under false (state_in part k) shape o) low
@@ -259,7 +260,7 @@ create_refused part k t shape f {fd} is all low made =
         )
     by_cause (inr (none, which, flagged)) =
         let (handle, free, room_there) =
-        room (live.free_handle k.live) (nat_lt LARGEST_SUM (areas k.live + area_by shape)) none in (
+        room (live.free_handle k.live) (nat_lt LARGEST_SUM (areas k.live + shape_area shape)) none in (
           true,
           ap₂ (λ (g : MapFault) (u : LiveMaps). refuses (map_errno g) (state_in part (with_live k u))) which flagged
               ∙ ap (λ (b : Bool).

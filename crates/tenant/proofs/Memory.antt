@@ -23,7 +23,7 @@ use Rattle.tagged_model.specs.declared.value.Outcome.TheVariants.{Value, Fault}
 use Rattle.tagged_model.specs.Shape.{is_shape, is_valid}
 use Rattle.tagged_model.specs.Step.{result_of, left_of}
 use Rattle.tagged_model.specs.Table as call
-use Rattle.tagged_model.specs.Table.{verdict, removal, removal_of, look_up, next_of, of_found, of_absent, exist, no_exist, is_full}
+use Rattle.tagged_model.specs.Table.{verdict, removal, removal_of, look_up, next_of, of_found, of_absent, exist, no_exist, is_full, shape_area}
 use Rattle.verifier.specs.declared.refusal.Cause.{Cause}
 use Rattle.verifier.specs.declared.refusal.Cause.TheVariants as cause
 use Rattle.verifier.specs.declared.refusal.Refusal.{Refusal}
@@ -38,7 +38,7 @@ use Rattle.tenant.specs.Laws.{takes_memory, IsNoRefusal, RefusalsAreReported}
 use Rattle.tenant.specs.Machine.{Answer, refuses, refuses_for_memory, codec_errno, verdict_errno, cause_errno, created_as, created_under, created, room_for}
 use Rattle.tenant.specs.Machine.{shape_where, kind_of, asked_shape, of_object, of_handle, on_map, gives_or_no_entry, element_put, element_taken_out, targets}
 use Rattle.tenant.specs.Machine.{result_of_judgement, LoadsUnder, outcome_result, maps_given, maps_left, ran, run_of, longest_packet, closed, Answers}
-use Rattle.tenant.specs.State.{Map, TenantState, live, shape_area}
+use Rattle.tenant.specs.State.{Map, TenantState, live}
 use Rattle.tenant.proofs.LookUps.{has_size}
 use Rattle.tenant.proofs.NextKeys.{is_empty_or_fits}
 use Rattle.tenant.proofs.Updates.{has_sizes, key_of, value_of, put_of}

@@ -6,9 +6,7 @@ use Rattle.std.specs.List.{list_any}
 use Rattle.std.specs.Option.{option_map_or}
 use Rattle.bpf_maps.specs.Limits.{most_maps}
 use Rattle.bpf_maps.specs.Sum.{total}
-use Rattle.tagged_model.specs.declared.shape.MapShape.{MapShape}
-use Rattle.tagged_model.specs.Shape.{area}
-use Rattle.tagged_model.specs.Table.{Table}
+use Rattle.tagged_model.specs.Table.{Table, shape_area}
 use Rattle.tenant.specs.declared.object.OpenObject.{OpenObject}
 use Rattle.tenant.specs.declared.object.OpenObject.TheVariants as object
 use Rattle.fd_table.specs.Table.{nothing_open}
@@ -37,10 +35,6 @@ live s handle = slice_index_or s.maps handle None
 -- the lowest handle without a map; None if each handle has one
 abbrev pub free_handle : TenantState → Option ℕ
 free_handle s = position is_none s.maps
-
--- the number of bytes that the values of a map of this shape take
-abbrev pub shape_area : MapShape → ℕ
-shape_area shape = area shape.value_size shape.max_entries
 
 -- the number of bytes that the values of a map take
 abbrev pub map_area : Map → ℕ

@@ -11,7 +11,8 @@ use Rattle.std.proofs.lemmas.Option.{none-some, same_Some}
 use Rattle.std.proofs.lemmas.Slice.Eq.{bytes_eq-Decides}
 use Rattle.text_line.specs.Token.{Token, name, number, symbol, symbols, is_name, are_digits, value_of}
 use Rattle.text_line.specs.Token.{is_name_start, is_name_byte, is_hex_digit, IsToken, BeginsWith}
-use Rattle.text_line.specs.inside.Tokens.{symbol_at, is_hexadecimal, run, name_at, number_at, or_else, token_at}
+use Rattle.text_line.specs.inside.Tokens.{symbol_at, is_hexadecimal, run, name_at, number_at, token_at}
+use Rattle.std.specs.Option.{option_or}
 use Rattle.text_line.proofs.Fronts.{begins_itself, begins_no_name, symbols_no_name, begins_no_digit, symbols_no_digit, start_in_name, digit_no_start}
 
 -- ---- bytes that pass a test
@@ -499,7 +500,7 @@ by_number text t rest none false plain e = by_digit text t rest none plain (is_a
 by_name : (text : List ℕ) (t : Token) (rest : List ℕ)
     → symbol_at text ≡ None
     → (b : Bool) → is_name_start (slice_index text 0) ≡ b
-    → or_else (cond b (cut (name (run is_name_byte text)) (drop (prefix_len is_name_byte text) text)) None)
+    → option_or (cond b (cut (name (run is_name_byte text)) (drop (prefix_len is_name_byte text) text)) None)
     (number_at text)
     ≡ cut t rest
     → BeginsWith text t rest
@@ -511,7 +512,7 @@ by_name text t rest none false start e = by_number text t rest none (is_hexadeci
 
 by_symbol : (text : List ℕ) (t : Token) (rest : List ℕ) (o : Option (List ℕ))
     → symbol_at text ≡ o
-    → or_else (option_map (λ s. (symbol s, drop (length s) text)) o) (or_else (name_at text) (number_at text))
+    → option_or (option_map (λ s. (symbol s, drop (length s) text)) o) (option_or (name_at text) (number_at text))
     ≡ cut t rest
     → BeginsWith text t rest
 unfolding name_at

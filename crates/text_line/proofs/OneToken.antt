@@ -8,7 +8,8 @@ use Rattle.std.specs.Str.Parse.{digits_value}
 use Rattle.std.proofs.lemmas.Bool.{false≢true, and_parts, or_cases, not-true, both_ways}
 use Rattle.std.proofs.Math.Seq.{take-append_seam, drop-append_seam}
 use Rattle.text_line.specs.Token.{Token, name, number, symbol, symbols, is_name, value_of, is_name_start, is_name_byte, IsToken, BeginsWith}
-use Rattle.text_line.specs.inside.Tokens.{symbol_at, is_hexadecimal, name_at, number_at, or_else, token_at}
+use Rattle.text_line.specs.inside.Tokens.{symbol_at, is_hexadecimal, name_at, number_at, token_at}
+use Rattle.std.specs.Option.{option_or}
 use Rattle.text_line.proofs.Fronts.{begins_no_name, symbols_no_name, symbols_no_digit, begins_no_digit, start_in_name}
 use Rattle.text_line.proofs.Longest.{each_symbol, no_digit_symbol, name_bytes, number_first, all_digits_of}
 use Rattle.text_line.proofs.Longest.{no_symbol_there, symbol_back, name_first, digit_first, start_no_digit, taken}
@@ -100,7 +101,7 @@ record IsBare (text : List ℕ) : Type 0 where
   no_digit : is_ascii_digit (slice_index text 0) ≡ false
 
 none_of : {A B : Type 0} (f : A → B) (o : Option A) (b h d : Bool) (x y z : B)
-    → or_else (option_map f o) (or_else (cond b (Some x) None) (cond h (Some y) (cond d (Some z) None))) ≡ None
+    → option_or (option_map f o) (option_or (cond b (Some x) None) (cond h (Some y) (cond d (Some z) None))) ≡ None
     → (o ≡ None) × (b ≡ false) × (d ≡ false)
 none_of f (Some a) b h d x y z e = absurd cc
 none_of f None true h d x y z e = absurd cc

@@ -8,7 +8,7 @@ use Rattle.std.proofs.lemmas.List.{length-take, length-drop, length-replicate, g
 use Rattle.std.proofs.lemmas.List.Elements.{All-take, All-drop}
 use Rattle.interval.specs.declared.range.Range.{Range}
 use Rattle.interval.specs.Ranges.{IsMember}
-use Rattle.words.specs.Bytes.{bytes_at}
+use Rattle.words.specs.Bytes.{bytes_at, AreBytes}
 use Rattle.words.specs.Stack.{is_in_stack, byte_index}
 use Rattle.reg_kinds.specs.declared.kind.ValuePointer.{ValuePointer}
 use Rattle.reg_kinds.specs.declared.kind.Kind.{Kind}
@@ -33,7 +33,7 @@ use Rattle.tagged_model.specs.State.{RunState, RunMap, with_map, with_cells, sta
 use Rattle.tagged_model.specs.Helpers.{GivenMap, map_given, number_given, length_given, context_given, argument}
 use Rattle.tagged_model.specs.Helpers.{map_argument, looked_up, MapReply, put, updated, taken_out, removed, errno}
 use Rattle.tagged_model.specs.Helpers.{packet_bytes, packet_result, is_in_packet, negative, outside, returns, replies, called}
-use Rattle.tagged_model.specs.StateInvariant.{AreBytes, IsMapOf, HasMaps}
+use Rattle.tagged_model.specs.StateInvariant.{IsMapOf, HasMaps}
 use Rattle.abstraction.specs.Admits.{Witness, IsOfKind, IsLookup, HasKind, AdmitsBy, objects_of, AreBelow, witness_at}
 use Rattle.abstraction.specs.Laws.{StackInputAdmits, StackOutputAdmits, ObjectReadAdmits, ObjectWriteAdmits}
 use Rattle.abstraction.specs.Laws.{MapCallsKeep, KeepsShapeAndObjects, Describes, MapChangeAdmits, CallAdmits, SiteAdmits}

@@ -41,9 +41,9 @@ use Rattle.transfer.specs.Effects.{is_known_multiple, atomic_facts, map_of, valu
 use Rattle.transfer.specs.Reasons.{IsSafetyReason, IsReasonFor, IsReasonOf, TransferReasons}
 use Rattle.transfer.specs.Calls.{shaped, argument_map, check_in_value, input_kind, output_facts, number_range, lengths_end}
 use Rattle.transfer.specs.Calls.{length_range, context_kind, readable_two, readable_four, any_number, call_facts}
-use Rattle.words.specs.Stack.{bytes_of, is_double, is_in_stack, byte_index, is_aligned, touches}
+use Rattle.words.specs.Stack.{bytes_of, is_double, is_in_stack, byte_index, is_aligned}
 use Rattle.reg_kinds.specs.declared.kind.ValuePointer.{ValuePointer}
-use Rattle.reg_kinds.specs.Many.{bits_in, any_below, is_touched_spill, lacks, stack_input, filled}
+use Rattle.reg_kinds.specs.Many.{bits_in, touches_spill, has_unwritten_byte, stack_input, filled}
 use Rattle.tagged_model.specs.declared.helper.Helper.{Helper}
 use Rattle.tagged_model.specs.declared.helper.Helper.TheVariants.{LookUp, Update, Delete, LoadBytes}
 use Rattle.tagged_model.specs.declared.shape.MapShape.{MapShape}
@@ -205,9 +205,9 @@ stack_input_rule : (f : Facts) (x : ℤ) (n : ℕ) → ByRule (stack_input f x n
 stack_input_rule f x n =
     cond_both (not (is_in_stack x n)) _ _ ByRule (λ _. tt)
     (λ _.
-    cond_both (any_below 64 (λ i. is_touched_spill (slot_at f i) (touches (byte_index x) n i))) _ _ ByRule (λ _. tt)
+    cond_both (touches_spill f (byte_index x) n) _ _ ByRule (λ _. tt)
     (λ _.
-    cond_both (any_below 64 (λ i. lacks (slot_at f i) (bits_in (byte_index x) n i)))
+    cond_both (has_unwritten_byte f (byte_index x) n)
     (Err UnwrittenStack) (Ok tt) ByRule (λ _. tt) (λ _. tt)))
 
 input_rule : (shapes : Shapes) (f : Facts) (n : ℕ) (k : Kind) → ByRule (input_kind shapes f n k)

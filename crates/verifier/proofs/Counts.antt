@@ -7,11 +7,11 @@ use Rattle.insn_set.specs.declared.insn.Insn.{Insn}
 use Rattle.insn_set.specs.declared.profile.Profile.{Profile}
 use Rattle.insn_set.specs.Profile.{profile}
 use Rattle.insn_set.specs.Program.{begins_at}
-use Rattle.insn_set.specs.Flow.{falls_to, jumps_to, falls, falls_by, jumps, jumps_by, target_by}
+use Rattle.insn_set.specs.Flow.{falls_to, jumps_to, falls, falls_by, jumps, jumps_by, target_by, is_number}
 use Rattle.tagged_model.specs.declared.shape.Named.{Named}
 use Rattle.verifier.specs.declared.cost.Cost.{Cost}
 use Rattle.verifier.specs.Cost.{is_call, is_exit, calls_in, IsMostOf, IsCostOf}
-use Rattle.verifier.specs.Shape.{is_number, leads_into, reached_from, is_reachable, shape_reason_at, structure_fault}
+use Rattle.verifier.specs.Shape.{leads_into, reached_from, is_reachable, shape_reason_at, structure_fault}
 use Rattle.verifier.specs.ShapeLaws.{unrefused_is_fine}
 use Rattle.verifier.specs.inside.Longest.{one, one_if_call, total, passed_on, most_from, at_exit, most_ended}
 use Rattle.verifier.proofs.Longest.{passes, passes_none, leads_from}

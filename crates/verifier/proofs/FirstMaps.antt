@@ -11,7 +11,8 @@ use Rattle.tagged_model.specs.Named.{Shapes}
 use Rattle.tagged_model.specs.Table.{Table}
 use Rattle.tagged_model.specs.State.{RunMap}
 use Rattle.tagged_model.specs.Step.{MapsByDescriptor, numbered, map_at_start}
-use Rattle.tagged_model.specs.StateInvariant.{AreBytes, KeysHaveObjects, IsMapOf}
+use Rattle.tagged_model.specs.StateInvariant.{KeysHaveObjects, IsMapOf}
+use Rattle.words.specs.Bytes.{AreBytes}
 use Rattle.verifier.specs.Sound.{IsTableOf}
 
 -- ---- the objects of a map are numbered in order

@@ -23,17 +23,17 @@ use Rattle.reg_kinds.specs.Laws.{FactsCommute, FactsAssociate}
 use Rattle.tagged_model.specs.Cells.{and_then}
 use Rattle.tagged_model.specs.Named.{Shapes}
 use Rattle.transfer.specs.Arithmetic.{check_readable}
-use Rattle.transfer.specs.Branches.{Edges}
+use Rattle.transfer.specs.Branches.{Edges, falling_of, jumping_of}
 use Rattle.transfer.specs.Effects.{effect, exits_with}
-use Rattle.insn_set.specs.Flow.{falls_to, jumps_to, falls, jumps, jump_target}
+use Rattle.insn_set.specs.Flow.{falls_to, jumps_to, falls, jumps, jump_target, is_number}
 use Rattle.verifier.specs.declared.pass.Pass.{Pass}
 use Rattle.verifier.specs.declared.numbered_facts.NumberedFacts.{NumberedFacts}
 use Rattle.verifier.specs.inside.Numbers.{facts_on, entry_of, at_entry, IsNumbered, IsNumberedIf, AreNumbered}
 use Rattle.verifier.proofs.Numbers.{joined_none, on_none, raised, entry_numbered}
-use Rattle.verifier.specs.Shape.{is_number, falls_into, jumps_into}
+use Rattle.verifier.specs.Shape.{falls_into, jumps_into}
 use Rattle.verifier.specs.Before.{joined, only_if, edges_into, facts_sent, facts_from_below, facts_before}
 use Rattle.verifier.specs.inside.Arriving.{brought_to, Brings, arriving_at}
-use Rattle.verifier.specs.inside.Edges.{falling_of, jumping_of, falling_from, jumping_from, reason_from}
+use Rattle.verifier.specs.inside.Edges.{falling_from, jumping_from, reason_from}
 use Rattle.verifier.specs.Verdict.{reason_of, safety_fault, IsFirstFault}
 
 -- ---- joins in a different order

@@ -8,8 +8,8 @@ use Rattle.insn_set.specs.declared.insn.Insn.TheVariants.{Ja, Jal, Jump}
 use Rattle.insn_set.specs.Program.{slot_count, begins_at}
 use Rattle.insn_set.specs.BeginLaws.{next_begins}
 use Rattle.tagged_model.specs.declared.shape.Named.{Named}
-use Rattle.insn_set.specs.Flow.{falls_to, jumps_to, falls, jumps}
-use Rattle.verifier.specs.Shape.{is_number, falls_into, jumps_into, leads_outside, leads_backward, structure_fault}
+use Rattle.insn_set.specs.Flow.{falls_to, jumps_to, falls, jumps, is_number}
+use Rattle.verifier.specs.Shape.{falls_into, jumps_into, leads_outside, leads_backward, structure_fault}
 use Rattle.verifier.specs.Verdict.{HasNoFault}
 use Rattle.verifier.specs.ShapeLaws.{each_is_fine}
 use Rattle.verifier.specs.Verified.{GoesAhead}

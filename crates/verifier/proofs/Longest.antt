@@ -7,10 +7,10 @@ use Rattle.insn_set.specs.declared.insn.Insn.{Insn}
 use Rattle.insn_set.specs.Spelling.{slots}
 use Rattle.insn_set.specs.Program.{begins_at, slot_count}
 use Rattle.insn_set.specs.BeginLaws.{begins_within, first_begins, some_slots}
-use Rattle.insn_set.specs.Flow.{falls_to, jumps_to, falls, jumps}
+use Rattle.insn_set.specs.Flow.{falls_to, jumps_to, falls, jumps, is_number}
 use Rattle.tagged_model.specs.declared.shape.Named.{Named}
 use Rattle.verifier.specs.Cost.{is_exit, IsPath, IsMostOf}
-use Rattle.verifier.specs.Shape.{is_number, falls_into, jumps_into, leads_into, reached_from, is_reachable, structure_fault}
+use Rattle.verifier.specs.Shape.{falls_into, jumps_into, leads_into, reached_from, is_reachable, structure_fault}
 use Rattle.verifier.specs.ShapeLaws.{each_is_fine}
 use Rattle.verifier.specs.Verdict.{HasNoFault}
 use Rattle.verifier.specs.inside.Longest.{total, passed_on, most_from, at_exit, most_ended}

@@ -8,7 +8,7 @@ use Rattle.interval.specs.Refine.{RangePair}
 use Rattle.insn_set.specs.declared.insn.Insn.{Insn}
 use Rattle.insn_set.specs.declared.insn.Operand.{Operand}
 use Rattle.insn_set.specs.declared.insn.Operand.TheVariants.{Imm, Reg}
-use Rattle.insn_set.specs.Flow.{jump_target}
+use Rattle.insn_set.specs.Flow.{jump_target, is_number}
 use Rattle.reg_kinds.specs.declared.kind.Kind.{Kind}
 use Rattle.reg_kinds.specs.declared.kind.Kind.TheVariants.{Scalar}
 use Rattle.reg_kinds.specs.declared.facts.Facts.{Facts}
@@ -21,13 +21,12 @@ use Rattle.reg_kinds.specs.Laws.{SlotsAbsorb}
 use Rattle.tagged_model.specs.Named.{Shapes}
 use Rattle.transfer.specs.declared.branches.Flow.{Flow}
 use Rattle.transfer.specs.declared.branches.Flow.TheVariants.{Ends, Falls, WritesSlot, Writes, Jumps, Either, Compares, Settles}
-use Rattle.transfer.specs.Branches.{with_pair}
+use Rattle.transfer.specs.Branches.{with_pair, falling_of, jumping_of}
 use Rattle.transfer.specs.Flows.{edges_of, KeepsStack}
 use Rattle.verifier.specs.Before.{joined, only_if}
-use Rattle.verifier.specs.Shape.{is_number}
 use Rattle.verifier.specs.declared.numbered_facts.NumberedFacts.{NumberedFacts}
 use Rattle.verifier.specs.inside.Arriving.{Brings, brought_to}
-use Rattle.verifier.specs.inside.Edges.{falling_of, jumping_of, falling_from, jumping_from}
+use Rattle.verifier.specs.inside.Edges.{falling_from, jumping_from}
 use Rattle.verifier.specs.inside.Numbers.{facts_on, entry_of, number_of, included_in, group_renumbered, IsInStack}
 use Rattle.verifier.specs.inside.Numbers.{IsNumberedSlot, IsJoinedBy, IsJoinedIf, IsTaken, IsSentIf, with_ranges}
 use Rattle.verifier.specs.inside.Numbers.{on_falling_edge, on_jumping_edge, writes_renumbered, IsPast, IsPastIf, IsNumbered, IsNumberedIf, AreNumbered}

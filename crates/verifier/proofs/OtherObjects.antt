@@ -9,7 +9,7 @@ use Rattle.insn_set.specs.declared.insn.Insn.{Insn}
 use Rattle.insn_set.specs.declared.profile.Reference.{Reference}
 use Rattle.insn_set.specs.declared.profile.Reference.TheVariants as names
 use Rattle.insn_set.specs.Profile.{profile}
-use Rattle.insn_set.specs.Flow.{falls_to, jumps_to, falls, jumps, written_register, descriptor_by, descriptor}
+use Rattle.insn_set.specs.Flow.{falls_to, jumps_to, falls, jumps, written_register, descriptor_by, descriptor, is_number}
 use Rattle.insn_set.specs.Program.{IsProgram, program_bytes, begins_at, slot_count}
 use Rattle.reg_kinds.specs.declared.reason.Reason.{Reason}
 use Rattle.reg_kinds.specs.declared.reason.Reason.TheVariants.{JumpOutside, JumpBackward, FallsOff, Unreachable, UnknownHelper}
@@ -23,7 +23,7 @@ use Rattle.tagged_model.specs.Named.{Shapes, target_of, shape_in, shapes_named}
 use Rattle.verifier.specs.Fits.{Fits, SameShapesAreAccepted}
 use Rattle.verifier.specs.Judgement.{Judges}
 use Rattle.verifier.specs.Maps.{maps_of, is_among, objects_at, shapes_of}
-use Rattle.verifier.specs.Shape.{leads_outside, leads_backward, is_reachable, is_number, calls_unknown, is_map, is_not_open}
+use Rattle.verifier.specs.Shape.{leads_outside, leads_backward, is_reachable, calls_unknown, is_map, is_not_open}
 use Rattle.verifier.specs.Shape.{is_not_map, lacks_direct_value, lacks_value, first_reason, shape_reason, shape_reason_at, structure_fault}
 use Rattle.verifier.specs.Verdict.{safety_fault, HasNoFault, IsAccepted}
 use Rattle.verifier.specs.Verified.{Accepted, IsVerified, shapes_in}

@@ -16,19 +16,13 @@ use Rattle.tagged_model.specs.declared.shape.Target.TheVariants as target
 use Rattle.tagged_model.specs.Named.{target_of, shapes_named}
 use Rattle.tagged_model.specs.Table.{has_direct_value}
 use Rattle.tagged_model.specs.Helpers.{helper_of}
-use Rattle.insn_set.specs.Flow.{falls_to, jumps_to, falls, jumps, written_register, descriptor}
+use Rattle.insn_set.specs.Flow.{is_number, falls_to, jumps_to, falls, jumps, written_register, descriptor}
 
 -- ---- the edges of an instruction
 
 -- an instruction begins at slot n
 abbrev pub is_first_slot : List Insn → ℕ → Bool
 is_first_slot code n = is_some (begins_at code n)
-
--- the option has a number, and it is i: the slot to which a jump leads, or the register that an
--- instruction writes. False for None: the slot would be below 0, or no register is written
-abbrev pub is_number : Option ℕ → ℕ → Bool
-is_number None i = false
-is_number (Some n) i = n == i
 
 -- the falling edge of an instruction at slot n leads to slot i
 abbrev pub falls_into : Insn → ℕ → ℕ → Bool

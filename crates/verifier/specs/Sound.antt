@@ -13,7 +13,7 @@ use Rattle.tagged_model.specs.Named.{Shapes}
 use Rattle.tagged_model.specs.Table.{Table, indexed}
 use Rattle.tagged_model.specs.State.{RunState, context_words}
 use Rattle.tagged_model.specs.Step.{Step, goes, ends, faults, act, step, MapsByDescriptor, result_of}
-use Rattle.tagged_model.specs.StateInvariant.{AreBytes}
+use Rattle.words.specs.Bytes.{AreBytes}
 use Rattle.abstraction.specs.Admits.{Witness}
 use Rattle.abstraction.specs.Laws.{Describes}
 use Rattle.transfer.specs.Branches.{Edges}

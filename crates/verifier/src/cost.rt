@@ -1,10 +1,9 @@
 //! The cost of a program: the most instructions, and the most calls, on a path from slot 0 to an exit.
 
 ghost use Rattle.std.specs.Prelude.{◌≡◌, ◌+◌, ◌<◌, ◌≤◌, ◌||◌, ◌==◌, ℕ, max, nat_lt, length, slice_index_or, Some, IfSome, if◌then◌else◌};
-ghost use Rattle.insn_set.specs.Flow.{jump_target};
+ghost use Rattle.insn_set.specs.Flow.{jump_target, is_number};
 ghost use Rattle.insn_set.specs.Profile.{profile};
 ghost use Rattle.verifier.specs.Cost.{is_helper};
-ghost use Rattle.verifier.specs.Shape.{is_number};
 ghost use Rattle.verifier.specs.inside.Longest.{no_counts, AreFew, IsAdded};
 
 use insn_codec::{Insn, MAX_SLOTS, Profile, Reference, Successors};

@@ -6,9 +6,9 @@ ghost use Rattle.reg_kinds.specs.declared.reason.Reason.TheVariants.{FramePointe
 ghost use Rattle.reg_kinds.specs.declared.reason.Reason.TheVariants.{NoDirectValue};
 ghost use Rattle.insn_set.specs.Profile.{profile};
 ghost use Rattle.insn_set.specs.Program.{slot_count};
-ghost use Rattle.insn_set.specs.Flow.{falls_to, jumps_to, falls, jumps, descriptor, descriptor_by};
+ghost use Rattle.insn_set.specs.Flow.{falls_to, jumps_to, falls, jumps, descriptor, descriptor_by, is_number};
 ghost use Rattle.verifier.specs.Cost.{IsCostOf};
-ghost use Rattle.verifier.specs.Shape.{is_reachable, is_number, names_unknown_helper, is_not_open, is_not_map, lacks_direct_value};
+ghost use Rattle.verifier.specs.Shape.{is_reachable, names_unknown_helper, is_not_open, is_not_map, lacks_direct_value};
 ghost use Rattle.verifier.specs.Shape.{leads_outside, leads_backward, first_reason, shape_reason, structure_fault};
 ghost use Rattle.verifier.specs.inside.Jumps.{JumpsLand};
 ghost use Rattle.verifier.specs.inside.Longest.{AreFew, IsAdded, IsSimple, LeadTo};

@@ -1,6 +1,11 @@
 -- Numbers and their bytes, in little-endian order (RFC 9669, section 5, on a little-endian
 -- machine).
-use Rattle.std.specs.Prelude.{ℕ, zero, suc, ◌+◌, ◌*◌, ◌/◌, ◌%◌, List, [], ◌∷◌, ◌++◌, length, take, drop}
+use Rattle.std.specs.Prelude.{ℕ, zero, suc, ◌+◌, ◌*◌, ◌/◌, ◌%◌, ◌<◌, List, [], ◌∷◌, ◌++◌, length, take, drop}
+use Rattle.std.specs.List.{All}
+
+-- each number of the list is below 256
+abbrev pub AreBytes : List ℕ → Type 0
+AreBytes bs = All (λ b. b < 256) bs
 
 -- the number that these bytes represent in little-endian order: the first byte is the lowest, and
 -- each next one counts 256 times as much. 0 for the empty list. A load reads this number

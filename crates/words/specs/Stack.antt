@@ -3,6 +3,7 @@
 -- stack's size is that of linux/filter.h (MAX_BPF_STACK), those of loads and stores are of RFC
 -- 9669, section 5.
 use Rattle.std.specs.Prelude.{ℕ, ◌+◌, ◌-◌, ◌*◌, ◌/◌, ◌%◌, ◌==◌, ℤ, pos, negsuc, ◌+ℤ◌, int_le, unsigned_abs, nat_lt, Bool, true, false, ◌&&◌}
+use Rattle.std.specs.List.{list_any, range_with_len}
 use Rattle.words.specs.declared.stack.AccessSize.{AccessSize}
 use Rattle.words.specs.declared.stack.AccessSize.TheVariants.{Byte, Half, Word, Double}
 
@@ -13,6 +14,10 @@ stack_size = 512
 -- the number of slots of the stack, of eight bytes each
 abbrev pub stack_slots : ℕ
 stack_slots = stack_size / 8
+
+-- a test holds of at least one of the numbers of the stack's slots, 0 to 63
+unfoldable pub any_slot : (ℕ → Bool) → Bool
+any_slot test = list_any test (range_with_len 0 stack_slots)
 
 -- ---- sizes of loads and stores
 

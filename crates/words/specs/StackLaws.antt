@@ -1,12 +1,53 @@
--- Laws of byte indices in the stack, of the definitions of `Stack`, proved here for the proofs of
--- the crates above. This project's own. No contract cites them, so they are not part of what has to
--- be trusted.
-use Rattle.std.proofs.Common.{◌≡◌, ℕ, ◌+◌, ◌-◌, ◌%◌, ◌≤◌, int_le, ℤ, pos, negsuc, ◌+ℤ◌, ◌≤ℤ◌, unsigned_abs, true, ap, arith}
-use Rattle.std.proofs.lemmas.Bool.{and_parts}
+-- Laws of slots and byte indices of the stack, of the definitions of `Stack`, proved here for the
+-- proofs of the crates above. This project's own. No contract cites them, so they are not part of
+-- what has to be trusted.
+use Rattle.std.proofs.Common.{◌≡◌, ℕ, ◌+◌, ◌-◌, ◌%◌, ◌<◌, ◌≤◌, int_le, ℤ, pos, negsuc, ◌+ℤ◌, ◌≤ℤ◌, unsigned_abs}
+use Rattle.std.proofs.Common.{Bool, true, false, get_or, refl, sym, subst, ap, ◌∙◌, arith}
+use Rattle.std.specs.List.{range_with_len}
+use Rattle.std.proofs.lemmas.Bool.{and_parts, false≢true}
+use Rattle.std.proofs.lemmas.List.Elements.{All-from_get_or}
+use Rattle.std.proofs.lemmas.List.Folds.{list_any_at, list_any_none}
+use Rattle.std.proofs.lemmas.List.FromFn.{length-range_with_len, get_or-range_with_len}
 use Rattle.std.proofs.lemmas.Int.{ints}
 use Rattle.words.specs.declared.stack.AccessSize.{AccessSize}
 use Rattle.words.specs.declared.stack.AccessSize.TheVariants.{Byte, Half, Word, Double}
-use Rattle.words.specs.Stack.{bytes_of, is_in_stack, byte_index}
+use Rattle.words.specs.Stack.{stack_slots, any_slot, bytes_of, is_in_stack, byte_index}
+
+-- the number at index i of the list of the slots' numbers is i
+number_at : (i : ℕ) → i < stack_slots → get_or (range_with_len 0 64) i 0 ≡ i
+number_at i lt = let same : 0 + i ≡ i = omega arith in get_or-range_with_len 0 64 i 0 lt ∙ same
+
+-- if a test holds of the number of a slot, it holds of at least one
+pub slot_passes : (test : ℕ → Bool) (i : ℕ) → i < stack_slots → test i ≡ true → any_slot test ≡ true
+unfolding any_slot
+slot_passes test i lt e =
+    list_any_at test (range_with_len 0 64) i 0
+    (subst (λ n. i < n) (sym (length-range_with_len 0 64)) lt)
+    (ap test (number_at i lt) ∙ e)
+
+-- if a test holds of no number of a slot, it holds of none of them
+pub no_slot_passes : (test : ℕ → Bool)
+    → ((i : ℕ) → i < stack_slots → test i ≡ false)
+    → any_slot test ≡ false
+unfolding any_slot
+no_slot_passes test none =
+    list_any_none test (range_with_len 0 64)
+    (All-from_get_or (λ k. test k ≡ false) (range_with_len 0 64) 0
+    (λ i lt.
+    let within : i < stack_slots = subst (λ n. i < n) (length-range_with_len 0 64) lt in
+    ap test (number_at i within) ∙ none i within))
+
+-- if a test holds of none of the numbers of slots, it fails for each
+pub each_slot_fails : (test : ℕ → Bool)
+    → any_slot test ≡ false
+    → (i : ℕ)
+    → i < stack_slots
+    → test i ≡ false
+each_slot_fails test none i lt = by_test (test i) refl
+  where
+    by_test : (b : Bool) → test i ≡ b → test i ≡ false
+    by_test false e = e
+    by_test true e = absurd (false≢true (sym none ∙ slot_passes test i lt e))
 
 -- if n bytes at an offset lie in the stack, the byte index of this offset is the offset plus 512,
 -- and the n bytes end at byte index 512 or below

@@ -1,6 +1,6 @@
 -- What the operators mean, on whole numbers below 2 ^ n (RFC 9669, sections 4.1 and 4.2). One
 -- equation for each.
-use Rattle.std.specs.Prelude.{ℕ, suc, ◌+◌, ◌-◌, ◌*◌, ◌/◌, ◌%◌, ◌^◌, ◌==◌, nat_lt, if◌then◌else◌, ℤ, pos, negsuc, ◌-ℤ◌, ◌*ℤ◌, int_div}
+use Rattle.std.specs.Prelude.{ℕ, suc, ◌+◌, ◌-◌, ◌*◌, ◌/◌, ◌%◌, ◌^◌, ◌==◌, nat_lt, if◌then◌else◌, ℤ, pos, negsuc, ◌+ℤ◌, ◌-ℤ◌, ◌*ℤ◌, int_div}
 use Rattle.std.specs.Int.{Width, int_shr, swap_bytes}
 
 -- ---- signed numbers
@@ -24,6 +24,10 @@ add n a b = (a + b) % 2 ^ n
 -- is never below 0
 abbrev pub subtract : ℕ → ℕ → ℕ → ℕ
 subtract n a b = (a + (2 ^ n - b)) % 2 ^ n
+
+-- a plus an offset, modulo 2 ^ 64
+abbrev pub plus_offset : ℕ → ℤ → ℕ
+plus_offset a off = unsigned 64 (pos a +ℤ off)
 
 -- a times b, modulo 2 ^ n
 abbrev pub multiply : ℕ → ℕ → ℕ → ℕ

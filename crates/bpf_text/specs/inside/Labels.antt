@@ -24,12 +24,6 @@ Labels = HashMap (Bor (List ℕ)) LineStart (BuildHasherDefault FoldHasher)
 abbrev pub definition_of : Labels → List ℕ → Option LineStart
 definition_of labels name = get_by (λ k. bytes_eq name k.now) labels
 
--- the first of two options if it has a value, else the second (`y`), which may be None. By it, a
--- label keeps the definition that it has, and gets a new one only if it has none
-abbrev pub or_else : {A : Type 0} → Option A → Option A → Option A
-or_else (Some x) y = Some x
-or_else None y = y
-
 -- the start of line k: the line's index, from 0, and the number of slots before it
 abbrev pub line_start : List (Option Line) → ℕ → LineStart
 line_start lines k = record { line = k; slot = slots_on (take k lines) }

@@ -1,6 +1,7 @@
 -- The token at the front of a text, in the order in which the code looks for it. It is the longest,
 -- which is proved. This project's own.
 use Rattle.std.specs.Prelude.{ℕ, ◌==◌, Bool, ◌&&◌, List, length, take, drop, slice_index, nat_eq, Option, Some, None, option_map, if◌then◌else◌, find}
+use Rattle.std.specs.Option.{option_or}
 use Rattle.std.specs.List.{starts_with, prefix_len}
 use Rattle.std.specs.Char.{is_ascii_digit}
 use Rattle.std.specs.Str.Parse.{digits_value}
@@ -45,14 +46,9 @@ number_at text =
     )
     else None)
 
--- the option x if it has a value, else the option y
-abbrev pub or_else : {A : Type 0} → Option A → Option A → Option A
-or_else (Some x) y = Some x
-or_else None y = y
-
 -- the token at the front, and the bytes after it; `None` if no token begins there. Symbols are
 -- tried first: a text that begins with `s>=` also begins with the name `s`, which is shorter.
 unfoldable pub token_at : List ℕ → Option (Token × List ℕ)
 token_at text =
-    or_else (option_map (λ s. (symbol s, drop (length s) text)) (symbol_at text))
-    (or_else (name_at text) (number_at text))
+    option_or (option_map (λ s. (symbol s, drop (length s) text)) (symbol_at text))
+    (option_or (name_at text) (number_at text))

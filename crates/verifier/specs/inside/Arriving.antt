@@ -4,7 +4,7 @@ use Rattle.std.specs.Prelude.{◌≡◌, ℕ, List, Option}
 use Rattle.reg_kinds.specs.declared.facts.Facts.{Facts}
 use Rattle.verifier.specs.declared.pass.Pass.{Pass}
 use Rattle.verifier.specs.Before.{joined, only_if}
-use Rattle.verifier.specs.Shape.{is_number}
+use Rattle.insn_set.specs.Flow.{is_number}
 use Rattle.verifier.specs.declared.numbered_facts.NumberedFacts.{NumberedFacts}
 use Rattle.verifier.specs.inside.Numbers.{facts_on, entry_of}
 

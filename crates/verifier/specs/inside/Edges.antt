@@ -1,30 +1,14 @@
 -- The facts on each single edge. This project's own.
-use Rattle.std.specs.Prelude.{◌≡◌, ℕ, Option, Some, None, Result, Ok, Err}
+use Rattle.std.specs.Prelude.{◌≡◌, ℕ, Option, Some, None}
 use Rattle.insn_set.specs.declared.insn.Insn.{Insn}
 use Rattle.reg_kinds.specs.declared.facts.Facts.{Facts}
 use Rattle.reg_kinds.specs.declared.reason.Reason.{Reason}
 use Rattle.tagged_model.specs.Cells.{and_then}
 use Rattle.tagged_model.specs.Named.{Shapes}
-use Rattle.transfer.specs.Branches.{Edges}
+use Rattle.transfer.specs.Branches.{falling_of, jumping_of}
 use Rattle.transfer.specs.Effects.{effect}
 use Rattle.verifier.specs.declared.fault.VerifyFault.{VerifyFault}
 use Rattle.verifier.specs.Verdict.{reason_of}
-
--- the facts on the falling edge out of an instruction, which leads to the next one, from the result
--- of the transfer function (`effect`). None if that is a reason for which the instruction may not
--- be run (Err). If it may be run (Ok), None for an exit and an unconditional jump, which have no
--- falling edge, and for a conditional jump that is always taken if the facts before it hold
-abbrev pub falling_of : Result Edges Reason → Option Facts
-falling_of (Err reason) = None
-falling_of (Ok edges) = edges.falling
-
--- the facts on the jumping edge out of an instruction, which leads to the target of a jump. The
--- argument is the result of the transfer function (`effect`). None if that is the reason why the
--- instruction may not be run (Err), if the instruction is no jump, or if the jump is never taken,
--- as a comparison that never holds
-abbrev pub jumping_of : Result Edges Reason → Option Facts
-jumping_of (Err reason) = None
-jumping_of (Ok edges) = edges.jumping
 
 -- the facts on the falling edge out of the instruction at slot n, from those before it (`known`);
 -- None if there are none before it, the instruction may not be run, or this edge is never taken

@@ -7,11 +7,11 @@ use Rattle.insn_set.specs.declared.profile.Profile.{Profile}
 use Rattle.insn_set.specs.declared.profile.Reference.TheVariants.{Nothing}
 use Rattle.insn_set.specs.declared.profile.Successors.TheVariants.{Next}
 use Rattle.insn_set.specs.Program.{begins_at, most_slots}
-use Rattle.insn_set.specs.Flow.{falls_to}
+use Rattle.insn_set.specs.Flow.{falls_to, is_number}
 use Rattle.verifier.specs.declared.cost.Counts.{Counts}
 use Rattle.verifier.specs.declared.cost.Paths.{Paths}
 use Rattle.verifier.specs.Cost.{is_exit, is_call}
-use Rattle.verifier.specs.Shape.{is_number, leads_into, is_reachable}
+use Rattle.verifier.specs.Shape.{leads_into, is_reachable}
 
 -- ---- what an instruction adds to the measure of a path
 

@@ -5,7 +5,8 @@ use Rattle.std.proofs.Common.{◌≡◌, ◌≢◌, ℕ, ◌+◌, ◌≤◌, is_
 use Rattle.std.specs.Prelude.{is_none, position}
 use Rattle.bpf_maps.specs.Sum.{total}
 use Rattle.bpf_maps.specs.KeyTable.{KeyTable}
-use Rattle.bpf_maps.specs.Live.{live_at, references_at, area_of, area_by, areas, create_fault, IsCreated}
+use Rattle.bpf_maps.specs.Live.{live_at, references_at, area_of, areas, create_fault, IsCreated}
+use Rattle.tagged_model.specs.Table.{shape_area}
 use Rattle.bpf_maps.specs.LiveLaws.{same_free_handle}
 use Rattle.bpf_maps.proofs.Slots.{same_or_other}
 use Rattle.bpf_maps.proofs.Created.{created, maps_refused, same_fault}
@@ -22,9 +23,9 @@ returns-in-Ok-clause-room c =
     let made : IsCreated old c.args.shape map mid =
     created (create_fault old c.args.shape) old mid c.args.shape map c.in-Ok.ensures.created in
     let last : references_at mid map ≤ 1 = let one = made.holds in omega arith in
-    let more : areas mid ≡ areas old + area_by c.args.shape = c.in-Ok.ensures.more in
-    let freed : areas mid ≡ areas new + area_by c.args.shape =
-    c.release.ensures.freed last ∙ ap (λ (t : KeyTable). areas new + area_by t.shape) made.keys in
+    let more : areas mid ≡ areas old + shape_area c.args.shape = c.in-Ok.ensures.more in
+    let freed : areas mid ≡ areas new + shape_area c.args.shape =
+    c.release.ensures.freed last ∙ ap (λ (t : KeyTable). areas new + shape_area t.shape) made.keys in
     let bytes : areas new ≡ areas old = omega arith in
     same_fault old new other
     (same_free_handle old new (c.maps_are_laid-in-Ok.ensures.maps ∙ sym c.maps_are_laid.ensures.maps)

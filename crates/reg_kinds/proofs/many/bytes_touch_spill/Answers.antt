@@ -1,8 +1,9 @@
--- `bytes_touch_spill`: a touched spill that the loop finds is one of all slots (`one_below`). If it finds none, there is none, since a slot
+-- `bytes_touch_spill`: a touched spill that the loop finds is one of all slots (`slot_passes`). If it finds none, there is none, since a slot
 -- that it leaves out ends before the bytes or begins after them (`spill_apart`).
 use Rattle.std.proofs.Common.{sym, inl, inr, ⊎_elim, arith, below_more}
 use Rattle.std.proofs.lemmas.Bool.{cases_lt}
-use Rattle.reg_kinds.proofs.SlotTests.{none_below, one_below, spill_apart}
+use Rattle.reg_kinds.proofs.SlotTests.{spill_apart}
+use Rattle.words.specs.StackLaws.{slot_passes, no_slot_passes}
 use Rattle.reg_kinds.proofs.many.bytes_touch_spill.Goals as goal
 
 pub loop-index-init : goal.loop-index-init
@@ -12,11 +13,11 @@ pub loop-index-preserved : goal.loop-index-preserved
 loop-index-preserved c = below_more _ _ c.loop-index.invariant (cc)
 
 pub returns-then-is_touched_spill : goal.returns-then-is_touched_spill
-returns-then-is_touched_spill c = sym (one_below _ c.loop-index.index _ (omega arith) (cc))
+returns-then-is_touched_spill c = sym (slot_passes _ c.loop-index.index (omega arith) (cc))
 
 pub returns : goal.returns
 returns c =
-    sym (none_below 64 _ (λ i lt.
+    sym (no_slot_passes _ (λ i lt.
     ⊎_elim
     (λ below. c.loop-index.invariant i below)
     (λ past.

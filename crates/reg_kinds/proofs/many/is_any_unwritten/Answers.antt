@@ -1,8 +1,9 @@
--- `is_any_unwritten`: a slot that the loop finds, in which one of the bytes may be unwritten, is one of all slots (`one_below`). If it
+-- `is_any_unwritten`: a slot that the loop finds, in which one of the bytes may be unwritten, is one of all slots (`slot_passes`). If it
 -- finds none, there is none, since a slot that it leaves out has none of the bytes (`lacks_apart`).
 use Rattle.std.proofs.Common.{sym, inl, inr, ⊎_elim, arith, below_more}
 use Rattle.std.proofs.lemmas.Bool.{cases_lt}
-use Rattle.reg_kinds.proofs.SlotTests.{none_below, one_below, lacks_apart}
+use Rattle.reg_kinds.proofs.SlotTests.{lacks_apart}
+use Rattle.words.specs.StackLaws.{slot_passes, no_slot_passes}
 use Rattle.reg_kinds.proofs.many.is_any_unwritten.Goals as goal
 
 pub loop-index-init : goal.loop-index-init
@@ -12,11 +13,11 @@ pub loop-index-preserved : goal.loop-index-preserved
 loop-index-preserved c = below_more _ _ c.loop-index.invariant (cc)
 
 pub returns-then-lacks : goal.returns-then-lacks
-returns-then-lacks c = sym (one_below _ c.loop-index.index _ (omega arith) (cc))
+returns-then-lacks c = sym (slot_passes _ c.loop-index.index (omega arith) (cc))
 
 pub returns : goal.returns
 returns c =
-    sym (none_below 64 _ (λ i lt.
+    sym (no_slot_passes _ (λ i lt.
     ⊎_elim
     (λ below. c.loop-index.invariant i below)
     (λ past.

@@ -5,8 +5,8 @@ use Rattle.insn_set.specs.Program.{slot_count}
 use Rattle.reg_kinds.specs.declared.reason.Reason.{Reason}
 use Rattle.reg_kinds.specs.declared.reason.Reason.TheVariants.{JumpOutside, JumpBackward, FallsOff, Unreachable, UnknownHelper}
 use Rattle.reg_kinds.specs.declared.reason.Reason.TheVariants.{FramePointerWritten, DescriptorNotOpen, DescriptorNotMap, NoDirectValue}
-use Rattle.insn_set.specs.Flow.{falls_to, jumps_to, falls, jumps, written_register, descriptor}
-use Rattle.verifier.specs.Shape.{is_reachable, is_number, calls_unknown, is_not_open, is_not_map, lacks_value, leads_outside, leads_backward}
+use Rattle.insn_set.specs.Flow.{falls_to, jumps_to, falls, jumps, written_register, descriptor, is_number}
+use Rattle.verifier.specs.Shape.{is_reachable, calls_unknown, is_not_open, is_not_map, lacks_value, leads_outside, leads_backward}
 use Rattle.verifier.proofs.Reached.{seen_early}
 use Rattle.verifier.proofs.shape.shape_fault_of.Goals as goal
 

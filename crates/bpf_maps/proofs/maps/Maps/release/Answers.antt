@@ -3,7 +3,8 @@
 -- `Released`). In each case the condition of the clauses for the other case is false.
 use Rattle.std.proofs.Common.{◌≡◌, ◌+◌, ◌-◌, ◌<◌, ◌≤◌, ◌++◌, take, drop, refl, ap, is_some, option_map, ◌∙◌, arith, append_assoc}
 use Rattle.bpf_maps.specs.declared.part.TheConstants.{STACK_AND_CONTEXT}
-use Rattle.bpf_maps.specs.Live.{references_at, without_area, area_by, area_of}
+use Rattle.bpf_maps.specs.Live.{references_at, without_area, area_of}
+use Rattle.tagged_model.specs.Table.{shape_area}
 use Rattle.bpf_maps.specs.InMaps.{live_of}
 use Rattle.bpf_maps.specs.declared.stored_map.StoredMap.{StoredMap}
 use Rattle.bpf_maps.proofs.ByHandle.{has_key}
@@ -103,7 +104,7 @@ module _ (c : After-area-size) where
   }
 
   size : c.area-size.result ≡ area_of (live_of c.remove-gone.result)
-  size = c.area-size.ensures.value ∙ ap area_by c.shape.ensures
+  size = c.area-size.ensures.value ∙ ap shape_area c.shape.ensures
 
   ends : c.remove-gone.result.start + c.area-size.result ≤ STACK_AND_CONTEXT + c.self.inside.bytes
   ends = let within = gone_within taken in let s = size in omega arith

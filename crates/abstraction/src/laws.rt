@@ -27,8 +27,9 @@ pub fn stack_write_admits()
     ensures { StackWriteAdmits }
 {}
 
-/// A law: if facts admit a state in range (`IsInRange`) and allow a helper to read bytes of the stack (`stack_input`), in one stack slot or
-/// in several, these bytes lie in the stack, and each is a number from 0 to 255 in the state. So the helper's read is no fault.
+/// A law: if facts admit a state in range (`IsInRange`: its bytes are below 256, its context words below 2^32) and allow a helper to read n
+/// bytes at an offset of the stack (`stack_input` is `Ok`), in one stack slot or in several, these n bytes lie in the stack, and each is a
+/// number from 0 to 255 in the state. So the helper's read is no fault.
 pub fn stack_input_admits()
     ensures { StackInputAdmits }
 {}
@@ -49,9 +50,10 @@ pub fn value_read_is_no_fault()
 {}
 
 /// A law, for the helper that writes into a buffer (26, a load of packet bytes). Take a state in range (`IsInRange`: its bytes are below
-/// 256) that has a map for each descriptor with a shape (`HasMaps`). A write of bytes within one value of a map, also of a deleted key, is
-/// no fault, and leads to a state of this kind at the same slot. Facts that admit the state before the write also admit the state after it,
-/// since facts know nothing of the bytes of values.
+/// 256, its context words below 2^32) that has, at each descriptor of which a shape is given, a map of this shape (`HasMaps`). A write of
+/// bytes within one value of a map, which may be that of a deleted key, is no fault in this state. The state after the write is in range
+/// too, has maps of these shapes too, and is at the same slot. Facts that admit the state before the write also admit the state after it,
+/// by the same witness, since facts know nothing of the bytes of values.
 pub fn object_write_admits()
     ensures { ObjectWriteAdmits }
 {}
@@ -63,18 +65,19 @@ pub fn value_load_admits()
     ensures { ValueLoadAdmits }
 {}
 
-/// A law: if all bytes of a store lie in one value of a map, which may be that of a deleted key, and a number is stored, the store is no
-/// fault. Facts that describe the state before the store by a witness (`Describes`: they admit it, its numbers are in range, and its maps
-/// have their shapes) also describe the state after it, by the same witness. The slot of the next instruction (`at`) is unchanged.
+/// A law, for the soundness of stores to a value of a map. If all bytes of the store lie in one value, which may be that of a deleted key,
+/// and a number is stored, the store is no fault. Facts that describe the state before the store by a witness (`Describes`: they admit it,
+/// its numbers are in range, and its maps have their shapes) also describe the state after it, by the same witness: facts know nothing of
+/// the bytes of values. The store does not change `at`, which in a state is the slot of the next instruction.
 pub fn value_store_admits()
     ensures { ValueStoreAdmits }
 {}
 
-/// A law, for the soundness of calls and of accesses to values. If all bytes of a map's objects are below 256, an update with such a value
-/// of the map's size (`updated`), and a delete (`removed`), keep the map's shape, do not lower its count, and keep these bytes below 256.
-/// The count is the number of objects (values) that the map has had, those of deleted keys included. The object that a look-up finds has a
-/// number below the count (`owned`). So has the object of the direct value: this is the one value of an array with one entry, whose address
-/// an instruction loads without a call (`direct`).
+/// A law, for the soundness of calls and of accesses to values. The objects of a map are its values, also those of deleted keys, and its
+/// count is the number of objects that it has had. Let all bytes of the objects be below 256. A delete (`removed`), and an update
+/// (`updated`) with a value of the map's value size, whose bytes are below 256 too, then keep the map's shape, do not lower its count, and
+/// leave all bytes of the objects below 256. The object that a look-up finds has a number below the count (`owned`). So has that of the
+/// direct value (`direct`): the one value of an array with one entry, whose address an instruction loads without a call.
 pub fn map_calls_keep()
     ensures { MapCallsKeep }
 {}
@@ -104,8 +107,10 @@ pub fn site_admits()
     ensures { SiteAdmits }
 {}
 
-/// A law of null tests. Let facts admit a state by a witness. If the look-up at a site gave null in this witness, the facts with the site
-/// settled as null admit the state too. If the look-up did not give null, the facts with the site settled as a value do.
+/// A law of null tests, which the proof that the transfer function is sound needs for conditional jumps. Let facts admit a state by a
+/// witness. If the look-up at a site gave null in this witness, the state is also admitted by the facts in which the copies of its result
+/// are settled as null (`null`): a register has the number 0, and a stack slot has written bytes. If the look-up did not give null, the
+/// state is also admitted by the facts in which the copies are settled as pointers to the start of a value (`value`).
 pub fn null_test_admits()
     ensures { NullTestAdmits }
 {}

@@ -11,6 +11,7 @@ use crate::laws;
 use crate::memory::Arena;
 use crate::trace::Trace;
 
+/// A test that the contracts of `Arena` and laws suffice to prove what a store in a tenant's part changes; the function is never called.
 /// Stores `value` as eight bytes, the lowest first, at offset `at` of a tenant's part: only these bytes of that part change, and no other
 /// part changes (`IsWrittenAt`). The store is never `None`, since the arena has the tenant's part (`tenant`), and the eight bytes lie in it
 /// (`room`). The contract states nothing of `trace`, which gets their address range.
@@ -27,7 +28,8 @@ fn store_within(arena: &mut Arena, tenant: usize, at: usize, value: u64, trace: 
 
 /// Copies eight bytes from offset `from` to offset `to` of a tenant's part; the two ranges may overlap. At `to` the part then has the bytes
 /// that were at `from` before the call, and neither the rest of the part nor another part changes (`IsWrittenAt`). The copy is never
-/// `None`, since both ranges are in the part (`to`, `from`).
+/// `None`, since both ranges are in the part (`to`, `from`). The contract states nothing of `trace`, which gets both ranges. Nothing calls
+/// this function: its proof shows that the public contracts and laws of the arena suffice to know what a copy changes.
 fn copy_within(arena: &mut Arena, tenant: usize, to: usize, from: usize, trace: &mut Trace)
     requires tenant { tenant < arena.old.parts }
     requires to { to + 8 ≤ arena.old.part }

@@ -36,8 +36,9 @@ fn copy_piece<const N: usize>(to: &mut [u8], offset: usize, bytes: &[u8])
     to[offset..offset + N].copy_from_slice(&piece);
 }
 
-/// Copies `bytes` to `offset` of `to` in two pieces of `N` bytes: the first `N` and the last `N` of `bytes`. As `bytes` has `N` to 2 `N`
-/// bytes, the pieces cover all of them, and may overlap.
+/// Copies `bytes` to `offset` of `to`, which has room for them there (`room`), in two pieces of `N` bytes: the first `N` and the last `N`
+/// of `bytes`. As `bytes` has `N` (`least`) to 2 `N` bytes (`most`), the pieces cover all of them, and may overlap. As `N` is a constant,
+/// each piece is a few loads and stores, so a short copy needs no call of memcpy.
 #[inline(always)]
 fn copy_by_ends<const N: usize>(to: &mut [u8], offset: usize, bytes: &[u8])
     requires least { N ≤ length bytes.now }
@@ -60,8 +61,11 @@ fn copy_many(to: &mut [u8], offset: usize, bytes: &[u8])
     to[offset..offset + bytes.len()].copy_from_slice(bytes);
 }
 
-/// Copies `bytes` to the offset `offset` of `to`, which has room for them there: up to 64 bytes by pieces of a fixed length, more by a call
-/// (`copy_many`). An empty slice has no arm: nothing is copied. `copy_bytes` of `numbers.rt` copies within one slice instead.
+/// Copies `bytes` to the offset `offset` of `to`, which has room for them there; the other bytes of `to` are unchanged (`written_at`). 2 to
+/// 64 bytes are copied as two pieces of a constant length: the first N and the last N bytes, which may overlap (`copy_by_ends`); N is 2, 4,
+/// 8, 16 or 32. So the machine code has a few loads and stores, and no call of memcpy. A single byte is one piece (`copy_piece`). More than
+/// 64 bytes take a call (`copy_many`), and for an empty slice nothing is done. The function `copy_bytes` of `numbers.rt` copies within one
+/// slice.
 #[inline(always)]
 pub(crate) fn copy_bytes(to: &mut [u8], offset: usize, bytes: &[u8])
     requires { offset + length bytes.now ≤ length to.old }

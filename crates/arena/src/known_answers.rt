@@ -4,8 +4,9 @@ use crate::memory::{Arena, BASE};
 use crate::trace::Trace;
 use std::alloc::{AllocError, Global};
 
-/// In an arena of two parts of 16 bytes, a number that is stored in the last eight bytes is loaded from there unchanged. Loads of four, two
-/// and one of these bytes show that the order is little-endian. `AllocError`: memory for the arena is refused.
+/// In an arena of two parts of 16 bytes, which begins at the address `BASE`, a number that is stored in the last eight bytes is loaded from
+/// there unchanged. Loads of four, two and one of these bytes show that the order is little-endian. The first two arguments of `store` and
+/// `load` are an address and a number of bytes. `Some`: all these bytes lie in the arena. `AllocError`: memory for the arena is refused.
 fn number_stored_and_loaded(alloc: Global) -> Result<(), AllocError> {
     let mut arena = Arena::new(alloc, 2, 16)?;
     let mut trace = Trace::new();
@@ -40,9 +41,10 @@ fn number_stored_and_loaded_inside(alloc: Global) -> Result<(), AllocError> {
     Ok(())
 }
 
-/// An arena of two parts of 16 bytes begins at the address `BASE`. If the eight bytes from `address` on do not all lie in the arena, a load
-/// of them, a store of the number 1 in them, and a copy to them from the bytes at `BASE`, or back, give `None`. For any other `address`
-/// the function returns before these calls. `AllocError`: memory for the arena is refused.
+/// A known result, which follows from the contracts of `Arena` for each `address`; nothing calls the function. An arena of two parts of 16
+/// bytes begins at the address `BASE`. If the eight bytes from `address` on do not all lie in it, a load of them, a store of the number 1
+/// in them, and a copy of eight bytes to them from `BASE`, or back, are rejected (`None`). If they lie in it, the function returns before
+/// these calls. `AllocError`: memory for the arena is refused.
 fn accesses_outside(alloc: Global, address: u64) -> Result<(), AllocError> {
     let mut arena = Arena::new(alloc, 2, 16)?;
     let mut trace = Trace::new();

@@ -7,24 +7,26 @@ pub fn writes_stay_inside()
     ensures { WritesStayInside }
 {}
 
-/// If all bytes of a part are replaced, as by a caller that writes to the slice of `part_mut`, the part has the new bytes, and every other
-/// part and the size of the memory are unchanged.
+/// A law: if all bytes of a part are replaced by as many others, as by a caller that writes to the slice of `part_mut`, the part has the
+/// new bytes, and every other part and the size of the arena are unchanged. So a command that gets its tenant's part for writing changes no
+/// part of another tenant (`reply_to_command` of `saving`).
 pub fn parts_are_apart()
     ensures { PartsAreApart }
 {}
 
-/// A write of bytes within one part is the same write in the memory and in the bytes of the part. If bytes are written into the memory, at
-/// the start of the part plus an offset, the part's bytes change only at this offset, to the new bytes (`bytes`), and the size of the
-/// memory is unchanged (`size`). If they are written at this offset through the lent part (`part_mut`) instead, the memory is the same
-/// afterwards (`memory`).
+/// A law about a write of bytes that all lie in one part. If they are written into the memory, the part's bytes change only at the offset
+/// of the write in the part, to the new bytes (field `bytes` of `WritesAreInParts`), and the size of the memory is unchanged (`size`). If
+/// they are written at this offset of the slice that `part_mut` lends, the memory is afterwards the same as after the write into the memory
+/// (`memory`). So a function that writes to this slice, as `write_zeros` of `bpf_helpers`, is proved to write into the memory.
 pub fn writes_are_in_parts()
     ensures { WritesAreInParts }
 {}
 
-/// A law: an access at addresses within one part is one in the bytes of this part, and never `None`. A load returns the number that the
-/// loaded bytes of the part make, little-endian. A store writes the low bytes of its number, and a copy from one range of the part to
-/// another writes the copied bytes; nothing else in the part changes, and no other part. The callers in `contract_clients.rt` need this:
-/// with it, public contracts suffice to prove what an access does to a tenant's part.
+/// A law: if all bytes that an access names by its addresses lie in one part, the access is never `None`, and reads or changes only bytes
+/// of this part. A load returns the number that the loaded bytes make, little-endian. A store of n bytes writes the low n bytes of its
+/// number, and a copy writes the bytes of its source range, which lies in the same part. Nothing else in the part changes, and no other
+/// part. With this law, callers can prove from public contracts what an access does to a tenant's part; those in `contract_clients.rt`,
+/// which nothing calls, show that.
 pub fn accesses_are_in_parts()
     ensures { AccessesAreInParts }
 {}

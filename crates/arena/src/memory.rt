@@ -71,9 +71,9 @@ fn offset(memory_size: usize, size: usize, address: u64) -> Option<usize>
 impl Arena {
     ghost use Rattle.arena.specs.Lending.{LendsPart};
 
-    /// Creates an arena of `parts` parts of `part_size` zero bytes each; both are at least 1. `size` bounds the bytes, so that no address
-    /// of a run wraps, and the low 32 bits of an address are its offset in the memory, which begins at the address `BASE`. The bound is a
-    /// round number above what a host of the most tenants needs.
+    /// Creates an arena of `parts` parts of `part_size` zero bytes each; both are at least 1. By `size` it has at most 2^28 bytes. So the
+    /// addresses of its bytes do not wrap, and the low 32 bits of an address are its offset in the memory, whose first address is 2^32
+    /// (`BASE`). The bound is a round number above what a host of the most tenants needs. By `zero` all bytes are 0.
     ///
     /// # Errors
     ///
@@ -95,7 +95,8 @@ impl Arena {
 
     /// Returns the memory and leaves an empty one without parts in `self`; the caller puts the memory back. A run works on the memory in a
     /// variable of its own, so that its address stays in a machine register: from the variable that the host lends, LLVM would read the
-    /// address again at each load and store. To lend the memory to a call that is not inlined, the run moves it into another variable.
+    /// address again at each load and store. It would do so too if the run lent its own variable to a call that is not inlined. So for such
+    /// a call the run takes the memory from its variable into another one, and lends that.
     #[inline(always)]
     pub fn take(&mut self) -> Arena
         ensures taken { result ≡ self.old }
@@ -130,8 +131,9 @@ impl Arena {
         tenant * self.part_size
     }
 
-    /// The first address of the part of `tenant`, which is the number of a part: tenants are numbered from 0. By `room` the whole part lies
-    /// in the memory, so a proof knows from this call that the address of a byte of the part is an address of the memory.
+    /// The first address of the part of `tenant`: the first address of the memory (`base`) plus the offset of the part (`part_start`). The
+    /// parts have the numbers of the tenants, from 0; `self.now.parts` is how many they are, and `self.now.part` the size of each in bytes.
+    /// By `room` the whole part lies in the memory, so a proof knows from this call that each address in the part is one of the memory.
     pub fn address(&self, tenant: usize) -> u64
         requires { tenant < self.now.parts }
         ensures value { result ≡ base + part_start self.now tenant }
@@ -166,9 +168,10 @@ impl Arena {
         Some(read(&self.bytes, at, size))
     }
 
-    /// Stores the low `size` bytes (1, 2, 4 or 8) of `value` at `address`, little-endian. `None`, and no byte changes, exactly if the
-    /// `size` bytes at `address` don't all lie in the memory, in which they then have no offset (`offset_of` is `None`). In both cases the
-    /// trace gets the range, the address with the size, and no step.
+    /// Stores the low `size` bytes (1, 2, 4 or 8) of `value` at `address`, little-endian (`bytes`). `None`, and no byte changes, exactly if
+    /// the `size` bytes at `address` don't all lie in the memory (`found`), in which they then have no offset (`offset_of` is `None`). In
+    /// both cases the trace gets the range, the address with the size (`ranges`), and no step (`steps`). Only tests call this function: a
+    /// run's stores are known to lie in the memory, so they use `store_inside`, which does not test the address.
     #[inline(always)]
     pub fn store(&mut self, address: u64, size: usize, value: u64, trace: &mut Trace) -> Option<()>
         requires { IsSize size }

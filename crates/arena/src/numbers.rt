@@ -85,9 +85,9 @@ fn low_byte(value: u64) -> [u8; 1]
 
 /// Writes the low `size` bytes of `value`, little-endian, over the bytes at offset `at` of `bytes`. `size` is 1, 2, 4 or 8 (`IsSize`), and
 /// all of these bytes are in `bytes` (`within`). Each size has its own conversion, for speed. If all sizes converted eight bytes and wrote
-/// the first `size` of them, the machine code would also store the eight on the machine's stack. And an eBPF program's stores of a constant
-/// and its stores of a register would be followed by one shared jump to the next opcode, so that the processor could not predict the jump
-/// after each of these two instructions from a history of its own (`dispatch.rt` of `flat_machine`).
+/// the first `size` of them, the machine code would also store the eight on the machine's stack. And the loop of a run (`dispatch.rt` of
+/// `flat_machine`) would have one shared jump to the next opcode, after an eBPF store of a constant and after one of a register. The
+/// processor predicts a jump from the history of this jump: with a jump for each of the two instructions, each has a history of its own.
 #[inline(always)]
 pub(crate) fn write(bytes: &mut [u8], at: usize, size: usize, value: u64)
     requires size { IsSize size }

@@ -17,8 +17,9 @@ use tagged_model::MapFault;
 /// map among those that are bound to the run, and `key` the address of the key. `caller` has the run's tenant and, in `bind`, the handles
 /// of these maps. With an error nothing changes, and the result is the error's number, negated, as a word: ENOENT if the map doesn't have
 /// the key; EINVAL if the map is an array, if there is no such map, or if the key's bytes don't lie in the tenant's part (`deleted`). In
-/// the contract, `call_of` is the inputs of the call as one record. The trace gets only ranges in the part, and no step (`asks`). The
-/// tenant has a part in the arena (`part`), and the bound maps are live (`live`).
+/// the contract, `call_of` is the inputs of the call as one record, and `key_named` the map's handle with the key's bytes, `None` if there
+/// is no such map or the bytes lie outside the part. The trace gets only ranges in the part, and no step (`asks`). The tenant has a part in
+/// the arena (`part`), and the bound maps are live (`live`).
 pub(crate) fn delete(
     map: u64,
     key: u64,

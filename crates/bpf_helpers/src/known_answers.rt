@@ -4,9 +4,9 @@ use crate::output::OUTSIDE;
 use crate::update::fault_word;
 use tagged_model::MapFault;
 
-/// What a helper returns for an error is the error's number in errno(3), negated, modulo 2^64. `fault_word` gives it for a fault of a map: for
-/// ENOENT (2), E2BIG (7), ENOMEM (12), EEXIST (17), EINVAL (22) and ENOSPC (28), in this order. `OUTSIDE`, for bytes outside the packet, is
-/// that of EFAULT (14).
+/// A known result, which no code calls: the prover shows that what a helper returns for an error is the error's number in errno(3),
+/// negated, modulo 2^64. `fault_word` gives it for each fault of a map: ENOENT (2), E2BIG (7), ENOMEM (12), EEXIST (17), EINVAL (22) and
+/// ENOSPC (28), in this order. `OUTSIDE`, which a load of bytes outside the packet returns, is that of EFAULT (14).
 fn faults_as_words() {
     let no_entry = fault_word(MapFault::NoEntry);
     prove!(no_entry == 0xffff_ffff_ffff_fffe);

@@ -25,31 +25,32 @@ pub fn loads_give_words()
     ensures { LoadsGiveWords }
 {}
 
-/// A law. Suppose that words and bytes represent a state (`Simulates`), in a part of the size for runs, and that the tagged machine stores
-/// a value in this state. Then the bytes at the address of the store lie in the tenant's part. Once the low bytes of the word that
-/// represents the value are written there, words and bytes represent the state after the store. So a run stores without a bounds check. The
-/// proof needs the law that the body calls.
+/// A law. Suppose that words and bytes represent a state (`Simulates`), in a part of `PART` bytes of an arena of at most 2^28 bytes
+/// (`IsRoom`), and that the tagged machine stores a value in this state. Then the bytes at the address of the store, as many as its size,
+/// lie in the tenant's part. Once that many low bytes of the word that represents the value are written there, words and bytes represent
+/// the state after the store. If the value is a pointer or a map, its word has to be less than 2^64 (`PointerFits`). So a run stores
+/// without a bounds check. The proof needs the law that the body calls.
 pub fn stores_keep_simulation()
     ensures { StoresKeepSimulation }
 {
     arena::laws::writes_stay_inside();
 }
 
-/// If words and bytes represent a state (`Simulates`), and the tagged machine's call of a helper in this state is no fault, the words of
-/// registers 1 to 5 name all that the helper needs (`NamesAll`): a map that is bound to the run and bytes of the tenant's part for a key,
-/// for an update also bytes for a value; or, for a load of packet bytes, the bytes of the part to which it writes. By `IsRoom` each part
-/// has `PART` bytes, and all together have so few that no address wraps. So the calls of an accepted program need no test of these words.
-/// The body calls a law that the proof needs.
+/// A law. Suppose that words and bytes represent a state (`Simulates`), that the part has `PART` bytes and the arena at most 2^28, so that
+/// no address wraps (`IsRoom`), and that the tagged machine's call of a helper in this state is no fault. Then the words of registers 1 to
+/// 5 name all that the helper needs (`NamesAll`): a map that is bound to the run and bytes of the tenant's part for a key, for an update
+/// also bytes for a value; or, for a load of packet bytes, the bytes of the part to which it writes. So the calls of an accepted program
+/// need no test of these words. The proof needs the law that the body calls: bytes written in one part change no other part.
 pub fn calls_name_all()
     ensures { CallsNameAll }
 {
     arena::laws::writes_stay_inside();
 }
 
-/// If words and bytes represent a state (`Simulates`), in a part of `PART` bytes of an arena of at most 2^28 bytes (`IsRoom`), the address
-/// of each object (the stack, the context or a value of a map) is at least 2^32, and at most 2^32 + 2^28. So it is neither near null nor
-/// near 2^64: the word of a pointer, at most `farthest_offset` bytes from this address, is never 0 and does not wrap. The proof that a step
-/// of `flat_machine` simulates one of the tagged machine needs this.
+/// A law. If words and bytes represent a state (`Simulates`), in a part of `PART` bytes of an arena of at most 2^28 bytes (`IsRoom`), the
+/// address of each object (the stack, the context or a value of a map) is at least 2^32, the first address of the arena, and at most 2^32 +
+/// 2^28. So it is neither near null nor near 2^64. A pointer is at most 2^29 bytes from this address (`farthest_offset`), so its word is
+/// never 0 and does not wrap. The proof that a step of `flat_machine` simulates one of the tagged machine needs this.
 pub fn object_addresses_are_bounded()
     ensures { ObjectAddressesAreBounded }
 {}
@@ -61,10 +62,11 @@ pub(crate) fn returns_keep_simulation()
     ensures { ReturnsKeepSimulation }
 {}
 
-/// A law: at the start of a run, words, bytes and live maps represent the state in which the tagged machine starts, with the keys and
-/// values that the bound maps have. This requires that the part has the size for runs (`IsRoom`) and the run's context (`HasContext`), that
-/// registers 1 and 10 have the address at which the stack ends and the context begins (`AreFirst`), and that each bound map is live and
-/// keeps no element apart (`AreReady`).
+/// A law for the start of a run, which the proofs of runs and batches of `flat_machine` need: words, bytes and live maps represent the
+/// state in which the tagged machine starts (`Simulates`), with the keys and values that the bound maps have. This requires that the part
+/// has the size for runs (`IsRoom`) and the run's context (`HasContext`), and that registers 1 and 10 have the address at which the stack
+/// ends and the context begins (`AreFirst`). It also requires that each bound map is live and keeps no element apart, that no map is bound
+/// twice, and that the values of live maps do not overlap (`AreReady`).
 pub fn runs_begin()
     ensures { RunsBegin }
 {}

@@ -30,9 +30,10 @@ pub(crate) fn bound(bind: &[MapKey], word: u64) -> Option<MapKey>
     Some(bind[index as usize])
 }
 
-/// The handle that `word` names, the map argument of a helper's call: `bind` has the handles of the run's maps, and 1 names the first of
-/// them. By `named`, `word` names one of them, so unlike `bound` this function has no test. By `listed` the result is an item of `bind`, so
-/// its map is live if the maps of all items are.
+/// The handle of the map that `word` names; a helper's call has this word as its map argument. `bind` has the handles of the run's maps,
+/// and the word 1 names the first of them. By `named` the word names one of these maps, as it does in each call of an accepted program; so,
+/// unlike `bound`, this function does not test it. By `listed` the result is an item of `bind`, so its map is live if the maps of all items
+/// are.
 #[inline(always)]
 pub(crate) fn bound_named(bind: &[MapKey], word: u64) -> MapKey
     requires named { IsSome (bound_map bind.now word) }
@@ -62,9 +63,11 @@ pub(crate) fn offset_in(arena: &Arena, tenant: usize, size: usize, address: u64)
     Some(at as usize)
 }
 
-/// The offset, in the part of `tenant`, of the `size` bytes at `address`; `None` if they don't all lie in the part. A helper calls this for
-/// the bytes of a key or a value, which are never more than a part (`size`). Their range is appended to `trace`; for `None` nothing is. So
-/// each appended range lies in the part, and no step is counted (`asks`). The bytes from the returned offset on lie in the part (`within`).
+/// The offset, in the part of `tenant`, of the `size` bytes at `address`; `None` if they don't all lie in the part. By `value` the result
+/// is that of the definition `named_offset`. The tenant has a part, of `PART` bytes (`part`). A helper calls this for the bytes of a key or
+/// a value, whose `size` is never more than `PART`. If they lie in the part, their range is appended to `trace`; else nothing is. So each
+/// range that this call appends lies in the part. It counts no step (`asks`). The `size` bytes from the returned offset on lie in the part
+/// (`within`).
 #[inline(always)]
 pub(crate) fn traced_offset(
     arena: &Arena,
@@ -100,10 +103,10 @@ pub(crate) fn named_bytes_lie_inside(arena: &Arena, tenant: usize, size: usize, 
     let _ = (tenant, size, address);
 }
 
-/// The offset, in the part of `tenant`, which the arena has (`part`), of the `size` bytes at `address`; their range is appended to the
-/// trace. The caller knows that they lie in the part (`named`: `named_offset` would else be `None`), so there is no test; `traced_offset`
-/// has one. The result is this offset (`value`), and the bytes from it on end in the part (`within`). `asks`: the range in the trace lies
-/// in the part, and no step is counted.
+/// The offset of the `size` bytes at `address` in the part of `tenant`, which is the number of one of the arena's parts (`part`). The
+/// caller knows that the bytes lie in the part (`named`: `named_offset` is not `None`), so this function tests nothing; `traced_offset`
+/// does the same with a test. The range of the bytes is appended to `trace`: it lies in the part, and no step is counted (`asks`). `value`:
+/// the result is the offset by the definition `named_offset`. `within`: the bytes from the result on end in the part.
 #[inline(always)]
 pub(crate) fn traced_offset_inside(
     arena: &Arena,
@@ -126,9 +129,10 @@ pub(crate) fn traced_offset_inside(
 
 /// bpf_map_lookup_elem (1): returns the address of the value of a key, or 0 if the map doesn't have the key. `map` is the position of the
 /// map among those of the run (`bind` of `caller`), counted from 1, and `key` the address of the key. It also returns 0 if there is no such
-/// map, or the key's bytes don't lie in the tenant's part: then `flat_look_up` is `None` (`value`). All maps of the run are live (`live`).
-/// The trace gets at most the range of the key's bytes, in the part, and no step (`asks`). `look_up_among`, for runs that know their
-/// arrays, calls this for all other maps.
+/// map, or the key's bytes don't all lie in the tenant's part: then `flat_look_up`, the result by its definition, is `None` (`value`).
+/// `call_of` is the record of all inputs of the call but `map` and `key`. All maps of the run are live (`live`). The trace gets at most the
+/// range of the key's bytes, in the part, and no step (`asks`). `look_up_among` calls this for a hash map; it finds a value in an array
+/// without reading the map.
 #[inline(always)]
 pub(crate) fn look_up(
     map: u64,

@@ -57,11 +57,12 @@ fn write_named(arena: &mut Arena, tenant: usize, address: u64, bytes: &[u8], tra
     arena.write_inside(address, bytes, trace);
 }
 
-/// bpf_skb_load_bytes (26), if the caller knows that the `count` bytes from the address `to` on lie in the tenant's part (`named`):
-/// `call_in_run` requires it, and `load_bytes` tests it. Copies `count` bytes of the packet, from `offset` on, to this address, and returns
-/// 0. Of `offset` the low 32 bits are read, as a signed number. If this number is negative, or the packet doesn't have these bytes, the
-/// helper writes `count` zeros to the address and returns EFAULT, negated (`OUTSIDE`). No map is read, so `loaded` holds for any live maps
-/// (`maps`). The trace gets only address ranges in the tenant's part, and no step (`asks`).
+/// bpf_skb_load_bytes (26): copies `count` bytes of the packet, from `offset` on, to the address `to`, and returns 0. Of `offset` the low
+/// 32 bits are read, as a signed number. If this number is negative, or the packet doesn't have these bytes, the helper writes `count`
+/// zeros to the address and returns EFAULT, negated (`OUTSIDE`). `caller` has the packet and the tenant's number. Required: the arena has a
+/// part of this tenant, of `PART` bytes (`part`), and the `count` bytes at `to` lie in it (`named`). `load_bytes` tests the latter before;
+/// `call_in_run` requires it too. By `loaded` the result and the arena are those of the definition `LoadsAt`, for any live maps (`maps`),
+/// since no map is read. The trace gets only address ranges in the tenant's part, and no step (`asks`).
 #[inline(always)]
 pub(crate) fn load_bytes_inside(
     offset: u64,
@@ -92,10 +93,11 @@ pub(crate) fn load_bytes_inside(
 }
 
 /// bpf_skb_load_bytes (26), for `call`, which gives it any words: copies `count` bytes of the packet, from `offset` on, to the address
-/// `to`, and returns 0. Of `offset` the low 32 bits are read, as a signed number. If it is negative, or the packet doesn't have these
-/// bytes, the helper writes `count` zeros to `to` and returns EFAULT, negated. If the `count` bytes at `to` don't lie in the tenant's part
-/// (`named_offset` is `None`), it returns EFAULT, negated, and writes nothing. No map is read, so `loaded` holds for any maps. The trace
-/// gets only address ranges in the part, and no step (`asks`).
+/// `to`, and returns 0. `caller` has the packet, and the tenant whose part is written. Of `offset` the low 32 bits are read, as a signed
+/// number. If it is negative, or the packet doesn't have these bytes, the helper writes `count` zeros to `to` and returns EFAULT, negated
+/// (`OUTSIDE`). If the `count` bytes at `to` don't lie in the tenant's part (`named_offset` is `None`), as for each `count` above `PART`,
+/// it returns EFAULT, negated, and writes nothing. No map is read, so `loaded` holds for any maps. The trace gets only address ranges in
+/// the part, and no step (`asks`).
 #[inline(always)]
 pub(crate) fn load_bytes(
     offset: u64,

@@ -96,10 +96,12 @@ fn put(
 
 /// bpf_map_update_elem (2) with tests of its arguments: stores a value under a key, and returns 0. `map` is the position of the map among
 /// those of the run (`caller.bind`, all live), counted from 1. The key and the value are at the addresses `at`. `flags` are those of
-/// bpf(2): any key (0), only an absent one (1), only a present one (2). With an error nothing changes, and the error's number is returned,
-/// negated; it is EINVAL for other flags, and if there is no such map, or the bytes of the key or of the value don't lie in the tenant's
-/// part. The ranges added to the trace lie in that part (`asks`). Only `call` uses this function, since it takes any words as arguments;
-/// runs of accepted programs use `update_inside`, which does not test map and addresses.
+/// bpf(2): any key (0), only an absent one (1), only a present one (2). With an error no byte and no map changes, and the error's number is
+/// returned, negated. It is EINVAL for other flags, if there is no such map, or if the bytes of the key or of the value don't lie in the
+/// tenant's part (`pair_named` is `None`); else EEXIST, ENOENT or E2BIG, as for the command of bpf(2). `updated`: the result, and the
+/// memory and the live maps afterwards, are those of such an update by `caller` with the memory and the live maps before (`call_of`).
+/// `asks`: the trace gets only ranges of that part. Only `call` uses this function, since it takes any words as arguments; runs of accepted
+/// programs use `update_inside`, which does not test map and addresses.
 pub(crate) fn update(
     map: u64,
     at: Addresses,
@@ -133,11 +135,13 @@ pub(crate) fn update(
     put(map, at, flags, caller, arena, maps, trace)
 }
 
-/// bpf_map_update_elem (2) without tests: stores a value under a key, by `flags`, those of bpf(2), and returns 0. With an error nothing
-/// changes, and it returns the error's number, negated. `caller` has the number of the run's tenant, whose part is in the arena (`part`),
-/// and the handles of the run's maps (`bind`), all live (`live`). `named` requires what `update` tests, and each call of an accepted
-/// program meets it: `map` is the position of one of these maps, from 1, and the bytes of the key and of the value, at the addresses `at`,
-/// lie in the tenant's part. `asks`: the trace gets only ranges of this part.
+/// bpf_map_update_elem (2) without tests of its arguments: stores a value under a key, by `flags`, those of bpf(2), and returns 0. With an
+/// error nothing changes, and it returns the error's number, negated. `caller` has the number of the run's tenant, whose part is in the
+/// arena (`part`), and the handles of the run's maps (`bind`), all live (`live`). `named`: the arguments name a map, a key and a value
+/// (`pair_named`), so `map` is the position of one of these maps, from 1, and the bytes of the key and of the value, at the addresses `at`,
+/// lie in the tenant's part. `update` tests this; each call of an accepted program meets it. `updated`: the result, and the memory and the
+/// live maps afterwards, are those of an update (`UpdatesNamed`) with these three and the inputs of the call (`call_of`). `asks`: the trace
+/// gets only ranges of this part.
 #[inline(always)]
 pub(crate) fn update_inside(
     map: u64,

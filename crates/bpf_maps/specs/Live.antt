@@ -286,8 +286,10 @@ without_area_at t k = option_map without_area (live_at t k)
 abbrev pub one_more : LiveMap → LiveMap
 one_more l = record { keys = l.keys; start = l.start; stride = l.stride; holds = l.holds + 1 }
 
--- a live map, without its area, with one reference (`holds`) less, as after `release`: None if it
--- had only one, since the map is then freed. Without a map (None) the result is None too
+-- what a live map has besides its area (`MapWithoutArea`: its table of keys, and the number of
+-- references to it, `holds`), with one reference less, as after `release`: None if it had only one,
+-- since the map is then freed. Without a map (None) the result is None too. What `release` does to
+-- areas is in other clauses of its contract
 abbrev pub one_less : Option MapWithoutArea → Option MapWithoutArea
 one_less None = None
 one_less (Some h) =

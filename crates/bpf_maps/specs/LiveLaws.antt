@@ -91,8 +91,10 @@ without_option_at (suc k) (x ∷ xs) some =
 
 -- if a list xs of options has Some at n different indices, at least n of its options are Some:
 -- `total` adds 1 for each Some. The indices are `at 0` to `at (n - 1)`; xs has Some at each
--- (`used`), and no two are equal (`apart`). By induction on n: xs with None at index `at m` has one
--- Some less, and Some at the m other indices. For `few_handles`
+-- (`used`), and no two are equal (`apart`). By induction on n: for n = m + 1, `rest` has the list
+-- xs with None at index `at m` (`slots`). That has one Some less (`fewer`), and Some at the m other
+-- indices. `few_handles` uses the law for n handles that have live maps, with a tenant's list of
+-- maps by handle as xs
 enough_present : {A : Type 0} (n : ℕ) (at : ℕ → ℕ) (xs : List (Option A))
     → ((i : ℕ) → i < n → IsSome (get_or xs (at i) None))
     → ((i j : ℕ) → i < n → j < n → at i ≡ at j → i ≡ j)

@@ -188,9 +188,9 @@ fn index_after_element(element: Option<u32>) -> u64
 impl ValueMap for ArrayMap {
     ghost keys = { λ m. m };
 
-    // The element of a key is the index in the key's four bytes; `None` if this index is not below `max_entries`. The first line calls a
-    // law, which does nothing when it runs. By this law the `key_size` of an array, which is the length of the key (clause `size` of
-    // `ValueMap::find`), is 4, and the clause `sound` of `ValueMap::find` holds.
+    // The element of a key is the index in the key's four bytes, little-endian; `None` if this index is not below `max_entries`. The first
+    // line calls a law, which does nothing when it runs. By this law the `key_size` of an array, which is the length of the key (clause
+    // `size` of `ValueMap::find`), is 4, and the table of keys is sound (clause `sound` there): no two keys have the same element.
     #[inline(always)]
     fn find(&self, key: &[u8]) -> Option<u32> {
         self.keys_are_its_indices();
@@ -199,8 +199,8 @@ impl ValueMap for ArrayMap {
 
     // Returns the index in the four bytes of the key, which is its element. All indices of the array are present, so none is added and
     // nothing changes. The errors, in this order, are `Invalid` if `flags` is none of `ANY`, `NOEXIST` and `EXIST`, `TooBig` if the index
-    // is not below `max_entries`, and `Exists` if `flags` is `NOEXIST`. The first call is of a law, for the proof of the clause `sound` of
-    // `ValueMap::claim`.
+    // is not below `max_entries`, and `Exists` if `flags` is `NOEXIST`. The first line calls a law, which does nothing when it runs. By it
+    // no two keys have the same element, as the clause `sound` of `ValueMap::claim` promises.
     #[inline(always)]
     fn claim(&mut self, key: &[u8], flags: u64) -> Result<u32, MapFault> {
         self.keys_are_its_indices();

@@ -124,8 +124,10 @@ impl ValueMap for BpfMap {
         }
     }
 
-    // The key that follows `key`: the next index of an array, or the key that a hash map got after `key`; the first key if `key` is absent
-    // or has another size. `None` after the last key, and in a map without keys. The trait `ValueMap` has the contract.
+    // The key that follows `key`: of an array the next index, in four bytes, and of a hash map the key that was added next after `key`. The
+    // first key if `key` is absent or has another size, so that a caller can go through all keys. `None` after the last key, and in a map
+    // without keys. A key of at most eight bytes is returned by value, a longer one is borrowed from the map (`KeyRef`). The contract is
+    // that of this function in the trait `ValueMap`.
     fn key_after(&self, key: &[u8]) -> Option<KeyRef<'_>> {
         match self {
             BpfMap::Array(map) => map.key_after(key),

@@ -14,11 +14,12 @@ use seeded_hash::HashSeed;
 use std::alloc::Global;
 use tagged_model::{MapFault, MapShape};
 
-/// Updates a key of a live map: claims an element for it and writes the value there, in `part`, the bytes of the tenant's part. By `done`
-/// the map's keys, with their values in the part, change as the verdict on the update requires (`verdict` of `tagged_model`): a present key
-/// gets the new value, an absent key is added as the last. If `claim` rejects the update, its error is returned (`Invalid`, `Exists`,
-/// `NoEntry` or `TooBig`), and the map has the keys and values that it had before (`refused`). In both cases each other live map keeps its
-/// own (`others`).
+/// Updates a key of a live map: claims an element for it and writes the value there, in `part`, the bytes of the tenant's part. Nothing
+/// calls this function: its proof shows that the contract of a whole update follows from public contracts and laws. In the clauses a map is
+/// its keys with their values in the part (`map_in`). `done`: it changes as the verdict on an update with these flags requires
+/// (`updated_in`; `verdict` of `tagged_model`): a present key gets the new value, an absent key is added as the last. If `claim` rejects
+/// the update, its error is returned (`Invalid` if the flags are above 2, else `Exists`, `NoEntry` or `TooBig`), and the map has the keys
+/// and values that it had before (`refused`). In both cases each other live map keeps its own (`others`).
 fn update(
     maps: &mut Maps,
     map: MapKey,
@@ -45,10 +46,11 @@ fn update(
     Ok(())
 }
 
-/// Deletes a key outside a run: `remove` keeps the key's element apart, and `end_run`, called at once, makes it free. `done`: the map loses
-/// the key, and no deleted value counts any more (`after_run`). `others`: no other map changes. `refused`: if the deletion is rejected,
-/// this map does not change either; the error is `Invalid` for an array, `NoEntry` if the key is absent. `part`, the tenant's part, is only
-/// for the contract, which sees the maps with the bytes of their values.
+/// Deletes a key outside a run: `remove` keeps the key's element apart, and `end_run`, called at once, makes it free. Nothing calls this
+/// function: its proof shows that the contract of a whole deletion follows from public contracts and laws. `done`: the map loses the key
+/// (`with_deleted`), and deleted values no longer count against its `max_entries` (`after_run`). `others`: each other live map keeps its
+/// keys and values. `refused`: if the deletion is rejected, this map keeps its own too; the error is `Invalid` for an array, `NoEntry` if
+/// the key is absent. `part`, the tenant's part, is only for the contract: `map_in` is a map's keys with the bytes of their values there.
 fn delete(maps: &mut Maps, map: MapKey, key: &[u8], part: &[u8]) -> Result<(), MapFault>
     requires live { IsSome (live_at maps.old map) }
     requires key { length key.now ≡ (shape_at maps.old map).key_size }
@@ -63,9 +65,10 @@ fn delete(maps: &mut Maps, map: MapKey, key: &[u8], part: &[u8]) -> Result<(), M
     Ok(())
 }
 
-/// A law, which does nothing when it runs: the live map of handle `map`, its keys with their values, is the same in `before` and `after`,
-/// two contents of the tenant's part, if each value of each live map has the same bytes in both (`values`). So bytes that belong to no
-/// value do not matter. `SameValues` compares the live maps of two states; here both are `maps`, since only the part differs.
+/// Nothing calls this function: its proof shows that its contract follows from public laws. The live map of handle `map`, its keys with
+/// their values, is the same in `before` and `after`, two contents of the tenant's part, if the value of each element of each live map has
+/// the same bytes in both (`values`). So bytes that belong to no value do not matter. `SameValues` compares the live maps of two states;
+/// here both are `maps`, since only the part differs.
 fn is_unchanged(maps: &Maps, map: MapKey, before: &[u8], after: &[u8])
     requires live { IsSome (live_at maps.now map) }
     requires values { SameValues maps.now before.now maps.now after.now }
@@ -75,8 +78,9 @@ fn is_unchanged(maps: &Maps, map: MapKey, before: &[u8], after: &[u8])
     laws::values_agree();
 }
 
-/// Creates a tenant's first map: it has handle 0 (`first`), and there is room for it (`room`), so the only error is `Memory`. `part` is the
-/// tenant's part, `PART` bytes. The seed has two words 0, since no clause depends on it.
+/// Creates a tenant's first map. Nothing calls this function: it shows that the contracts of the functions that it calls imply its own. By
+/// these the map has handle 0 (`first`), and there is room for it (`room`), so the only error is `Memory`, out of memory. `part` is the
+/// tenant's part, `PART` bytes. The seed of the hash maps has two words 0, since no clause depends on it.
 fn make_first(alloc: Global, shape: MapShape, part: &mut [u8]) -> Result<MapKey, MapFault>
     requires { length part.old ≡ PART }
     ensures room { result ≢ Err NoSpace }
@@ -90,9 +94,10 @@ fn make_first(alloc: Global, shape: MapShape, part: &mut [u8]) -> Result<MapKey,
     maps.create(shape, part)
 }
 
-/// Drops the only reference to a live map (`last`), which frees it, and creates another map of its shape. The freed handle and area are
-/// enough for the new map (`room`), whose handle is that of the freed map or a lower one (`lowest`). The other live maps keep their keys
-/// and values (`others`), although areas move down in `part`, the tenant's part. The only error is `Memory`: out of memory for a hash map.
+/// A caller for proofs only. It drops the only reference to a live map (`last`), which frees it, and creates another map of its shape. By
+/// the contracts of `release` and `create` and the law `maps_are_laid`, which does nothing, the freed handle and area are enough for the
+/// new map (`room`), whose handle is that of the freed map or a lower one (`lowest`). The other live maps keep their keys and values
+/// (`others`), although later areas move down in `part`, the tenant's part. The only error is `Memory`: out of memory for a hash map.
 fn make_again(maps: &mut Maps, map: MapKey, part: &mut [u8]) -> Result<MapKey, MapFault>
     requires live { IsSome (live_at maps.old map) }
     requires last { references_at maps.old map ≤ 1 }
@@ -108,9 +113,11 @@ fn make_again(maps: &mut Maps, map: MapKey, part: &mut [u8]) -> Result<MapKey, M
     maps.create(shape, part)
 }
 
-/// Creates a map and, if `create` does not fail, releases it. There is then room for exactly the maps for which there was room before
-/// (`room`): the `create_fault` of the creation of a map, of any shape `other`, is what it was before, a fault or `None`. Each map that was
-/// live still is, with the same keys and values (`maps`).
+/// Creates a map and, if `create` does not fail, releases it. Its one reference is then dropped, so it is freed. Nothing calls the
+/// function: its proof shows what follows from the contracts of `create` and `release`. There is then room for exactly the maps for which
+/// there was room before (`room`): for any shape `other`, `create_fault`, which is `NoSpace` if no handle or not enough bytes are free for
+/// a map of this shape, else `None`, is what it was. Each map that was live still is, with the same keys and values (`maps`); the values
+/// are in `part`, the tenant's part. `maps_are_laid` is a law of the areas and handles of live maps, for the proof.
 fn make_and_release(maps: &mut Maps, shape: MapShape, part: &mut [u8])
     requires { length part.old ≡ PART }
     ensures room { (other : MapShape) → create_fault maps.new other ≡ create_fault maps.old other }
@@ -123,9 +130,11 @@ fn make_and_release(maps: &mut Maps, shape: MapShape, part: &mut [u8])
     }
 }
 
-/// Adds a reference to a live map and drops one: by `KeepsMaps` each map that was live still is, with the same keys and values.
-/// `references_at` is the number of references. There is at least one before (`held`), so the dropped one is not the last, which would free
-/// the map. There are fewer than 2^32 - 1 (`few`), so one more can be counted in 32 bits. `release` needs the tenant's whole part (`part`).
+/// Shows from the contracts that adding a reference to a live map and dropping one again changes no map: each that was live still is, with
+/// the same keys and values (`KeepsMaps`). Nothing calls this function. `references_at` is the number of references. There is at least one
+/// before (`held`), so the dropped one is not the last, which would free the map. There are fewer than 2^32 - 1 (`few`), so one more can be
+/// counted in 32 bits. `release` needs the tenant's whole part (`part`). By the law `live_maps_refine_values`, a map whose area and table
+/// of keys are unchanged, as by `hold`, has the same values.
 fn hold_and_release(maps: &mut Maps, map: MapKey, part: &mut [u8])
     requires live { IsSome (live_at maps.old map) }
     requires few { references_at maps.old map < 2 ^ 32 - 1 }

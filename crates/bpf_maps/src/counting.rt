@@ -24,9 +24,9 @@ impl Maps {
         self.stored(map).map.key_count()
     }
 
-    /// How many maps are live, for the counts of a tenant: at most `MAPS`. `count` adds up 1 for each live map by `total`, for which a
-    /// handle without a map counts 0. The call of the law `maps_are_laid`, which does nothing, is for the proof: there are `MAPS` handles,
-    /// so the loop finds every map.
+    /// How many maps are live, for the counts of a tenant: at most `MAPS` (`few`). What contracts see as `maps` is a list with an item for
+    /// each handle: its live map, or `None`. `total` adds up 1 for each map in it, and 0 for `None` (`count`). The call of the law
+    /// `maps_are_laid`, which does nothing when it runs, is for the proof: there are `MAPS` handles, so the loop finds every map.
     pub fn live_count(&self) -> u32
         ensures count { result ≡ total (λ l. 1) self.now.maps }
         ensures few { result ≤ most_maps }
@@ -56,9 +56,11 @@ impl Maps {
         sum
     }
 
-    /// What the creation of a map of this `kind` has to know of the live hash maps. For a hash map it is how many of them are live, and the
-    /// sum of their `max_entries`. Both decide which spare maps are freed before it takes memory (`SpareMaps`). A spare map is a hash map
-    /// that is no longer live, whose memory a new one may reuse. For an array both are 0, and are not read: it takes no memory.
+    /// What the creation of a map of this `kind` needs to know of the live hash maps: for a hash map how many they are, and the sum of
+    /// their `max_entries`. The number and the sum of the live, the spare and the new hash maps have bounds, so both decide which spare
+    /// maps are freed before the new map takes memory (`SpareMaps::hash_map`). A spare map is a hash map that is no longer live, whose
+    /// memory a new one may reuse. For an array both are 0, and are not read: an array takes no memory, since its values lie in the
+    /// tenant's part.
     pub(crate) fn live_hash_maps_for(&self, kind: MapKind) -> HashMapTotals {
         match kind {
             MapKind::Array => NO_HASH_MAPS,
@@ -66,8 +68,9 @@ impl Maps {
         }
     }
 
-    /// The hash maps that are live: how many they are, and the sum of their `max_entries`. Both decide which spare maps are freed for a new
-    /// hash map (`SpareMaps::hash_map`). No contract depends on these numbers.
+    /// How many hash maps are live, and the sum of their `max_entries`. Both decide which spare maps are freed before a new hash map takes
+    /// memory (`SpareMaps::hash_map`). A spare map is a hash map that is no longer live, whose memory a new one may reuse. No contract
+    /// depends on these numbers. The call of the law `maps_are_laid`, which does nothing, is for the proof.
     fn count_live_hash_maps(&self) -> HashMapTotals {
         self.maps_are_laid();
         let mut live = NO_HASH_MAPS;

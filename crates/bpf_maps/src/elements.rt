@@ -21,8 +21,9 @@ pub struct Elements {
 }
 
 impl Elements {
-    /// The elements of a map of this shape. `count` is `max_entries` for an array, and 0 for a hash map, since only a hash map itself finds
-    /// the element of a key. `stride` is the value's size in bytes, rounded up to a multiple of eight.
+    /// The elements of a map of this shape, for the look-ups of a run. `count` is how many elements a run finds without reading the map:
+    /// `max_entries` for an array, whose key is the number of the element, and 0 for a hash map, since only the map finds the element of a
+    /// key. `stride`, the bytes from the start of one value to the next, is the value's size, rounded up to a multiple of eight.
     #[inline(always)]
     pub fn of(shape: MapShape) -> Elements
         ensures { result ≡ elements_of shape }
@@ -37,8 +38,9 @@ impl Elements {
         }
     }
 
-    /// The number of elements (`count`) and the distance from one value to the next in bytes (`stride`) as one number, which a row of a
-    /// run's table of maps has: `count` is its low 32 bits, and `stride` its high 32 bits. `of_word` is the inverse.
+    /// The `Elements` as one number of 64 bits. `count`, how many elements a run finds without reading the map, is its low 32 bits.
+    /// `stride`, the distance from one value to the next in bytes, is its high 32 bits. A run's table of maps (`MapTable`) has one such
+    /// number for each map, since two arrays, of counts and of distances, make a run slower. `of_word` is the inverse.
     #[inline(always)]
     pub fn word(self) -> u64
         ensures { result ≡ word_of self }
@@ -46,10 +48,11 @@ impl Elements {
         u64::from(self.count) + 0x1_0000_0000 * u64::from(self.stride)
     }
 
-    /// The inverse of `Elements::word`, for any number (`word`): its low 32 bits are `count`, how many elements a run finds without the
-    /// map, and its high 32 bits `stride`, the distance from one value to the next in bytes. A run's table of maps has such a number for
-    /// each map, made of its shape; the result is then the `Elements` of this shape (`elements`). A hash map has count 0, since only the
-    /// map finds the element of a key; so if `count` is not 0, the map is an array, whose keys have `INDEX_SIZE` bytes (`size`).
+    /// The `Elements` that `word` represents, the inverse of `Elements::word` for any number (`word`). The low 32 bits are `count`, and the
+    /// high 32 bits are `stride`, the distance from the start of one value to the start of the next in bytes. A run's table of maps has
+    /// such a number for each map, made from the map's shape; the result is then the `Elements` of this shape (`elements`). Its `count` is
+    /// `max_entries` for an array, in which a run finds the value of a key by the index, without reading the map. It is 0 for a hash map,
+    /// which a run has to read. So if `count` is not 0, the map is an array, and its keys have `INDEX_SIZE`, 4, bytes (`size`).
     #[inline(always)]
     pub fn of_word(word: u64) -> Elements
         ensures word { word_of result ≡ word }

@@ -41,8 +41,9 @@ impl Model for HashMap {
 }
 
 impl HashMap {
-    /// Makes a map of this shape, whose kind is `Hash`, without keys. Keys are hashed with this seed. Allocates all the memory that the map
-    /// can ever take. `AllocError`: out of memory.
+    /// Makes a map of this shape, whose kind is `Hash`, without keys (`new_keys`). Keys are hashed with this seed. Allocates memory for
+    /// `max_entries` keys and for the list of free elements, so no later call on the map allocates. The values are not in this memory, but
+    /// in the map's area. `AllocError`: out of memory.
     pub(crate) fn new(alloc: Global, shape: MapShape, seed: HashSeed) -> Result<HashMap, AllocError>
         requires { shape.kind ≡ Hash }
         ensures { IfOk result (λ map. map ≡ new_keys shape) }
@@ -59,8 +60,8 @@ impl HashMap {
 
     /// Whether a new hash map of shape `shape` can reuse the memory of this map (`renew`): this map has the key size and the `max_entries`
     /// of `shape`. The value size may differ, since the values are not in this memory, but in the map's area. `SpareMaps` asks this of hash
-    /// maps that are no longer live. The clause: if the result is true, both numbers agree (`IsLike`, whose second argument is an option,
-    /// since it is also used for an index of a list).
+    /// maps that are no longer live. The clause: if the result is true, key size and `max_entries` agree (`IsLike`). The second argument of
+    /// `IsLike` is an option, since `SpareMaps` also uses it for an index of its list of maps, and past the end there is none.
     pub(crate) fn is_like(&self, shape: MapShape) -> bool
         ensures { IsTrue result → IsLike shape (Some self.now) }
     {
@@ -127,12 +128,13 @@ impl HashMap {
         self.index.entry_after(element)
     }
 
-    /// Adds an absent key as the last one, claims a free element for it, and returns this element. Of the spare elements, which no key has,
-    /// the first `kept` are kept apart until the run ends, and the others are free, so the last one is claimed. `TooBig`, and nothing has
-    /// changed, if none is free: then the map is full (`is_full`). `claimed`: result and change are those of an update of an absent key
-    /// (`of_absent`). The caller, `claim`, has checked the flags of the update: both `ANY` and `NOEXIST` allow an absent key, so the
-    /// contract has only `ANY` (0). `sound`: no element has two keys, or a key while it is kept apart. Not inlined, unlike the rest of an
-    /// update, as an update of a present key does not call this function.
+    /// Adds an absent key as the last one, claims a free element for it, and returns this element. The elements that no key has are in
+    /// `spare`: the first `kept` of them are kept apart until the run ends, the others are free, and the last one is claimed. `TooBig`, and
+    /// nothing has changed, if none is free: then the map is full (`is_full`). By `claimed` this is the claim of an element (`Claims`) in
+    /// an update of an absent key (`of_absent`): of a new key, or `TooBig` if the map is full. The last argument of `of_absent`, 0, is the
+    /// flags `ANY`. The caller, `claim`, has checked the flags of the update; `NOEXIST` allows an absent key too, with the same result.
+    /// `sound`: no element has two keys, or a key while it is kept apart. Not inlined, unlike the rest of an update: an update of a present
+    /// key does not need it.
     #[cold]
     #[inline(never)]
     #[tactic(auto, using(crate::proofs::Kept::sound))]
@@ -156,10 +158,10 @@ impl HashMap {
 impl ValueMap for HashMap {
     ghost keys = { λ m. m };
 
-    // Returns the element of a key; `None` if the key is absent. The call of `elements_are_distinct`, a law, is for the clause `sound` of
-    // the contract, for example that no two keys have one element (`IsSound`). It does nothing when it runs.
-    // Not inlined: its machine code selects the index that has the keys (`KeyIndex`), and ends in a jump to the `get` of this index. So a
-    // look-up of a short key does not save and restore the registers that only longer keys need.
+    // Returns the element of a key; `None` if the key is absent. `elements_are_distinct` is a law, which does nothing when it runs. By it
+    // the proof has the clause `sound` of `find` in the trait `ValueMap`: the table of keys is sound (`IsSound`), for example no two keys
+    // have one element. The function is not inlined: its machine code selects the index for keys of this size (`KeyIndex`), and ends in a
+    // jump to the `get` of this index. So a look-up of a short key does not save and restore the registers that only longer keys need.
     #[inline(never)]
     fn find(&self, key: &[u8]) -> Option<u32> {
         self.elements_are_distinct();

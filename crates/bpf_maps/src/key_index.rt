@@ -50,9 +50,10 @@ impl KeyIndex {
         }
     }
 
-    /// The size, in bytes, of the number or of the array in which an index keeps a key of `key_size` bytes: `LONGEST_WORD` for a key of at
-    /// most as many bytes, else `LONGEST_MIDDLE` for one of at most as many, else `LONGEST_LONG`. With this size `key_memory` computes the
-    /// memory for the keys of a map. The contract bounds the size, so that its product with a number of keys does not overflow 64 bits.
+    /// The size, in bytes, of the number or of the array in which an index keeps a key of `key_size` bytes. It is the least of
+    /// `LONGEST_WORD` (8), `LONGEST_MIDDLE` (64) and `LONGEST_LONG` (512) that is not below `key_size`; no key is longer than 512 bytes.
+    /// With this size `key_memory` computes the memory for the keys of a map. The contract bounds the size, so that its product with a
+    /// 32-bit number of keys does not overflow 64 bits.
     pub(crate) fn room_of(key_size: usize) -> usize
         ensures { result ≤ LONGEST_LONG }
     {
@@ -79,8 +80,9 @@ impl KeyIndex {
         }
     }
 
-    /// Returns the key that was added next after `key`, or the first key if `key` is absent or has another size. `None` after the last key,
-    /// and if there are no keys.
+    /// Returns the key that was added next after `key`, or the first key if `key` is absent or has another size; MAP_GET_NEXT_KEY replies
+    /// with it. `None` after the last key, and if there are no keys. A key of at most eight bytes, which `Words` keeps as a number, is
+    /// returned by value (`Short`), a longer one is borrowed from the index (`Lent`). `key_bytes` is the bytes of either.
     pub(crate) fn key_after(&self, key: &[u8]) -> Option<KeyRef<'_>>
         ensures { option_map key_bytes result ≡ key_after key.now (entries_of self.now) }
     {
@@ -113,10 +115,11 @@ impl KeyIndex {
         }
     }
 
-    /// Adds a key at the end. The caller, `HashMap::add`, has found the key absent (`absent`), and gives it an element less than the
-    /// index's bound that no key has (`within`, `free`). The key has the size of the map's keys, and the index takes keys of this size
-    /// before and after (`takes`). The index has fewer keys than its bound (`few`), which does not change (`bound`). The call allocates
-    /// nothing: `new` made room for `bound` keys.
+    /// Adds a key with its element, as the last in the order of the keys (`added`). `entries_of` is the list of all keys with their
+    /// elements, in this order. The caller, `HashMap::add`, has found the key absent (`absent`), and gives it an element that no key has
+    /// (`free`) and that is less than the index's bound, the map's `max_entries` (`within`). The key has the size of the map's keys, and
+    /// this variant of the index can have keys of this size before and after (`takes`). The index has fewer keys than its bound (`few`),
+    /// which does not change (`bound`). The call allocates nothing: `new` made room for `bound` keys.
     pub(crate) fn insert(&mut self, key: &[u8], element: u32)
         requires takes { TakesKeys self.old (length key.now) }
         requires absent { found key.now (entries_of self.old) ≡ None }

@@ -25,8 +25,8 @@ impl Model for ShortKey {
 }
 
 impl ShortKey {
-    /// Makes a key of the lowest `length` bytes of `word`, the lowest byte first. `length`, the size of the map's keys, is at most eight,
-    /// the number of bytes of a word.
+    /// Makes a key of the lowest `length` bytes of `word`, the lowest byte first. Callers pass an index into an array, or the number as
+    /// which `WordIndex` keeps a key of a hash map. `length`, the size of the map's keys, is at most eight, the number of bytes of a word.
     pub(crate) fn of_word(word: u64, length: usize) -> ShortKey
         requires { length ≤ 8 }
         ensures { result ≡ low_bytes length word }

@@ -5,9 +5,10 @@ ghost use Rattle.bpf_maps.specs.Laws.{SizesFitInParts, CallsAreThoseOfAMap, Writ
 ghost use Rattle.bpf_maps.specs.Laws.{ValuesAgree, ElementsAreWithin, AreasKeepElements, DeletesKeepElements};
 ghost use Rattle.bpf_maps.specs.InPart.{ValuesAreWritten, LiveMapsRefineValues};
 
-/// A law: `table_of` makes a map (`Table` of `tagged_model`) of a table of keys; in this map the object of a key is the key's element. The
-/// map of a new table is a new map (`new`). If the table gets a new key (`update`), loses a key, whose element is then kept apart
-/// (`delete`), or ends a run (`end`), the map changes as `Table` defines these changes of a map.
+/// A law: a table of keys, as stored, changes as a map of the definition does (`Table` of `tagged_model`). `table_of` is the map that a
+/// table of keys represents: it has the same keys, and the object of a key is the key's element. The record `CallsAreThoseOfAMap` has four
+/// statements. A new table of keys represents a new map (`new`). If a table of keys gets a new key (`update`), loses a key, whose element
+/// is then kept apart (`delete`), or ends a run (`end`), the map that it represents changes as the definition says.
 pub fn calls_are_those_of_a_map()
     ensures { CallsAreThoseOfAMap }
 {}
@@ -61,10 +62,12 @@ pub fn values_are_written()
 {}
 
 /// A law, the refinement of maps, for a change after which each live map has the shape and the area that it had before. A live map has a
-/// table of keys, with elements, and a map of values, with the bytes of these elements in the tenant's part. If the table is unchanged, the
-/// map of values is, too; if the table loses a key or ends a run, so does the map of values; and if the table claims an element for a key,
-/// and the element's value is then written, the map of values gets this value for the key. The proofs of `Tenant::update` and
-/// `Tenant::delete` use the law.
+/// table of keys, each with its element, and a map of values: the same keys, each with the bytes of its element in the tenant's part. If
+/// the table is unchanged, the map of values is, too. If the table loses a key, whose element is then kept apart, the map of values loses
+/// it, and has one more deleted value, which counts as an entry until the run ends. If the table ends a run, no element is kept apart, and
+/// no deleted value counts any more. If the table claims an element for a key, and the element's value is then written, the map of values
+/// gets this value for the key. The proofs of `Tenant::update` and `Tenant::delete` use the law. The laws that it calls: the calls of
+/// bpf(2) change a map of elements and its map of values alike, and the verdict on an update agrees with the look-up of its key.
 pub fn live_maps_refine_values()
     ensures { LiveMapsRefineValues }
 {

@@ -36,8 +36,9 @@ impl Model for LongIndex {
 }
 
 impl LongIndex {
-    /// Makes an index without keys, for elements less than `bound`. Allocates memory for `bound` keys, which are hashed with the seed.
-    /// `AllocError`: out of memory.
+    /// Makes an index without keys (`entries`), which gives the element of each key of a hash map. It keeps a key in an array of 512 bytes;
+    /// `KeyIndex` uses it for keys of more than 64 bytes. All elements are less than `bound`, the map's `max_entries`. Allocates memory for
+    /// `bound` keys, which are hashed with the seed. `AllocError`: out of memory.
     pub(crate) fn new(alloc: Global, bound: u32, seed: HashSeed) -> Result<LongIndex, AllocError>
         ensures bound { IfOk result (λ index. index.bound ≡ bound) }
         ensures entries { IfOk result (λ index. index.entries ≡ []) }
@@ -68,8 +69,8 @@ impl LongIndex {
     }
 
     /// The key that follows the key of `element` in the order in which the keys were added, or the first key if `element` is `None`; and
-    /// the element of the returned key, by which the next call continues. The result is `None` if no key follows, if no key has `element`,
-    /// or if there are no keys.
+    /// the element of the returned key, by which the next call continues. So a save lists all keys. The result is `None` (`next_entry`) if
+    /// no key follows, if no key has `element`, or if there are no keys. The returned key is borrowed; `lent_entry` has its bytes.
     pub(crate) fn entry_after(&self, element: Option<u32>) -> Option<(&[u8], u32)>
         ensures { option_map lent_entry result ≡ next_entry element self.now.entries }
     {

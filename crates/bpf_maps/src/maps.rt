@@ -101,10 +101,11 @@ impl Maps {
         })
     }
 
-    /// A law: the values of all live maps lie in the part and don't overlap (`laid`), their areas lie without gaps after the stack and the
-    /// context (`packed`) and take at most `LARGEST_SUM` bytes together (`bytes`), the table of keys of each live map is sound, so no two
-    /// of its keys have the same element (`sound`), and there are `MAPS` handles (`maps`). It does nothing when it runs: only the proofs of
-    /// its callers use it.
+    /// A law of what holds of the live maps at any time. The values of all of them lie in the part and don't overlap (`laid`). Their areas
+    /// lie without gaps after the stack and the context (`packed`), and take at most `LARGEST_SUM` bytes together, the number `most_bytes`
+    /// of the contract (`bytes`). The table of keys of each is sound (`sound`): its elements are less than `max_entries`, each belongs to
+    /// one key or is kept apart, its keys have the map's key size, and in an array each index is its own element. There are `MAPS` handles,
+    /// `most_maps` in the contract (`maps`). It does nothing when it runs: only the proofs of its callers use it.
     #[inline(always)]
     pub fn maps_are_laid(&self)
         ensures laid { IsLaid self.now }
@@ -128,10 +129,11 @@ impl Maps {
         &self.maps[key]
     }
 
-    /// The offset of an element's value in the tenant's part, in bytes. `stored` is the live map that has the element, a number less than
-    /// its `max_entries`. The callers have found `stored` by its handle, `map`, which is here only for the contract, so a map is not looked
-    /// up twice. The value lies in the part after the stack and the context, and the offset is a multiple of eight (`inside`). By `laid`
-    /// the values of all live maps lie in the part and do not overlap.
+    /// The offset in bytes of an element's value in the tenant's part. `element` is less than `max_entries` of its map, which is live.
+    /// `stored` is this map, with the start of its area and the distance from one value to the next (`stride`). The callers have found it
+    /// by its handle, `map`, which is here only for the contract, so a map is not looked up twice. The value lies in the part after the
+    /// stack and the context, and the offset is a multiple of eight (`inside`). By `laid` the values of all live maps lie in the part and
+    /// do not overlap.
     #[inline(always)]
     fn offset_in(&self, map: MapKey, stored: &StoredMap, element: u32) -> usize
         requires stored { live_at self.now map ≡ Some (live_of stored.now) }
@@ -144,16 +146,18 @@ impl Maps {
         stored.start + element as usize * stored.stride
     }
 
-    /// Creates a map with one reference and the lowest free handle (`created`). In `part`, the tenant's part of `PART` bytes, the map gets
-    /// its own area after the areas of the live maps (`last`), whose sum grows by it (`more`). A hash map has no keys, and the values of an
-    /// array are zero bytes (`cleared`, `fresh`). The maps that were live are unchanged (`older`), and so are their values (`values`,
-    /// `maps`), and the stack and the context before the areas (`front`). The values of all live maps do not overlap (`laid`).
+    /// Creates a map with one reference and the lowest free handle, which is returned (`created`). In `part`, the tenant's part of `PART`
+    /// bytes, the map gets its own area after the areas of the live maps (`last`); the number of bytes of all areas (`areas`) grows by that
+    /// of the new one (`more`). The new map is `new_table` (`fresh`): a hash map has no keys, and an array has a value of zero bytes for
+    /// each index (for its elements, `cleared`). The maps that were live are unchanged (`older`), and so are the values of all their
+    /// elements (`values`) and of all their keys (`maps`), and the stack and the context before the areas (`front`). The values of all live
+    /// maps do not overlap (`laid`).
     ///
     /// # Errors
     ///
     /// `NoSpace` if no handle is free, or if the areas of all live maps and the new one would take more than `LARGEST_SUM` bytes together
-    /// (`create_fault`); else `Memory` if out of memory for a hash map: then `refused` is true. On an error no map and no byte of `part`
-    /// has changed.
+    /// (`create_fault`); else `Memory` if out of memory for a hash map: then the flag `refused` is set. On an error no map and no byte of
+    /// `part` has changed (`unchanged`).
     pub fn create(&mut self, shape: MapShape, part: &mut [u8]) -> Result<MapKey, MapFault>
         requires { length part.old ≡ PART }
         ensures created { Creates (create_fault self.old shape) self.old shape result self.new }
@@ -231,9 +235,11 @@ impl Maps {
 
     /// Drops one reference to a live map (`less`); the last (`references_at`, their number, is at most 1) frees the map, its handle and
     /// area. The memory of a freed hash map is kept for new ones (`spares`). In `part`, the tenant's part of `PART` bytes, the later areas
-    /// then move down by the size of that area (`moved`). Other maps keep their elements, keys and values (`others`, `values`, `maps`), as
-    /// does the map if it has more references (`kept`); then no area changes. `without_area_at` is a map without its area: its table of
-    /// keys, and `references_at`. The stack, the context (`front`) and the flag of refused memory (`refused`) do not change.
+    /// then move down by the size of that area (`moved`), and all areas together (`areas`) have so many bytes less (`freed`). Other maps
+    /// keep their elements, keys and values (`others`, `values`, `maps`), as does the map if it has more references (`stays`, `shape`,
+    /// `kept`); then no area changes (clause `areas`, `room`). The values of all live maps still lie in the part and do not overlap
+    /// (`laid`). `without_area_at` is a map without its area: its table of keys, and `references_at`. The stack, the context (`front`) and
+    /// the flag of refused memory (`refused`) do not change.
     pub fn release(&mut self, map: MapKey, part: &mut [u8])
         requires live { IsSome (live_at self.old map) }
         requires length { length part.old ≡ PART }
@@ -289,8 +295,9 @@ impl Maps {
     pub fn is_live(&self, map: MapKey) -> bool
         ensures { result ≡ is_some (live_at self.now map) }
     {
-        // `keys` has, for each handle with a map, the number that the slab `maps` chose for the map and finds it by: here called its key.
-        // This read is for the proof, which has the invariant of the type from it: the slab has a map for each of these numbers.
+        // `keys` has, for each handle with a map, a key: the number that the slab `maps` chose for the map, and by which it finds the map.
+        // This read of `maps` does nothing when it runs. The proof gets from it what holds of each `Maps` (`IsWellFormedMaps`): the slab
+        // has a map for each key.
         let _ = &self.maps;
         self.keys.get(map.handle).is_some()
     }
@@ -398,9 +405,11 @@ impl Maps {
         stored.map.claim(key, flags)
     }
 
-    /// Removes a key, which has the size of the map's keys, from a live map. Its element is kept apart (`removed`): no key gets it until
-    /// the caller calls `end_run`, at the end of the run, or at once if no run is in progress. `rest`: the other maps, and this map's area
-    /// and references, are unchanged. It takes no memory, so `refused`, the flag that memory was refused to a new map, is unchanged too.
+    /// Removes a key, which has the size of the map's keys, from the live map of the handle `map`. `removed`: `removal` is the element of
+    /// the key in the table of keys before the call (`keys_at`), or the fault; from it follow the result and the table after the call. The
+    /// element is kept apart: no key gets it until the caller calls `end_run`, at the end of the run, or at once if no run is in progress.
+    /// `rest`: the other maps, and this map's area and references, are unchanged. The call takes no memory, so `refused`, the flag that
+    /// memory was refused to a new map, is unchanged too.
     ///
     /// # Errors
     ///
@@ -453,8 +462,9 @@ impl Maps {
 
     /// Writes the key that follows `key` in a live map to the start of `next`, which has room for the longest key; the bytes after it are
     /// unchanged. The order is that of the indices in an array, and that of insertion in a hash map. If `key` is empty, or the map does not
-    /// have it, the first key is written. A `key` that is not empty has the size of the map's keys (`size`). While `key_after` lends the
-    /// stored key, this is a copy.
+    /// have it, the first key is written. A `key` that is not empty has the size of the map's keys (`size`). By `given` the key is that of
+    /// the definition of MAP_GET_NEXT_KEY (`next_of`) for the map's table of keys. `key_after` returns this key, maybe borrowed from the
+    /// map; here it is copied.
     ///
     /// # Errors
     ///

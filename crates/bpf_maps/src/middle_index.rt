@@ -46,9 +46,10 @@ impl MiddleIndex {
         Ok(MiddleIndex { map })
     }
 
-    /// Returns the element of the key that has these bytes (`found`); `None` if the key is absent, as is each of more than `LONGEST_MIDDLE`
-    /// bytes. The function is not inlined: else its caller, which also looks up keys of at most `LONGEST_WORD` bytes (`WordIndex`), would
-    /// save machine registers on the machine's stack for these too, and their look-up does not need that.
+    /// Returns the element of the key that has these bytes (`found`); `None` if the key is absent. A key of more than `LONGEST_MIDDLE`
+    /// bytes is always absent, as the index can't have one. The function is not inlined. Else the look-up of a key of any size
+    /// (`KeyIndex::get`), which calls it, would save machine registers on the machine's stack, and a key of at most `LONGEST_WORD` bytes
+    /// (`WordIndex`) does not need that.
     #[inline(never)]
     pub(crate) fn get(&self, key: &[u8]) -> Option<u32>
         ensures { result ≡ found key.now self.now.entries }

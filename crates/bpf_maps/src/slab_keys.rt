@@ -52,10 +52,10 @@ impl SlabKeys {
         }
     }
 
-    /// The key under which the slab has the map of a handle. By the precondition the handle has a map: so it is less than `MAPS`, and its
-    /// word is this key, not `NO_KEY`. Contracts see the words as options: `slice_index_or self.now handle None` is the key of the handle,
-    /// or `None` if it has no map. `get` returns this option, for a caller that does not know whether the handle has a map; here nothing is
-    /// tested.
+    /// The key, a number, under which the slab stores the map of a handle. By the precondition the handle has a map: so it is less than
+    /// `MAPS`, and its number in `words` is this key, not `NO_KEY`, which is for a handle without a map. Contracts see `words` as a list of
+    /// options, `self.now`: `slice_index_or self.now handle None` is the key of the handle, or `None` if it has no map. `get` returns this
+    /// option, for a caller that does not know whether the handle has a map; here nothing is tested.
     #[inline(always)]
     pub(crate) fn key(&self, handle: usize) -> usize
         requires { IsSome (slice_index_or self.now handle None) }
@@ -65,7 +65,8 @@ impl SlabKeys {
         words[handle]
     }
 
-    /// The lowest handle that has no map, and so no key of the slab: a new map gets it. `None` if each of the `MAPS` handles has a map.
+    /// The lowest handle that has no map, which a new map gets. `None` if each of the `MAPS` handles has a map. In the contract, `self.now`
+    /// has for each handle the number under which the slab stores its map (the slab's key), or `None` if the handle has no map.
     pub(crate) fn free_handle(&self) -> Option<usize>
         ensures { result ≡ position is_none self.now }
     {
@@ -93,8 +94,9 @@ impl SlabKeys {
     }
 }
 
-/// What `word`, the entry of a handle in `SlabKeys`, says: the key by which the slab finds the map of this handle, which is `word` itself;
-/// `None` if the handle has no map: then `word` is `NO_KEY`, which is no key of a slab.
+/// The key of a handle from `word`, the number that `SlabKeys` has for this handle. A slab stores a tenant's live maps, and finds each by a
+/// number that it has chosen, here called its key. The result is `word` itself; or `None` if `word` is `NO_KEY`, which is no key of a slab:
+/// then the handle has no map.
 #[inline(always)]
 fn key_of(word: usize) -> Option<usize>
     ensures { result ≡ key_in word }

@@ -25,9 +25,10 @@ pub trait ValueMap {
     /// The keys in order, each with its element, and the elements that are kept apart.
     ghost keys: { Self → KeyTable };
 
-    /// Looks up a key, which has the size of the map's keys (`size`): returns its element, by which the caller finds the value (`element`),
-    /// or `None` if the key is absent. The element is less than `max_entries` (`within`). For the proof, `sound` is the invariant of the
-    /// keys, by which no two keys have the same element.
+    /// Looks up a key, which has the size of the map's keys (`size`). Returns its element, by which the caller finds the value, or `None`
+    /// if the key is absent (`element`; `table_of` is the table of keys as a map from keys to elements). The element is less than
+    /// `max_entries` (`within`). `sound` gives callers the invariant of the table (`IsSound`): an element belongs to at most one key, or is
+    /// kept apart, not both; each key has the map's key size; an array has all its indices as keys.
     fn find(&self, key: &[u8]) -> Option<u32>
         requires size { length key.now ≡ (keys self.now).shape.key_size }
         ensures element { result ≡ look_up (table_of (keys self.now)) key.now }
@@ -98,9 +99,10 @@ pub trait ValueMap {
         Ok(())
     }
 
-    /// Ends a run on this map: the elements that were kept apart, those of deleted keys, are free again, so that `claim` may give them to
-    /// new keys. Keys and shape are unchanged (`ended`), and no two keys have the same element (`sound`). It is called after a run that has
-    /// called the deletion, and at once after a delete command. Takes no memory.
+    /// Ends a run on this map: the elements that were kept apart, those of deleted keys, become free, so that `claim` may give them to new
+    /// keys; keys and shape are unchanged (`ended`). Afterwards the keys are sound: for example, no two have the same element (`sound`). It
+    /// is called after a run that has called the helper bpf_map_delete_elem, and at once after a delete command, since no run is in
+    /// progress then. Takes no memory.
     fn end_run(&mut self)
         ensures ended { keys self.new ≡ after_run (keys self.old) }
         ensures sound { IsSound (keys self.new) };

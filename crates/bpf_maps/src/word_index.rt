@@ -117,8 +117,8 @@ impl WordIndex {
     }
 
     /// Removes a key, which has the size of this index's keys, and returns its element (`element`); `None`, and nothing changes, if the key
-    /// is absent. The other keys keep their order (`left`). The index can still have keys of this size (`size`), with elements less than
-    /// the bound that it had before (`bound`).
+    /// is absent. The other keys keep their elements and their order (`left`). The size of the index's keys (`size`), and the bound below
+    /// which their elements are (`bound`), do not change.
     pub(crate) fn remove(&mut self, key: &[u8]) -> Option<u32>
         requires { length key.now ≡ self.old.size }
         ensures element { result ≡ found key.now self.old.entries }
@@ -154,7 +154,8 @@ fn four_bytes(key: &[u8]) -> u32
     u32::from_le_bytes([key[0], key[1], key[2], key[3]])
 }
 
-/// The number that the eight bytes of a key make, little-endian, by one load.
+/// The number that eight bytes make, little-endian (`number_of`), by one load of the machine. `word_of` passes the bytes of a key, and
+/// `filled_word` those of a shorter key, filled up with zeros.
 #[inline(always)]
 fn eight_bytes(key: &[u8]) -> u64
     requires { length key.now ≡ 8 }

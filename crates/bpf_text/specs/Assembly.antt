@@ -30,9 +30,10 @@ line_slots (Some blank) = 0
 line_slots (Some (label n)) = 0
 line_slots (Some (code form n)) = form_slots form
 
--- the number of slots of all instructions on these lines. A line without an instruction counts 0: a
--- blank one, a label, and None, a line that has none of the forms. Of all lines of a text it is the
--- size of the program, and of those before a line the slot of the line's instruction or label
+-- the number of slots of all instructions on these lines of a program's text: two for a wide load,
+-- one for any other (`line_slots`). A line without an instruction adds 0: a blank line, a label, or
+-- a line that has none of the forms of the grammar (None). For all lines of a text, the sum is the
+-- program's size; for those before a line, it is the slot of this line's instruction or label
 unfoldable pub slots_on : List (Option Line) → ℕ
 slots_on [] = 0
 slots_on (line ∷ lines) = line_slots line + slots_on lines

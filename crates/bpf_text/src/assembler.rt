@@ -52,7 +52,8 @@ struct LineStart {
 }
 
 /// The number of slots of a line's instruction, 1 or 2. 0 if the line has no instruction: it is blank, defines a label, or has none of the
-/// forms, in which case `line` is `None`. By it the assembler counts the slots before each line.
+/// forms. Only in the last case `line` is `None`; the line then has the fault `Syntax`. By these numbers the assembler counts the slots
+/// before each line. `seen_option` is the line, or none, in the type of the definitions.
 fn line_slots(line: &Option<Line<'_>>) -> usize
     ensures value { result ≡ line_slots (seen_option line.now) }
     ensures bound { result ≤ 2 }
@@ -63,8 +64,9 @@ fn line_slots(line: &Option<Line<'_>>) -> usize
     }
 }
 
-/// The name of the label that a line defines, as `done` in `done:`. `None` if the line defines none: it is blank or an instruction, or it
-/// has none of the forms of a line, so that `line` is `None`. The contract has the name as its bytes (`n.now`).
+/// The name of the label that a line defines, as `done` in `done:`. `line` is the line as it was read, `None` if it has none of the forms
+/// of a line. The result is `None` if the line defines no label: if it is blank or an instruction, or if `line` is `None`. The contract has
+/// the name as its bytes (`n.now`), and the line as the value of a definition that `line` represents (`seen_option`).
 fn defined<'a>(line: &Option<Line<'a>>) -> Option<&'a str>
     ensures { option_map (λ n. n.now) result ≡ defined_label (seen_option line.now) }
 {
@@ -122,10 +124,11 @@ fn definition_of_label(labels: &HashMap<&str, LineStart>, name: &str) -> Option<
     labels.get(name).copied()
 }
 
-/// The distance in slots to a label from slot `slot + 1`, the next after a jump at `slot`. `label` is the start of the first line that
-/// defines the label. A label past slot `MAX_SLOTS` counts as one at slot `MAX_SLOTS`, so that the distance fits 16 bits; such a text is
-/// rejected, since the slots of an earlier line go past `MAX_SLOTS` (`TooLong`, unless that line has another fault). `None` counts as a
-/// label at slot 0: either no line defines the label, which is a fault, or the form names no label, and the distance is not used.
+/// The distance in slots from slot `slot + 1`, the next after a jump at `slot`, to a label. `label` is the start of the first line that
+/// defines the label: the label's slot is the number of slots before this line. A slot above `MAX_SLOTS`, the most slots of a program
+/// (4,096), counts as `MAX_SLOTS`, so that the distance fits 16 bits. Such a text is rejected: the slots of a line before the label go past
+/// `MAX_SLOTS`, so that line has the fault `TooLong`, unless it has another one. `None` counts as a label at slot 0: either no line defines
+/// the label, which is a fault, or the form names no label, and the distance is not used. `kept_distance` is this distance, as an integer.
 fn distance(label: Option<LineStart>, slot: usize) -> i16
     requires { slot ≤ MAX_SLOTS }
     ensures { result ≡ kept_distance label slot }
@@ -137,12 +140,13 @@ fn distance(label: Option<LineStart>, slot: usize) -> i16
     to as i16 - (slot as i16 + 1)
 }
 
-/// The instruction of a line's form, or the first fault that applies (`fault`), in this order: `Range`, a number is out of range;
-/// `UnknownLabel`, no line defines the label; `TooLong`, the slots go past `MAX_SLOTS`. By `found` the instruction is written as the form,
-/// with the label's distance from the next slot as the target, and 0 for -0; by `none` no fault applies then. As the form is that of a
-/// line, `Form::insn` is `None` only if a number is out of range. `label` is the definition of the label that the form names; `None` if the
-/// form names none, or no line defines it. `slot` is the number of slots before the form: at most `MAX_SLOTS`, as no earlier line is
-/// `TooLong`.
+/// The instruction of a line's form (`found`), or the first fault that applies (`fault`, by `code_fault`), in this order: `Range`, a number
+/// is out of range; `UnknownLabel`, no line defines the label; `TooLong`, the slots go past `MAX_SLOTS`. By `none` no fault applies if an
+/// instruction is returned. Written as text (`written`), it is the form with 0 for each number -0, and with a distance for the label of a
+/// jump (`resolved`): that from slot `slot + 1` to the label, in slots (`kept_distance`). A label past slot `MAX_SLOTS` counts as one at
+/// this slot, since its text is rejected. As the form is that of a line (`IsForm`), `Form::insn` is `None` only if a number is out of
+/// range. `label` is the definition of the label that the form names; `None` if the form names none, or no line defines it. `slot` is the
+/// number of slots before the form: at most `MAX_SLOTS`, as no earlier line is `TooLong`.
 fn resolve(form: &Form, label: Option<LineStart>, slot: usize) -> Result<Insn, TextFaultKind>
     requires form { IsForm form.now }
     requires room { slot ≤ MAX_SLOTS }
@@ -163,12 +167,13 @@ fn resolve(form: &Form, label: Option<LineStart>, slot: usize) -> Result<Insn, T
     Ok(insn)
 }
 
-/// The instruction on a line, with the distance to the label that it names (`found`), or the line's fault, if it has one (`kept_fault`).
-/// `Ok(None)` for a blank line, and for the first line that defines a label. `line` is `None` if the line has none of the forms: the fault
-/// is `Syntax`. A line whose label an earlier line also defines has the fault `LabelTwice`. An instruction has the first of these that
-/// applies: `Range` if a number is out of range, `UnknownLabel` if no line defines the label that it names, `TooLong` if the slots up to
-/// its end are more than `MAX_SLOTS`. `labels` has the first definition of each label. `here` is the line's index and the number of slots
-/// before it, at most `MAX_SLOTS`, since no earlier line is `TooLong`.
+/// Assembles a line. Returns its instruction (`found`), written as the line's form, with the distance to the label that it names and 0 for
+/// -0. Returns `Ok(None)` for a blank line, and for the first line that defines a label. The error is the line's fault (`fault`); if the
+/// result is `Ok`, the line has none (`none`). `line` is `None` if the line has none of the forms: the fault is `Syntax`. Any other line is
+/// one that a text can have (`form`): for example, its registers are 0 to 10. A line whose label an earlier line also defines has the fault
+/// `LabelTwice`. An instruction has the first of these that applies: `Range` if a number is out of range, `UnknownLabel` if no line defines
+/// the label that it names, `TooLong` if the slots up to its end are more than `MAX_SLOTS`. `labels` has the first definition of each
+/// label. `here` is the line's index and the number of slots before it, at most `MAX_SLOTS` (`room`), since no earlier line is `TooLong`.
 fn instruction(
     labels: &HashMap<&str, LineStart>,
     line: &Option<Line<'_>>,
@@ -199,10 +204,12 @@ fn instruction(
 }
 
 /// The instructions on the lines, in order. `lines` are as `read_lines` parsed them (`formed`), with `None` for a line that has none of the
-/// forms, and `labels` has the first definition of each label on them. The error is the fault of the first line that has one, or `Memory`
-/// at line 0 if out of memory (`fault`). On success no line has a fault (`none`), and the instructions are those of the lines' forms, in
-/// which the distance to a label replaces the label (`forms`). Their slots are as many as those of the lines (`count`), at most `MAX_SLOTS`
-/// (`room`), since the line whose slots go past them has the fault `TooLong`.
+/// forms. `labels` has the first definition of each label on them: `FindsLabels` is about the first `length lines.now` lines, that is, all.
+/// The error is the fault of the first line that has one (`fault_at`, by the line's index from 0), or `Memory` at line 0 if out of memory
+/// (`fault`). On success no line has a fault (`none`), and the instructions are those of the lines' forms, in which the distance to a label
+/// replaces the label (`forms`): `forms_from` gets the lines that define labels, the slot of the first instruction, and the lines with the
+/// instructions. The slots of the instructions are as many as those of the lines (`count`), at most `MAX_SLOTS` (`room`), since the line
+/// whose slots go past them has the fault `TooLong`.
 fn instructions(
     alloc: Global,
     lines: &[Option<Line<'_>>],
@@ -265,10 +272,10 @@ fn program_of(alloc: Global, text: &str) -> Result<Program, TextFault>
     program(alloc, &insns)
 }
 
-/// Assembles a text, line by line.
+/// Assembles a text, line by line. The result is the program of its instructions, in the order of their lines.
 ///
-/// A line is empty, a label `name:`, or one instruction; `//` begins a comment. A label names the slot after it; in a jump
-/// it is replaced by the offset that leads there.
+/// A line is empty, a label `name:`, or one instruction; `//` begins a comment. A label names the slot after it; in a jump it is
+/// replaced by the offset that leads there.
 ///
 /// # Errors
 ///
@@ -277,14 +284,14 @@ fn program_of(alloc: Global, text: &str) -> Result<Program, TextFault>
 /// line's jump names, `LabelTwice` if the line defines a label that an earlier line defines, `TooLong` if the line's slots go past
 /// `MAX_SLOTS`. Faults of the whole text have line 0: `Empty` if no line has a fault and there is no slot, and `Memory` if out of memory.
 pub fn assemble(alloc: Global, text: &str) -> Result<Program, TextFault>
-    // A program that is returned is the one of the text.
+    // No line of the text has a fault, and the program that is returned has the text's instructions, at least one (`IsAssembled`).
     ensures ok { IfOk result (λ program. IsAssembled text.now program) }
-    // The program of the text is returned, unless memory runs out.
+    // If the text has a program (`insns`), it is returned, unless memory runs out (`memory_fault`: `Memory` at line 0).
     ensures only { (insns : List AnyInsn) → IsAssembled text.now insns → MatchResult result
         (λ program. program ≡ insns) (λ e. e ≡ memory_fault) }
-    // A fault that is returned is the one of the text, unless memory runs out.
+    // A fault that is returned is `Memory` or the fault of the text itself, which is of one of the other kinds (`IsOwnFault`).
     ensures fault { IfErr result (λ e. (e ≡ memory_fault) ⊎ IsOwnFault text.now e) }
-    // The fault of the text is returned, unless memory runs out.
+    // If the text itself has a fault, this is returned, unless memory runs out.
     ensures faulty { (fault : AnyFault) → IsOwnFault text.now fault → IsErrAnd result
         (λ e. (e ≡ fault) ⊎ (e ≡ memory_fault)) }
 {

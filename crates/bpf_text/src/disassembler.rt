@@ -80,8 +80,9 @@ fn write_constant(text: &mut String, n: i32) -> Result<(), AllocError>
 }
 
 /// The sign of a number as text, `-` if it is negative, else `+` (`sign`), and its magnitude, the number without its sign, up to 2^31. The
-/// distance of a jump and the offset of an address are written with a sign always, as in `goto +2` and `(r10 - 8)`. `digits`: the decimal
-/// digits of the second result are the bytes that the definition of a line has for the magnitude (`piece`).
+/// distance of a jump and the offset of an address are written with a sign always, as in `goto +2` and `(r10 - 8)`. In the contract
+/// `number_of n` has both for `n`. `digits`: the decimal digits of the second result are the bytes that a line has for the magnitude as a
+/// token (`piece` of `Some`; `piece None` is a space).
 fn signed_parts(n: i32) -> (&'static str, u32)
     ensures sign { result.0.now ≡ sign_name (number_of n).negative }
     ensures digits { decimal result.1 ≡ piece (Some (number (number_of n).magnitude)) }
@@ -209,8 +210,9 @@ fn write_store(
 }
 
 /// Appends the line of the atomic operation `op` with register `src`, on `size` bytes at the address in register `dst` plus `off`, without
-/// a line feed. The size has the name of a load without sign extension (`false`), and both registers have their names of 64 bits, also for
-/// an operation on four bytes. For example, an addition of eight bytes is `lock *(u64 *)(r10 - 8) += r1`.
+/// a line feed: `lock *(SIZE *)(BASE SIGN OFFSET) OP SRC`, as `lock *(u64 *)(r10 - 8) += r1`. SIZE is the unsigned type of `size`, `u32` or
+/// `u64`. BASE is the register `dst`, and SIGN and OFFSET are the sign and the magnitude of `off`. OP is `+=`, `|=`, `&=` or `^=`. Both
+/// registers have their names of 64 bits, also for an operation on four bytes. In the contract, `printed_insn` is this line.
 #[tactic(auto, unfolding(text_line::specs::Written::printed_insn))]
 fn write_atomic(
     text: &mut String,
@@ -243,7 +245,8 @@ fn write_map_fd(text: &mut String, dst: Reg, fd: i32) -> Result<(), AllocError>
 }
 
 /// Appends the line, without a line feed, of a load into `dst` of an address: that of the first value of the map with descriptor `fd`, plus
-/// `off` bytes. An example is `r1 = map_value 3 + 8 ll`.
+/// `off` bytes. An example is `r1 = map_value 3 + 8 ll`. Decoding does not check the descriptor, so `fd` may be negative, and then has a
+/// minus. `AllocError`: out of memory; the first bytes of the line may have been appended then.
 fn write_map_value(text: &mut String, dst: Reg, fd: i32, off: u32) -> Result<(), AllocError>
     ensures { OnOk result (string_bytes text.new ≡ string_bytes text.old
         ++ printed_insn (Insn.MapValue dst fd off)) }

@@ -86,15 +86,16 @@ impl From<AllocError> for TextFault {
 
     ghost from_gives = { λ _ e. e ≡ memory_fault };
 
-    /// `OUT_OF_MEMORY`, which is at line 0, the whole text. It is the result for every error, since an `AllocError` has no data. The
-    /// contract is `from_gives` of this impl: its first argument, `_`, is the error, and its second, `e`, the result.
+    /// The fault `Memory` at line 0, which is the whole text (`OUT_OF_MEMORY`). It is the result for every error, since an `AllocError` has
+    /// no data. In the contract, `from_gives` of this impl, the first argument, `_`, is the error, and the second, `e`, the result.
     fn from(_e: AllocError) -> TextFault {
         OUT_OF_MEMORY
     }
 }
 
-/// For `?` after a call of std that is refused memory for a value and gives this value back in its error, `AllocFailed`: the error becomes
-/// the fault `Memory` at line 0, which is the whole text (`from_gives`), and the value is dropped.
+/// By this conversion `?` turns the error of a call that needed memory for a value and got none, as `Vec::push`, into the fault `Memory`.
+/// The line of the fault is 0, which means the whole text. The error (`AllocFailed`) has the value that was not stored; it is dropped. In
+/// the contract, `from_gives`, the first argument, `_`, is the error, and the second, `e`, is the result.
 impl<T: Drop> From<AllocFailed<T>> for TextFault {
     ghost use Rattle.bpf_text.specs.Fault.{memory_fault};
 

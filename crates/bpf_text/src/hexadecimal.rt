@@ -93,11 +93,12 @@ fn slots_on(alloc: Global, lines: &[&str]) -> Result<Vec<u8>, TextFault>
     Ok(bytes)
 }
 
-/// Appends the eight bytes of a line's slot, sixteen hex digits, with or without blanks around them, to `bytes`, which has the slots of the
-/// earlier lines: at most `MAX_SLOTS`, also after a call without a fault (`room`). For a blank line nothing is appended. The error is the
-/// first fault that applies: `Syntax` if the line is neither blank nor a slot, `TooLong` if `bytes` has `MAX_SLOTS` slots already, `Memory`
-/// if out of memory. Then the caller drops `bytes`. `none`, `fault`: the error is the line's fault by the definition `hex_fault`, unless it
-/// is `Memory`; if there is no error, the line has no such fault.
+/// Appends the bytes on a line (`hex_line`) to `bytes`: the eight bytes of a slot in sixteen hex digits, with or without blanks around
+/// them, or none if the line is blank. `bytes` has the slots of the earlier lines: at most `MAX_SLOTS`, also after a call without a fault
+/// (`room`). The error is the first fault that applies: `Syntax` if the line is neither blank nor a slot (then `hex_line` is `None`),
+/// `TooLong` if `bytes` has `MAX_SLOTS` slots already, `Memory` if out of memory. On any error the caller drops `bytes`. Unless it is
+/// `Memory`, the error is the line's fault by the definition `hex_fault`, which is given how many bytes come before the line (`fault`).
+/// Without an error the line has no such fault (`none`).
 fn append_slot(bytes: &mut Vec<u8>, line: &str) -> Result<(), TextFaultKind>
     requires { vec_len bytes.old ≤ 8 * MAX_SLOTS }
     ensures ok { OnOk result (bytes.new.items ≡ bytes.old.items

@@ -34,7 +34,8 @@ pub fn at_most_one_fault()
 }
 
 /// A law: for each list of instructions that is a program, the text that `disassemble` prints of it is assembled to this program
-/// (`IsAssembled`). The proof of the clause `program` of `disassemble` needs it.
+/// (`IsAssembled`). The proof of the clause `program` of `disassemble` needs it. The body calls two laws, for the proof: each printed line
+/// is read as its instruction (`printed_is_read`), and has no fault in its numbers or labels (`written_in_range`).
 pub fn printed_text_is_assembled()
     ensures { PrintedIsAssembled }
 {

@@ -12,9 +12,10 @@ use Rattle.bpfhost_c.specs.declared.codes.TheConstants.{ERR_TENANT_COUNT, ERR_BU
 use Rattle.bpfhost_c.specs.declared.session.Session.{Session}
 use Rattle.bpfhost_c.specs.Contexts.{contexts_code}
 
--- the state of the host of a handle, the C caller's pointer to a host. An empty handle (None) has
--- that of a host without tenants, so that contracts can name the state before and after each call,
--- also if a call finds or leaves no host
+-- the state of the host to which a handle, the C caller's pointer, leads. The argument is the
+-- session of the handle, which is a host with its last reply and the last part of a save; or None,
+-- if the handle is empty. Then the state is that of a host of 0 tenants, so that contracts can name
+-- the state before and after each call, also if a call finds or leaves no host
 abbrev pub host_of : Option Session → HostState
 host_of None = new_host 0
 host_of (Some s) = s.host
@@ -36,9 +37,10 @@ IsReplyAt None reply at length = ⊥
 IsReplyAt (Some s) reply at length =
     (s.reply.items ≡ reply) × (at ≡ vec_ptr s.reply) × (length ≡ vec_len s.reply)
 
--- `frames` are the bytes that the session stores (`saved`) of the part of a save that was made
--- last: their vector begins at address `at` and has `length` bytes. So the caller in C can read
--- these frames without a copy. False for an empty handle (None).
+-- `frames` are all bytes of the vector `saved` of a session, a host with its last reply and the
+-- last part of a save. The vector begins at address `at` and has `length` bytes. A call that makes
+-- a part of a save puts the frames of this part there, each after its length. So the caller in C
+-- can read them without a copy. False for an empty handle (None), which has no session.
 abbrev pub SavedAt : Option Session → List ℕ → Ptr → ℕ → Type 0
 SavedAt None frames at length = ⊥
 SavedAt (Some s) frames at length =

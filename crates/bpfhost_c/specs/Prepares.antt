@@ -24,10 +24,10 @@ use Rattle.bpfhost_c.specs.declared.session.Session.{Session}
 
 -- ---- the objects that descriptors are to name
 
--- the object of a descriptor that is to name a new map, if a map can be created with the fields
--- given for it. The argument is what `asked_shape` returns for these fields. Ok: the object is a
--- map of this shape. Err, with the error by which MAP_CREATE rejects the fields: there is no object
--- (None), and no program is prepared for this descriptor (`prepare_code`)
+-- the object of a descriptor that is to name a map, if a map can be created with the fields given
+-- for it. The argument is what `asked_shape` returns for these fields. Ok: the object is a map of
+-- this shape. Err, with the error by which MAP_CREATE rejects the fields: there is no object
+-- (None), and no program is prepared for a list of descriptors with this one (`prepare_code`)
 abbrev pub map_of : Result MapShape Errno → Option Target
 map_of (Ok shape) = Some (target.Map shape)
 map_of (Err errno) = None
@@ -78,10 +78,11 @@ abbrev pub install_code : Option Session → Option Accepted → ℤ
 install_code session program =
     if is_none session then ERR_NO_HOST else (if is_none program then ERR_NO_PROGRAM else DONE)
 
--- C's handle of a prepared program has one (not None), and this fits the tenant in this state: each
--- descriptor of the program's maps names a map of the shape with which the program was accepted. A
--- tenant that is not served has no state (None): then any program fits, since none is opened there.
--- If an install returns DONE, this holds; if it returns ERR_STALE, this does not hold
+-- C's handle of a prepared program has a program, and this program fits the tenant in this state:
+-- each descriptor of the program's maps names a map of the shape with which the program was
+-- accepted. For a handle without a program (None) this is false. A tenant that is not served has no
+-- state (None): then any program fits, since none is opened there. If an install returns DONE, the
+-- program fits; if it returns ERR_STALE, it does not
 abbrev pub FitsPrepared : Option Accepted → Option TenantState → Type 0
 FitsPrepared None s = ⊥
 FitsPrepared (Some a) s = FitsTenant a s

@@ -14,9 +14,11 @@ use host_core::GIVEN_WORDS;
 use std::alloc::{AllocError, Global};
 use std::borrow::CowSlice;
 
-/// `words` as contexts of `GIVEN_WORDS` words each, without a copy; `None` if the last one is cut off (`some`). A run is given exactly so
-/// many words: all of the context but the first, the packet's length. So each context is given as it is: no word is missing or left out
-/// (`contexts`). `known`: in no context a word after these is other than 0, since none has more words; `given_contexts` needs that.
+/// `words` as contexts of `GIVEN_WORDS` (ten) words each, one after another, without a copy; `None` if the last one is cut off (`some`). A
+/// run is given ten words from outside: all words of its context but the first, the packet's length. So each context is given as it is:
+/// `fitted_all`, which gives a short context zeros and leaves out the later words of a long one, changes none (`contexts`). `known`: no
+/// context has a word other than 0 after its first ten (`have_known_words`), since it has no further word. The caller, `given_contexts`,
+/// promises this of the contexts that it returns.
 #[tactic(auto, using(crate::proofs::Given::as_given, crate::proofs::Given::all_known))]
 fn as_given(words: &[u32]) -> Option<&[[u32; GIVEN_WORDS]]>
     ensures some { is_some result ≡ nat_eq (length words.now % given_words) 0 }
@@ -84,9 +86,10 @@ fn has_only_known_words(words: &[u32]) -> bool
     true
 }
 
-/// Whether the library knows all words of the first `count` contexts in `words`, which has `size` words for each: in each context, all
-/// words after the first `GIVEN_WORDS`, which are all that a run is given, are 0. If not, the call from C returns `ERR_TOO_BIG`. The caller
-/// counts only whole contexts, so `words` has all of them, as the precondition requires.
+/// Whether all words after the first `GIVEN_WORDS` are 0 in each of the first `count` contexts in `words`, which has `size` words for each,
+/// one context after another. A run is given only the first `GIVEN_WORDS` words of a context. A newer caller may have more; what these mean
+/// is not known to the library, so if one of them is not 0, the call from C returns `ERR_TOO_BIG`. The caller counts only whole contexts,
+/// so `words` has all of them, as the precondition requires.
 #[tactic(auto, using(crate::proofs::Loops::known_step, crate::proofs::Loops::room_step))]
 fn have_only_known_words(words: &[u32], size: usize, count: usize) -> bool
     requires { count * size ≤ length words.now }
@@ -104,12 +107,13 @@ fn have_only_known_words(words: &[u32], size: usize, count: usize) -> bool
 }
 
 /// Copies of the contexts in `words`, of `size` words each, one after another (`contexts`). A copy has the words that a run is given: the
-/// first `GIVEN_WORDS` of the context, and zeros for those that it does not have. Called only if `size` is not `GIVEN_WORDS`.
+/// first ten (`GIVEN_WORDS`) of the context, and zeros for those that it does not have. `given_contexts` calls this only if `size` is not
+/// `GIVEN_WORDS`: contexts of that size need no copy.
 ///
 /// `Err` is the code that C gets: `ERR_SIZE` if `size` is 0 or the last context is cut off; else `ERR_TOO_BIG` if a context has a word
-/// other than 0 after its first `GIVEN_WORDS`; else `ERR_NO_MEMORY` if out of memory. `contexts_code` is this code without regard to
-/// memory: `DONE` if neither of the first two applies, as when copies are returned (`known`) or the code is `ERR_NO_MEMORY` (`code`). Any
-/// other code in `Err` equals `contexts_code`, and none is `DONE` (`code`).
+/// other than 0 after its first `GIVEN_WORDS`; else `ERR_NO_MEMORY` if out of memory. `contexts_code` is the code by `size` and `words`,
+/// without regard to memory: `ERR_SIZE`, `ERR_TOO_BIG`, or `DONE` if neither applies. If copies are returned, it is `DONE` (`known`). By
+/// `code` it is also `DONE` if the error is `ERR_NO_MEMORY`; any other error equals it; and no error is `DONE`.
 fn copied_contexts(
     alloc: Global,
     words: &[u32],
@@ -138,9 +142,9 @@ fn copied_contexts(
 /// 0 for each word that it does not have (`contexts`). If `size` is `GIVEN_WORDS`, the words are not copied.
 ///
 /// `Err` is the code that C gets: `ERR_SIZE` if `size` is 0 or the last context is cut off, else `ERR_TOO_BIG` if a context has a word
-/// other than 0 after its first `GIVEN_WORDS`, else `ERR_NO_MEMORY` if out of memory. `contexts_code` is the code of `size` and `words` if
-/// memory is not refused, `DONE` if they have no fault: it is `DONE` if contexts are returned (`known`), and also if the error is
-/// `ERR_NO_MEMORY`; any other error is this code, and none is `DONE` (`code`).
+/// other than 0 after its first `GIVEN_WORDS`, else `ERR_NO_MEMORY` if out of memory. `contexts_code` is the code for `size` and `words` if
+/// memory suffices: one of the first two, or `DONE` if neither applies. It is `DONE` if contexts are returned (`known`). By `code` an error
+/// is never `DONE`. If it is `ERR_NO_MEMORY`, `contexts_code` is `DONE`; any other error is `contexts_code`.
 pub(crate) fn given_contexts(
     alloc: Global,
     words: &[u32],

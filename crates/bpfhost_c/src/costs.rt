@@ -18,8 +18,8 @@ pub struct ProgramCost {
     pub calls: u32,
 }
 
-/// The cost of a program as C has it; both numbers are 0 if there is no program (`None`). A program has at least one instruction, so 0
-/// instructions are never a program's.
+/// The cost of a program for C: the most instructions, and the most calls of helpers, on a path through it. Both numbers are 0 if there is
+/// no program (`None`). By this C recognizes that there is none, since the cost of a program has at least one instruction.
 fn shown(cost: Option<Cost>) -> ProgramCost
     ensures { result ≡ shown_cost cost }
 {

@@ -25,8 +25,9 @@ impl Model for Handle {
 }
 
 impl Handle {
-    /// A handle with no session, as `take` and `bpfhost_c_free` leave it: its pointer is null, and it owns nothing. Nothing is allocated;
-    /// `alloc` only fills the field.
+    /// A handle with no session: its pointer is null, and it owns nothing. A session is a host with its last reply and the last part of a
+    /// save. `take`, which takes the session out of a handle, and `bpfhost_c_free`, which frees it, leave such a handle. Nothing is
+    /// allocated; `alloc` only fills the field.
     pub(crate) fn empty(alloc: Global) -> Handle
         ensures { result.session ≡ None }
     {
@@ -36,9 +37,9 @@ impl Handle {
         }
     }
 
-    /// Makes a handle, for `put`, that owns the session of a box: a host with its last reply and the last part of a save. `raw` is this box
-    /// as a raw pointer (`RawBox::from_box`), which is cast to a pointer to bytes, and `raw.value` the session. `into_raw_box` is the
-    /// inverse; a handle that is dropped frees its session.
+    /// Makes a handle that owns the session of a box, a host with its last reply and the last part of a save. `raw` is this box as a raw
+    /// pointer (`RawBox::from_box`), and `raw.value` the session; the handle gets its pointer and its allocator. A handle is opaque to C,
+    /// so it has the pointer as one to bytes, and `into_raw_box`, the inverse, casts it back. A handle that is dropped frees its session.
     pub(crate) fn from_raw_box(raw: RawBox<Session, Global>) -> Handle
         ensures { result.session ≡ Some raw.value }
     {
@@ -66,9 +67,10 @@ impl Handle {
         })
     }
 
-    /// Takes the session out of the handle and returns it in a box (`session`), so that the handle is empty (`empty`); `None` if it was
-    /// empty before. A handle has only a raw pointer, so each function of the library that needs the session, even to read it, takes it
-    /// out, and then puts it back (`put`). `alloc` only fills a field of the empty handle.
+    /// Takes the session, a host with its last reply and the last part of a save, out of the handle and returns it in a box (`session`).
+    /// Then the handle is empty (`empty`). `None` if it was empty before. A handle has only a raw pointer to its session, so each function
+    /// of the library that needs the session, even to read it, takes it out, and then puts it back (`put`). `alloc` only fills a field of
+    /// the empty handle.
     pub(crate) fn take(&mut self, alloc: Global) -> Option<Box<Session>>
         ensures session { option_map (λ b. b.value) result ≡ self.old.session }
         ensures empty { self.new.session ≡ None }
@@ -89,8 +91,9 @@ impl Handle {
     }
 }
 
-/// Frees the session of a handle that is dropped. Most handles that are dropped are empty: `put` drops the one that it replaces, which
-/// `take` has emptied. So `drop` of `Handle`, a test for null, is inlined, and this function, which only `bpfhost_c_free` needs, is not.
+/// Frees `session`, a host with its last reply and the last part of a save, of a handle that is dropped. Most handles that are dropped are
+/// empty, without a session: `put` drops the handle that it replaces, which `take` has left empty. So `drop` of `Handle`, a test for null,
+/// is inlined. This function, which only `bpfhost_c_free` needs, is not.
 #[cold]
 #[inline(never)]
 fn free(session: Box<Session>) {
@@ -98,9 +101,9 @@ fn free(session: Box<Session>) {
 }
 
 impl Drop for Handle {
-    /// Frees the session of the handle, if it has one. Most handles that are dropped are empty: the functions for C take the session out,
-    /// and `put`, which puts it back, drops the empty handle. So this function, a test for null, is inlined, and `free`, which only a
-    /// handle with a session needs, is not.
+    /// Frees the session of the handle, if it has one: a host with its last reply and the last part of a save. Most handles that are
+    /// dropped are empty: the functions for C take the session out, and `put`, which puts it back, drops the empty handle. So this
+    /// function, a test for null (`into_raw_box`), is inlined, and `free`, which only a handle with a session needs, is not.
     #[inline(always)]
     fn drop(self) {
         if let Some(raw) = self.into_raw_box() {

@@ -25,8 +25,9 @@ impl Model for Prepared {
 }
 
 impl Prepared {
-    /// A handle with no program: its pointer is null, and it owns nothing. `take` and `bpfhost_c_prepared_free` replace with it the
-    /// handle that they are given. Nothing is allocated; `alloc` only fills the field.
+    /// A handle with no program: its pointer is null, and it owns nothing. `take`, which moves the program out of a handle, and
+    /// `bpfhost_c_prepared_free`, which frees the program, replace the handle with this one. So a later call or drop finds null, and no
+    /// pointer to that program. Nothing is allocated; `alloc` only fills the field.
     pub(crate) fn empty(alloc: Global) -> Prepared
         ensures { result.program ≡ None }
     {
@@ -49,8 +50,10 @@ impl Prepared {
         }
     }
 
-    /// Consumes the handle, and returns the box of its program as a raw pointer. The caller then owns the program, and frees it by
-    /// `into_box`, which makes the pointer a box again. `None` if the handle is empty: its pointer is null.
+    /// Consumes the handle, and returns the box of its program as a raw pointer; `None` if the handle is empty: its pointer is null. The
+    /// caller then owns the program, and makes the pointer a box again by `into_box`. For contracts, `program` of the handle and `value` of
+    /// the raw box are the program that each owns. The handle has its pointer as one to bytes, since its type is opaque to C, so the
+    /// pointer is cast back.
     pub(crate) fn into_raw_box(self) -> Option<RawBox<Verified, Global>>
         ensures { option_map (λ raw. raw.value) result ≡ self.program }
     {

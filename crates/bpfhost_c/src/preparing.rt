@@ -129,8 +129,9 @@ const NOT_REFUSED: PreparedRefusal = PreparedRefusal {
 };
 
 /// Why slots are refused, as in the reply to PROG_LOAD: the negated error number (`status`), the slot (`slot`), and the number of the
-/// reason (`reason`). A slot above 2^32 - 1, which has no room in the field `slot`, is written as 2^32 - 1. Only bytes that end within a
-/// slot and are more than 2^35 are refused at such a slot: the number of their whole slots.
+/// reason (`reason`). A slot above 2^32 - 1 does not fit in the field `slot`, and is written as 2^32 - 1. Only one fault can have such a
+/// slot: the length of the bytes is no multiple of eight. Its slot is the number of whole slots, which is above 2^32 - 1 if there are more
+/// than 2^35 bytes.
 fn shown_refusal(refusal: Refusal) -> PreparedRefusal
     ensures status { result.status ≡ status_of (cause_errno refusal.cause) }
     ensures slot { result.slot ≡ min refusal.slot 4294967295 }

@@ -18,8 +18,9 @@ impl<T, A: Allocator> Model for RawBox<T, A> {
 }
 
 impl<T: Drop, A: Allocator> RawBox<T, A> {
-    /// Makes a box a raw pointer, which a handle that C holds can have as a field. The pointer leads to what was in the box (`value` of
-    /// both). That is not freed until `into_box` makes the pointer a box again.
+    /// Makes a box a raw pointer to what is in it, with the box's allocator; `value` of the box and of the result is what is in it. A
+    /// handle for C (`Handle`, `Prepared`) has the pointer and the allocator as fields. What was in the box is not freed until `into_box`
+    /// makes the pointer a box again.
     pub(crate) fn from_box(value: Box<T, A>) -> RawBox<T, A>
         ensures { result.value ≡ value.value }
     {
@@ -27,7 +28,8 @@ impl<T: Drop, A: Allocator> RawBox<T, A> {
         RawBox { at, alloc }
     }
 
-    /// The box of the raw pointer. `Box::from_raw` is allowed, since a `RawBox` owns all that a box with the same pointer owns.
+    /// Makes the raw pointer a box again, with the same content (`value`): the inverse of `from_box`. The unsafe `Box::from_raw` requires
+    /// that the caller owns what is at the pointer, and the right to free its memory with `alloc`. A `RawBox` owns both, like a box.
     pub(crate) fn into_box(self) -> Box<T, A>
         ensures { result.value ≡ self.value }
     {

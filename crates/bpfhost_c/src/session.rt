@@ -54,10 +54,11 @@ pub(crate) struct Ran {
     pub(crate) packets: usize,
 }
 
-/// The contexts with which `run_bounded` runs the first `count` of the `packets` packets of a batch, as many as a bound on instructions
-/// allows. If `contexts` has one for each packet, the result is its first `count` contexts. Else the result is all of `contexts`: a single
-/// context is for all packets, and with any other number of contexts the batch is rejected. `count` is what `Session::allowed_packets`
-/// returns: at most `packets`. For a batch that is to be rejected it is `packets`, as fewer packets could have one context each.
+/// The contexts for the first `count` of the `packets` packets of a batch, those that `run_bounded` runs. `count` is the number of packets
+/// that a bound on executed instructions allows, at most `packets` (`Session::allowed_packets`). If `contexts` has one for each packet, the
+/// result is its first `count` contexts. Else the result is all of `contexts`: a single context is for all packets, and with any other
+/// number of contexts `run_packets` rejects the batch. For such a batch `count` is `packets`: with fewer packets, each could have one
+/// context, and the batch would be run.
 fn front_contexts(
     contexts: &[[u32; GIVEN_WORDS]],
     packets: usize,
@@ -99,17 +100,18 @@ impl Session {
     }
 
     /// Handles a frame (what follows its length field), whose reply is then in `reply`, with at most `LONGEST_REPLY` bytes (`bound`). The
-    /// reply and the next state of the frame's tenant are those of its machine, all other tenants are unchanged, and no test run faults
-    /// (`handled`). The tenant's births, the record of its live maps and open programs, change as the command says; no other births change
-    /// (`recorded`).
+    /// reply and the next state of the frame's tenant are those of its machine, with or without a refusal of memory; all other tenants are
+    /// unchanged, and no test run faults (`handled`). If the frame has no head, or its tenant is not served, the reply is an error, and no
+    /// tenant changes. The tenant's births, the record of its live maps and open programs, change as the command says; no other births
+    /// change (`recorded`).
     pub(crate) fn handle(&mut self, frame: &[u8])
         ensures handled { Handles self.old.host.states frame.now self.new.reply.items
             self.new.host.states }
         ensures recorded { Records frame.now self.new.reply.items self.old.host self.new.host }
         ensures bound { length self.new.reply.items ≤ longest_reply }
     {
-        // `ReplyBuf` takes the vector, and gives it back afterwards. It has the capacity for the longest reply (`room`), so that
-        // `from_vec` never returns `None`.
+        // `ReplyBuf` takes the vector, and gives it back afterwards. By `room`, the ghost field of `Session`, it has the capacity for the
+        // longest reply, so `from_vec` never returns `None`.
         let room = replace(&mut self.reply, Vec::new(self.alloc));
         let Some(mut reply) = ReplyBuf::from_vec(room) else {
             unreachable!()
@@ -195,10 +197,11 @@ impl Session {
 
     /// How many packets at the front of a batch a `bound` on executed instructions allows. The batch has `contexts` contexts and `packets`
     /// packets, for the program at descriptor `fd` of `tenant`. By `allowed` (`Host::allowed_packets`) the result is `bound` divided by the
-    /// weight of a run and rounded down, but at least 1, and at most `packets` (`few`); the weight is the most instructions that a run
-    /// executes, plus `CALL_WEIGHT` of `tenant` for each of the most calls that a run makes. The result is `packets` if `bound` is 0, or if
-    /// the batch is rejected as a whole: `fd` names no program, `tenant` is not served, or the batch has neither one context nor one for
-    /// each packet (`whole`). With fewer packets such a batch could have one context for each, and would be run.
+    /// weight of a run and rounded down, but at least 1, and at most `packets` (`few`). The weight is the most instructions that a run
+    /// executes, plus 128 (`CALL_WEIGHT` of the crate `tenant`) for each of the most calls that a run makes. The result is `packets` if
+    /// `bound` is 0, and also if the batch is rejected as a whole: if `fd` names no program, or `tenant` is not served, or if the batch has
+    /// neither one context nor one for each packet (`whole`; `are_contexts` is then false). Then no packet may be left out: with as many
+    /// packets as contexts the batch would be run.
     fn allowed_packets(
         &self,
         tenant: usize,
@@ -219,12 +222,13 @@ impl Session {
     }
 
     /// Runs the program at descriptor `fd` of a tenant on the first packets of a batch, as many as `allowed_packets` returns for `bound`.
-    /// This is a bound on the instructions that all runs together may execute, in which a call of a helper counts for more than one; one
-    /// packet is always allowed, and 0 is no bound. If the batch has a context for each packet, those of the first packets are taken; a
-    /// single context is for all (`front_contexts`). With any other number of contexts no packet is left out, and `run_packets` rejects the
-    /// batch. The results are written to the front of `results`, and `Ran` has status 0 and the number of packets that were run. If
-    /// `run_packets` rejects them, `Ran` has the status of the error, its negated number, and 0 packets; then nothing has changed. The
-    /// record of births, which a save needs, never changes (`births`).
+    /// `bound` limits the instructions that all these runs together may execute; each call of a helper counts for `CALL_WEIGHT` (of
+    /// `tenant`) more. One packet is always allowed, and 0 is no bound. In `batch`, the packets lie one after another in `bytes`, and
+    /// `ends` has for each the number of bytes up to its end. A single context is for all packets; if there is one for each, those of the
+    /// first packets are taken (`front_contexts`). With any other number of contexts no packet is left out, and `run_packets` rejects the
+    /// batch. The number that each run returns is written to the front of `results`, and `Ran` has status 0 and the number of packets that
+    /// were run. If `run_packets` rejects the packets, also because `results` is too short for them, `Ran` has the negated number of the
+    /// error as its status, and 0 packets; then nothing has changed. The record of births, which a save needs, never changes (`births`).
     pub(crate) fn run_bounded(
         &mut self,
         tenant: usize,
@@ -252,17 +256,19 @@ impl Session {
         Ran { status, packets }
     }
 
-    /// Runs the program at descriptor `fd` of a tenant on the first packets of a batch. `bound` limits the instructions that these runs
-    /// together may execute, in which a call of a helper counts for more than one; one packet is always allowed, and 0 is no bound
-    /// (`allowed_packets`). Each context has `batch.size` words, and a run is given `GIVEN_WORDS`: missing words are 0, and words beyond
-    /// that number are left out, and have to be 0 (`contexts_of`). Returns `Ran` with status 0 and the number of packets that were run;
-    /// their results are at the front of `results`, which needs room only for these. If `run_bounded` rejects the batch, `Ran` has the
-    /// negated error number and 0 packets, and nothing has changed (`done`). No births of the host change, since a run opens nothing
-    /// (`births`).
+    /// Runs the program at descriptor `fd` of a tenant on the first packets of a batch. In `batch`, the packets lie one after another in
+    /// `bytes`, `ends` has for each the number of bytes up to its end, and `words` has one context for all packets, or one for each, of
+    /// `size` words. A run is given `GIVEN_WORDS` words of its context: missing ones are 0, and words beyond that number are left out, and
+    /// have to be 0 (`contexts_of`). `bound` limits the instructions that these runs together may execute, in which a call of a helper
+    /// counts for more than one; one packet is always allowed, and 0 is no bound (`allowed_packets`). Returns `Ran` with status 0 and the
+    /// number of packets that were run; their results are at the front of `results`, which needs room only for these. If `run_bounded`
+    /// rejects the batch, `Ran` has the negated error number and 0 packets, and nothing has changed. All this is `RunsBounded` (`done`). No
+    /// births of the host change, since a run opens nothing (`births`).
     ///
     /// `Err`: the code that C gets. `ERR_SIZE`: the size is 0 or the last context is cut off. `ERR_TOO_BIG`: a context has a word that no
-    /// run is given and that is not 0. `ERR_NO_MEMORY`: out of memory, for contexts without these faults (`code`). After `Err` nothing is
-    /// changed (`session`, `results`); after `Ok` the contexts have neither fault (`known`).
+    /// run is given and that is not 0. `ERR_NO_MEMORY`: out of memory, for contexts without these faults. `contexts_code` is the code of
+    /// the contexts without regard to memory: `DONE` if they have neither fault, as after `Ok` (`known`) and for `ERR_NO_MEMORY`; any other
+    /// error is this code (`code`). After `Err` nothing is changed (`session`, `results`).
     pub(crate) fn run_sized(
         &mut self,
         tenant: usize,

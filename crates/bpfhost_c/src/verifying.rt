@@ -47,11 +47,12 @@ fn write_text(text: &[u8], room: &mut [u8])
     room[count] = 0;
 }
 
-/// The log of the program that the bytes of `slots` spell, and whether the program is accepted. By `style` the log has a line for each
-/// instruction with what is new before it (`New`) or with all that is known (`Whole`), or it is a graph (`Graph`). If the bytes spell no
-/// program, the log is one line, their refusal, and `is_accepted` is false. The program is verified with the objects that the descriptors
-/// of `tenant` name; for a tenant that is not served no descriptor is open. The contract says whether the program is accepted, and of
-/// lines, but not of a graph, that they end in the verdict. `AllocError`: out of memory, which is never a refusal.
+/// The log of the program that the bytes of `slots` spell (`text`), and whether the program is accepted (`is_accepted`). By `style` the log
+/// has lines with what is new before each instruction (`New`) or with all that is known there (`Whole`), or it is a graph (`Graph`). If the
+/// bytes spell no program, the log is one line, their refusal, and `is_accepted` is false. The program is verified with the objects that
+/// the descriptors of `tenant` name; for a tenant that is not served no descriptor is open (`targets_if_served`). By the contract
+/// (`IsLogOfSlots`) `is_accepted` is the verdict, and a log in lines ends in the verdict; of a graph nothing more is promised.
+/// `AllocError`: out of memory; then there is no verdict.
 fn log_in(
     alloc: Global,
     host: &Host,

@@ -52,7 +52,8 @@ fn named_program(text: &str) -> Result<Named, CaseError> {
 }
 
 impl Descriptors {
-    /// Descriptors of which none is open.
+    /// Descriptors of which none is open, as before the first line of a file of cases. The list of the open ones, and the texts that `play`
+    /// returns, take memory from `alloc`.
     pub fn new(alloc: Global) -> Descriptors {
         Descriptors {
             alloc,

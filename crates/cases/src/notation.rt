@@ -14,8 +14,9 @@ pub const GROUP: usize = 4;
 /// The greatest COUNT of a repetition `{COUNT*PART}`: as many as the program's longest input has bytes.
 const MOST_TIMES: u32 = 1_048_576;
 
-/// A number of repetitions, the COUNT of `{COUNT*PART}`, from its decimal digits, before which a `+` is allowed; 0 is allowed too. A line
-/// `exits` of `cases_texts` has such a number of exits. `Notation` if `digits` is no such number, or it is above `MOST_TIMES`.
+/// The number of repetitions that decimal digits give, the COUNT of `{COUNT*PART}` in the notation of cases. It may be 0, and a `+` before
+/// the digits is allowed. `cases_texts` reads COUNT of its line `exits COUNT` by this too, and makes a program of so many exit
+/// instructions. `Notation` if `digits` is no such number, or it is above `MOST_TIMES` (1,048,576).
 pub fn times(digits: &str) -> Result<u32, CaseError> {
     match digits.parse::<u32>() {
         Ok(times) if times <= MOST_TIMES => Ok(times),
@@ -86,10 +87,11 @@ fn append_times(
     Ok(())
 }
 
-/// Appends the bytes of a repetition, `{COUNT*PART}`, and of the text after the repetition. `text` is what follows the `{`, up to the next
-/// `{` or the end. The bytes of PART are appended COUNT times, and each `#` in them, even one that `\x23` gives, becomes the number of
-/// repetitions before, in decimal digits. `Notation` if the `}` or the `*` is missing, COUNT is no number or above `MOST_TIMES`, or two
-/// bytes can't be split off after a `\x`; `Digits` if the two bytes are no hex digits; `Memory` if out of memory.
+/// Appends the bytes of a repetition, `{COUNT*PART}`, and of the text after its `}`. `text` is what follows the `{`, up to the next `{` or
+/// the end. In PART and in the text after the `}`, `;` gives a line feed, and `\xHH` the byte with these two hex digits. The bytes of PART
+/// are appended COUNT times, and each `#` in them, even one that `\x23` gives, becomes the number of repetitions before, in decimal digits.
+/// `Notation` if the `}` or the `*` is missing, if COUNT is no number or above `MOST_TIMES`, or if two bytes can't be split off after a
+/// `\x`, since fewer follow or a character would be cut; `Digits` if the two bytes are no hex digits; `Memory` if out of memory.
 fn append_repeated(alloc: Global, bytes: &mut Vec<u8>, text: &str) -> Result<(), CaseError> {
     let (repetition, rest) = text.split_once('}').ok_or(CaseError::Notation)?;
     let (digits, part) = repetition.split_once('*').ok_or(CaseError::Notation)?;
@@ -124,10 +126,11 @@ pub fn text_of(bytes: &[u8]) -> Result<&str, CaseError> {
     str::from_utf8(bytes).map_err(|_| CaseError::NoText)
 }
 
-/// The bytes of the hex digits that `text` represents in the notation of cases (`written`): a repetition may give digits, as `{2*0a}` gives
-/// `0a0a`, two bytes. Spaces between the digits are left out. `Notation` or `Digits` if `text` is not in the notation; then `NoText` if the
-/// bytes that it gives are not UTF-8; then `Digits` if one of their characters is neither a space nor a hex digit, or if the number of
-/// digits is odd. Out of memory is `Digits` in the decoder of the digits (`hex::decode`), else `Memory`.
+/// The bytes of the hex digits that `text` gives in the notation of cases (`written`). There `{COUNT*PART}` gives PART, COUNT times: so
+/// `{2*0a}` gives the digits `0a0a`, two bytes. Spaces between the digits are left out. The error is `Notation` if a repetition is wrong,
+/// or if two bytes can't be split off after a `\x`, and `Digits` if these two are no hex digits. Else it is `NoText` if what `text` gives
+/// is not UTF-8; then `Digits` if one of its characters is neither a space nor a hex digit, or if the number of digits is odd. Out of
+/// memory is `Digits` in the decoder of the digits (`hex::decode`), else `Memory`.
 pub fn bytes_of(alloc: Global, text: &str) -> Result<Vec<u8>, CaseError> {
     let text = written(alloc, text)?;
     let digits = text_of(&text)?;
@@ -137,9 +140,10 @@ pub fn bytes_of(alloc: Global, text: &str) -> Result<Vec<u8>, CaseError> {
 }
 
 /// The bytes of a map's key or value, `size` bytes, from hex digits in the notation of cases (`bytes_of`): blanks may separate the digits,
-/// and a repetition `{COUNT*PART}` may give them. `Notation` if the notation is wrong; `NoText` if the digits are not UTF-8; `Digits` if a
-/// character is no hex digit or the number of digits is odd; then `Size` if there are not `size` bytes. If out of memory, `Memory`, or
-/// `Digits` from the decoder of the digits.
+/// and a repetition `{COUNT*PART}` may give them. `Notation` if a repetition is wrong, or two bytes can't be split off after a `\x`;
+/// `NoText` if the bytes are not UTF-8, which only an escape `\xHH` can cause; `Digits` if a character is no hex digit or the number of
+/// digits is odd; then `Size` if there are not `size` bytes. Out of memory is `Digits` in the decoder of the digits (`hex::decode`), else
+/// `Memory`.
 pub fn bytes_of_size(alloc: Global, text: &str, size: u32) -> Result<Vec<u8>, CaseError>
     ensures { IfOk result (λ bytes. length bytes.items ≡ size) }
 {

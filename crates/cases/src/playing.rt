@@ -12,7 +12,8 @@ pub trait Player {
     fn play(&mut self, line: &str) -> Result<String, CaseError>;
 }
 
-/// Writes the lines of an outcome, `answer`, each indented by two blanks.
+/// Writes the lines of `answer`, the outcome of a line that was played, to standard output, each indented by two blanks. `rt` is the
+/// runtime that `main` was given. Returns an error only if standard output fails.
 fn print_indented<R: Print>(rt: &R, answer: &str) -> io::Result<()> {
     for line in answer.lines() {
         println!(rt; "  {line}")?;

@@ -6,8 +6,9 @@ use std::alloc::{AllocError, Global};
 /// The most bytes that are all written in an outcome; of more, it has the first 16, so that its line stays short.
 const MOST_WRITTEN: usize = 64;
 
-/// The hex digits of bytes, with a blank between groups of `GROUP` bytes. Of more than `MOST_WRITTEN` bytes, only those of the first 16,
-/// and then the number of all bytes, so that the line of an outcome is short. `AllocError`: out of memory.
+/// The hex digits of bytes, with a blank between groups of four bytes (`GROUP`). Of more than 64 bytes (`MOST_WRITTEN`), only those of the
+/// first 16, and then ` .. of N bytes` with the number N of all bytes. So the line that is written below a case as its outcome is short.
+/// `AllocError`: out of memory.
 pub fn shown(alloc: Global, bytes: &[u8]) -> Result<String, AllocError> {
     if bytes.len() <= MOST_WRITTEN {
         return hex_groups(alloc, bytes, GROUP);

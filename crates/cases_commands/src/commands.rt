@@ -6,8 +6,10 @@ use command_frames::{BadFrame, Command, GIVEN_WORDS, HEAD_LENGTH, head, parse};
 use std::alloc::{AllocError, Global};
 
 /// A case of `head`: the tenant and the command number of a frame, as `tenant 1, command 5`, or `no head` if the frame has fewer than four
-/// bytes. `digits` are the frame's bytes in hex digits; `Notation`, `NoText` or `Digits` if they are anything else (`bytes_of`), `Memory`
-/// if out of memory.
+/// bytes. `digits` are the frame's bytes in hex digits, in the notation of cases (`bytes_of`); spaces between the digits are left out.
+/// `Notation` if `digits` breaks the rules of this notation, `NoText` if the bytes that it gives are not UTF-8, `Digits` if one of their
+/// characters is neither a space nor a hex digit, if the number of digits is odd, or if the two bytes after a `\x` are no hex digits. Out
+/// of memory is `Digits` in the decoder of the digits, else `Memory`.
 pub fn head_line(alloc: Global, digits: &str) -> Result<String, CaseError> {
     let frame = bytes_of(alloc, digits)?;
     let Some(head) = head(&frame) else {
@@ -43,8 +45,9 @@ fn number_and_bytes(
     format!(in alloc; "{name} {fd} [{bytes}]")
 }
 
-/// The text of a command, for the outcome of a case: its name, then its fields in the order of `Command`. Numbers are in decimal. Bytes, as
-/// `shown` writes them, and the context words of a test run are in brackets. `AllocError`: out of memory.
+/// The text of a command, for the outcome of a case of `parse`: its name, then its fields in the order of `Command`, as
+/// `update 3 0 [01020304 05060708]`. Numbers are in decimal. The context words of a test run are in brackets. So are bytes: they are hex
+/// digits, of more than 64 bytes only those of the first 16, with the number of all (`shown`). `AllocError`: out of memory.
 fn command_text(alloc: Global, command: Command<'_>) -> Result<String, AllocError> {
     match command {
         Command::MapCreate {
@@ -76,9 +79,11 @@ fn command_text(alloc: Global, command: Command<'_>) -> Result<String, AllocErro
 }
 
 /// A case of `parse`: the text of the command that a frame has, with its fields, as `close 3`. If `parse` rejects the frame, the text is
-/// why: `too long`; `unknown` if no command has the frame's number; or `wrong body` if its body has another length than the command needs.
-/// For a frame of fewer than four bytes `parse` is not called, and the text is `no head`. `digits` are the frame's bytes in hex digits;
-/// `Notation`, `NoText` or `Digits` if they are anything else (`bytes_of`), `Memory` if out of memory.
+/// why: `too long` if it has more than `LONGEST_FRAME` bytes; `unknown` if no command has its number; or `wrong body` if the bytes after
+/// the head are too few for the command, or, for MAP_CREATE and CLOSE, too many. A frame of fewer bytes than a head, four, is not parsed:
+/// the text is `no head`. `digits` are the frame's bytes in hex digits (`bytes_of`). `Notation` if the notation of cases is wrong in them;
+/// `NoText` if what they give is not UTF-8; `Digits` if a character is neither a space nor a hex digit, or the number of digits is odd. If
+/// out of memory, `Memory`, or `Digits` from the decoder of the digits.
 pub fn parse_line(alloc: Global, digits: &str) -> Result<String, CaseError> {
     let frame = bytes_of(alloc, digits)?;
     if frame.len() < HEAD_LENGTH {

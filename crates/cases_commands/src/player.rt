@@ -16,8 +16,9 @@ pub struct CommandPlayer {
 }
 
 impl CommandPlayer {
-    /// A player whose table of descriptors (`numbers`) has none open, with the buffer into which it writes replies (`room`). `AllocError`:
-    /// out of memory.
+    /// Makes the player, which executes the lines of a file of cases. Its table of descriptors (`numbers`) is empty; a line can open
+    /// descriptors, which name plain numbers in this table, no maps or programs. `room` is the buffer into which a line's reply is written.
+    /// `AllocError`: out of memory.
     pub fn new(alloc: Global) -> Result<CommandPlayer, AllocError> {
         Ok(CommandPlayer {
             alloc,
@@ -26,11 +27,13 @@ impl CommandPlayer {
         })
     }
 
-    /// Plays the line `reply TENANT COMMAND STATUS HEX`; `rest` is what follows `reply`. Returns the bytes that `write_reply` writes for
-    /// these three numbers and the payload HEX, as hex digits (`shown`, which shortens a long text). The error is the first that applies:
-    /// `Number` if the tenant or the command is no number of 16 bits; `Notation`, `NoText` or `Digits` if HEX is not an even number of hex
-    /// digits in the notation of cases; `OutOfRange` if the payload is longer than `LONGEST_PAYLOAD`; `Number` if the status is no signed
-    /// number of 32 bits. If out of memory, the error is `Memory`, or `Digits` from the decoder of HEX.
+    /// Plays the line `reply TENANT COMMAND STATUS HEX` of a file of cases; `rest` is what follows `reply`. Returns the bytes of a reply
+    /// with these three numbers and the payload HEX (`write_reply`), as hex digits; of more than 64 bytes the first 16 and their number
+    /// (`shown`). In HEX, which may be missing, spaces are left out, and digits may be written as a repetition `{COUNT*PART}` or by escapes
+    /// `\xHH`. The error is the first that applies: `Number` if the tenant or the command is no number of 16 bits; `Notation` or `Digits`
+    /// if a repetition or an escape in HEX is malformed, `NoText` if HEX gives bytes that are not UTF-8, `Digits` if these are not an even
+    /// number of hex digits; `OutOfRange` if the payload is longer than `LONGEST_PAYLOAD`; `Number` if the status is no signed number of 32
+    /// bits. If out of memory, the error is `Memory`, or `Digits` from the decoder of the digits.
     fn reply(&mut self, rest: &str) -> Result<String, CaseError> {
         let (tenant, rest) = first_word(rest);
         let (command, rest) = first_word(rest);
@@ -47,9 +50,10 @@ impl CommandPlayer {
         Ok(shown(self.alloc, self.room.bytes())?)
     }
 
-    /// Opens the lowest free descriptor of the table, whose objects are numbers: the descriptor then names `number`. Returns the descriptor
-    /// as text. If none is free, the table returns `number` as its error, and the text says that it is handed back. `AllocError`: out of
-    /// memory for the text.
+    /// Opens the lowest free descriptor of the player's table (`FdTable`), which then names `number`: in this table descriptors name plain
+    /// numbers, no maps or programs. Returns the descriptor as decimal text. If none is free, the table returns `number` as its error, and
+    /// the result is this number with the words `is handed back`. `AllocError`: out of memory for the text; the descriptor, if one was
+    /// free, is open then, too.
     fn place(&mut self, number: u32) -> Result<String, AllocError> {
         match self.numbers.place(number) {
             Ok(fd) => fd.to_string(self.alloc),
@@ -76,10 +80,11 @@ impl CommandPlayer {
         }
     }
 
-    /// Calls the function that `word` names for each number in `rest`, and returns the results with commas between them. `place` opens a
-    /// descriptor for the number; for `get`, which reads what a descriptor names, and for `close` the number is the descriptor. `play`
-    /// gives only these three words, so the last arm is that of `close`. `Number` if a part of `rest` between blanks is no number of 32
-    /// bits, `Memory` if out of memory.
+    /// Calls the function that `word` names for each number in `rest`, and returns the texts that these calls return, with commas between
+    /// them. `place` opens a descriptor, which then names the number, and returns the descriptor; if none is free, it returns the text that
+    /// the number is handed back. For `get` and `close` the number is a descriptor: both return the number that it names, or `nothing`, and
+    /// `close` also closes it. `play` gives only these three words, so the last arm is that of `close`. The error is `Number` if a part of
+    /// `rest` between blanks is no number of 32 bits, `Memory` if out of memory. Calls before an error are not undone.
     fn each(&mut self, word: &str, rest: &str) -> Result<String, CaseError> {
         let mut text = String::new(self.alloc);
         for number in rest.split_whitespace() {
@@ -99,12 +104,13 @@ impl CommandPlayer {
 }
 
 impl Player for CommandPlayer {
-    // Plays a line and returns its outcome as text. Its first word selects what is called, with the rest of the line. Of a frame in hex
-    // digits `head` returns the tenant and the command number, `parse` the command with its fields, or why it has none. `reply` returns the
-    // hex digits of a reply. For each number in the rest `place` opens a descriptor, which then names it. `get` and `close` take
-    // descriptors, and return the numbers that these name; `close` also closes them. `full` returns `true` if no descriptor is free, else
-    // `false`, and does not read the rest. `UnknownWord` for any other word; the other errors are those of the function that is called, and
-    // out of memory.
+    // Plays a line and returns its outcome as text. Its first word selects what is called, with the rest of the line. `head` and `parse`
+    // take a frame in hex digits: `head` returns the tenant and the command number, `parse` the command with its fields, or why it has
+    // none. `reply` takes a tenant, a command number, a status and a payload, and returns the hex digits of this reply. `place` takes
+    // numbers: for each it opens the lowest free descriptor, which then names the number, and returns this descriptor, or that the number
+    // is handed back. `get` and `close` take descriptors, and return the numbers that these name, or `nothing`; `close` also closes them.
+    // `full` returns `true` if no descriptor is free, else `false`, and does not read the rest. `UnknownWord` for any other word; the other
+    // errors are those of the function that is called, and out of memory.
     fn play(&mut self, line: &str) -> Result<String, CaseError> {
         let (word, rest) = first_word(line);
         match word {

@@ -26,8 +26,9 @@ use cases::play_lines;
 use player::HostPlayer;
 use std::io;
 
-/// Plays the lines of standard input on a new host for one tenant: writes each line, and below it its outcome or its error (`play_lines`).
-/// Fails only if out of memory for the host and its context words, or if standard input or output fails.
+/// Runs the worked cases on standard input (the head of this file lists their lines): writes each line, and below it its outcome or its
+/// error (`play_lines`). The cases begin with a new host for one tenant, and with zeros as the context words of its test runs. Fails only
+/// if out of memory for the host and these words, or if standard input or output fails.
 fn main(rt: HostRuntime) -> io::Result<()> {
     let mut player = HostPlayer::new(rt.alloc())?;
     play_lines(&rt, &mut player)

@@ -106,8 +106,9 @@ pub struct HostPlayer {
 }
 
 impl HostPlayer {
-    /// A player with a new host for one tenant, which a line `new` replaces, and zeros as context words, which a line `words` replaces. The
-    /// seed of the host is always the same. `AllocError`: out of memory.
+    /// A player of the lines of a file of cases. It has a new host for one tenant, until a line `new` replaces the host; and zeros as the
+    /// `WORDS` bytes of the context words of runs, until a line `words` sets others. The seed of the host's hash maps is always the same,
+    /// so the lines are played alike each time. `AllocError`: out of memory.
     pub fn new(alloc: Global) -> Result<HostPlayer, AllocError> {
         Ok(HostPlayer {
             alloc,
@@ -124,9 +125,10 @@ impl HostPlayer {
         hex_groups(self.alloc, reply.bytes(), GROUP)
     }
 
-    /// The host's reply, as hex digits, to the frame that `digits` has as hex digits in the notation of cases. `Notation` if `digits`
-    /// breaks the rules of this notation, `NoText` if it gives no UTF-8, `Digits` if a character that it gives is neither a blank nor a hex
-    /// digit, the number of digits is odd, or the two bytes after a `\x` are no hex digits; `Memory` if out of memory.
+    /// The host's reply, as hex digits, to the frame, without its length field, that `digits` has as hex digits in the notation of cases:
+    /// spaces may separate the digits, and a repetition `{COUNT*PART}`, or the byte of a `\xHH`, may give them. `Notation` if a repetition
+    /// is wrong or a `\x` is cut off; `NoText` if the bytes that `digits` gives are not UTF-8; `Digits` if a character, also after a `\x`,
+    /// is no hex digit, or the number of digits is odd. If out of memory, `Memory`, or `Digits` from the decoder of the digits.
     fn reply_to_digits(&mut self, digits: &str) -> Result<String, CaseError> {
         let frame = bytes_of(self.alloc, digits)?;
         Ok(self.reply(&frame)?)
@@ -148,9 +150,10 @@ impl HostPlayer {
     }
 
     /// The reply, as hex digits, to the command with the number `command`: a look-up, a delete, the next key, or a close. `rest` has a
-    /// tenant and the descriptor, in decimal digits, and the hex digits of the bytes that follow the descriptor in the frame: the key, or
-    /// none. The errors are those of `bytes_of` for these digits, then `Number` if the tenant is no number of 16 bits, or the descriptor
-    /// none of 32 bits; `Memory` if out of memory.
+    /// tenant and the descriptor, in decimal digits, and, in the notation of cases, the hex digits of the bytes that follow the descriptor
+    /// in the frame: the key, or none. `Notation` if these digits are not in this notation, `NoText` if they give no UTF-8, `Digits` if a
+    /// character, but for blanks, or one after `\x` is no hex digit, or the number of digits is odd; then `Number` if the tenant is no
+    /// number of 16 bits, or the descriptor none of 32 bits. Out of memory is `Digits` in the decoder of the digits, else `Memory`.
     fn on_descriptor(&mut self, command: u16, rest: &str) -> Result<String, CaseError> {
         let (tenant, rest) = first_word(rest);
         let (descriptor, digits) = first_word(rest);
@@ -170,9 +173,11 @@ impl HostPlayer {
     }
 
     /// The reply to MAP_UPDATE_ELEM, as hex digits. `rest` has the words of a line after `update`: a tenant, a descriptor and the flags, in
-    /// decimal digits, and the bytes of the key and then the value, in hex digits. `Number` if the flags are no number of 64 bits, the
-    /// tenant none of 16 bits, or the descriptor none of 32 bits; other errors are those of `bytes_of` for the key and the value, and
-    /// `Memory` if out of memory.
+    /// decimal digits, and then the bytes of the key and of the value, as hex digits in the notation of cases. In the frame the flags
+    /// follow the descriptor, in eight bytes. The error is the first that applies: `Number` if the flags are no number of 64 bits;
+    /// `Notation` or `Digits` if the digits are not in the notation, `NoText` if they are not UTF-8, `Digits` if one is neither a space nor
+    /// a hex digit, or their number is odd; `Number` if the tenant is no number of 16 bits, or the descriptor none of 32 bits. If out of
+    /// memory, `Memory`, or `Digits` from the decoder of the digits (`bytes_of`).
     fn update(&mut self, rest: &str) -> Result<String, CaseError> {
         let (tenant, rest) = first_word(rest);
         let (descriptor, rest) = first_word(rest);
@@ -211,10 +216,12 @@ impl HostPlayer {
         Ok(self.load_slots(tenant, &slots)?)
     }
 
-    /// The reply to PROG_TEST_RUN, as hex digits, for a line `run`. `rest` has the words after `run`: a tenant, the descriptor of a
-    /// program, and the hex digits of a packet in the notation of cases. In the frame the packet follows the bytes of the context words:
-    /// those that the last line `words` gave, or zeros if there was none. `Notation`, `NoText` or `Digits` if the packet is no such digits;
-    /// then `Number` if the tenant is no number of 16 bits, or the descriptor none of 32 bits; `Memory` if out of memory.
+    /// The reply to PROG_TEST_RUN, as hex digits, for a line `run`. `rest` has the words after `run`: a tenant and the descriptor of a
+    /// program, in decimal digits, and the hex digits of a packet in the notation of cases (`bytes_of`). In the frame the packet follows
+    /// the bytes of the context words: those that the last line `words` gave, or zeros if there was none. Of the packet, `Notation` if an
+    /// escape or a repetition is wrong, `NoText` if the bytes that the notation gives are not UTF-8, `Digits` if a character is neither a
+    /// space nor a hex digit, or the number of digits is odd. Then `Number` if the tenant is no number of 16 bits, or the descriptor none
+    /// of 32 bits. Out of memory is `Digits` in the decoder of the digits, else `Memory`.
     fn run(&mut self, rest: &str) -> Result<String, CaseError> {
         let (tenant, rest) = first_word(rest);
         let (descriptor, packet) = first_word(rest);
@@ -225,8 +232,10 @@ impl HostPlayer {
     /// The reply of this player's host, as hex digits, to the frame that a line asks for; the line may be one of those that a line `rounds`
     /// repeats. `word` is its first word, `rest` the text after it: for `frame` the frame in hex digits, for any other word the tenant and
     /// the fields of a command. A program is loaded by `load` from its text, by `slots` from its slots in hex digits. `UnknownWord` if a
-    /// line with this first word asks for no frame; else `Number` if a number is missing or wrong, `Notation`, `Digits` or `NoText` if hex
-    /// digits or a program's text break the notation of cases, `Text` if the text does not assemble, and `Memory` if out of memory.
+    /// line with this first word asks for no frame; else `Number` if a decimal number is missing or wrong. For hex digits and a program's
+    /// text: `Notation` if an escape `\xHH` or a repetition `{COUNT*PART}` is wrong, `NoText` if what they give is not UTF-8, `Digits` if a
+    /// hex digit is wrong or the number of digits is odd, `Text` if the text does not assemble. Out of memory is `Digits` in the decoder of
+    /// the digits, `Text` in the assembler, else `Memory`.
     fn reply_to_line(&mut self, word: &str, rest: &str) -> Result<String, CaseError> {
         match word {
             "frame" => self.reply_to_digits(rest),
@@ -243,10 +252,10 @@ impl HostPlayer {
         }
     }
 
-    /// Plays the lines of a line `rounds` once; such a line repeats them to show that earlier rounds change no reply. `lines` has them with
-    /// `|` between them, each a first word and the text after it. Returns their replies as hex digits, with ` | ` between them. The error
-    /// is that of the first line that has one (`reply_to_line`), for example `UnknownWord` if its first word asks for no frame; `Memory` if
-    /// out of memory.
+    /// Plays one round of a line `rounds`, which repeats some lines to show that earlier rounds change no reply. `lines` has these lines,
+    /// with `|` between them. Each has a first word and the text after it, and asks for the reply to one frame (`reply_to_line`). Returns
+    /// the replies as hex digits, with ` | ` between them. The error is that of the first line that has one, for example `UnknownWord` if
+    /// its first word asks for no frame, and no later line is played; also `Memory` if out of memory for the replies' text.
     fn round(&mut self, lines: &str) -> Result<String, CaseError> {
         let mut replies = String::new(self.alloc);
         for line in lines.split('|') {
@@ -278,10 +287,12 @@ impl HostPlayer {
         Ok(None)
     }
 
-    /// Plays lines COUNT times, but at least once, on this player's host: so a case shows that earlier rounds change no reply. `rest` has
-    /// COUNT, in decimal digits, and then the lines, with `|` between them. Returns `COUNT rounds: REPLIES` if each round has the replies
-    /// of round 0. Otherwise it stops after the first round that has others, and returns `after N rounds: REPLIES`, with the number of this
-    /// round and its replies. `Number` if COUNT is missing or no number of 32 bits; other errors are those of `reply_to_line`.
+    /// Plays the lines of a line `rounds` COUNT times, but at least once, on this player's host; each time is a round. So a case shows that
+    /// earlier rounds change no reply. `rest` has COUNT, in decimal digits, and then the lines, with `|` between them. Returns `COUNT
+    /// rounds: REPLIES` if each round has the replies of the first. Otherwise it stops after the first round with other replies, and
+    /// returns `after N rounds: REPLIES`: N is the number of rounds before this one, REPLIES are its replies. The error is `Number` if
+    /// COUNT is missing or no number of 32 bits. Else it is the error of the first line that has one (`reply_to_line`): for its first word,
+    /// a number, hex digits or a program's text; or it is out of memory.
     fn rounds(&mut self, rest: &str) -> Result<String, CaseError> {
         let (count, lines) = first_word(rest);
         let count: u32 = count.parse()?;
@@ -300,10 +311,12 @@ impl HostPlayer {
         Ok(String::new(self.alloc))
     }
 
-    /// Sets the bytes of the context words in the frames of later test runs; their number is not checked. `digits` has these bytes as hex
-    /// digits in the notation of cases. `Notation` if that notation is wrong, `NoText` if what it gives is not UTF-8, `Digits` if a
-    /// character is neither a space nor a hex digit, or the number of digits is odd. Out of memory is `Digits` in the decoder of the
-    /// digits, else `Memory`. After an error the words are unchanged. Returns the empty text, since this line has no output.
+    /// Plays a line `words`: sets the bytes of the context words that the frames of later test runs have. The number of bytes is not
+    /// checked, so a case may give too few. `digits` has the bytes as hex digits in the notation of cases: spaces may separate the digits,
+    /// and a repetition `{COUNT*PART}`, or the byte of a `\xHH`, may give them. `Notation` if a repetition is wrong or a `\x` is cut off;
+    /// `NoText` if the bytes that `digits` gives are not UTF-8; `Digits` if a character, also after a `\x`, is no hex digit, or the number
+    /// of digits is odd. If out of memory, `Memory`, or `Digits` from the decoder of the digits. After an error the words are unchanged.
+    /// Returns the empty text, since this line has no output.
     fn set_words(&mut self, digits: &str) -> Result<String, CaseError> {
         self.words = bytes_of(self.alloc, digits)?;
         Ok(String::new(self.alloc))
@@ -311,10 +324,12 @@ impl HostPlayer {
 }
 
 impl Player for HostPlayer {
-    /// Plays a line of cases and returns its outcome as text. Its first word is in the table of `main.rt`: `new` makes a new host for this
-    /// player, and `words` sets the context words of later runs, both with an empty outcome; `rounds` plays other lines several times.
-    /// `stream`, `cut`, `relay` and `program` do not use this player's host. Any other word asks for the reply to one frame, or is unknown
-    /// (`UnknownWord`). The other errors are those of the function that plays the line.
+    /// Plays a line of cases and returns its outcome as text. `new` makes a new host for this player, and `words` sets the context words of
+    /// later runs, both with an empty outcome; `rounds` plays other lines several times. Four lines do not use this player's host: `stream`
+    /// serves the bytes of a stream in a new host, `cut` only the first of them; `relay` passes bytes through `Counted`, which counts
+    /// failing calls; `program` runs the host's command line (`run_words`). Any other first word asks for the reply to one frame, or is
+    /// unknown (`UnknownWord`). `main.rt` has a table of all lines. The other errors are those of the function that plays the line:
+    /// `Number` or `OutOfRange` for a number, `Notation`, `NoText`, `Digits` or `Text` for digits or a text, and `Memory`.
     fn play(&mut self, line: &str) -> Result<String, CaseError> {
         let (word, rest) = first_word(line);
         match word {

@@ -10,8 +10,9 @@ use std::alloc::{AllocError, Global};
 /// The size in bytes of the buffer for one call of a reader: small, so that a short case has more bytes than it takes.
 const ROOM: usize = 4;
 
-/// The text of how a stream ended, with the number of frames that had a reply: `ok 3` without a fault, else the program's fault line, a
-/// colon and `3 answered`. `AllocError`: out of memory.
+/// How a stream ended, as text. Without a fault it is `ok` and the number of frames that had a reply, for example `ok 3`. With one it is
+/// the fault line of `bpfhost` (a `Failure` as text), a colon and this number, as in `write fault: 3 answered`. `AllocError`: out of
+/// memory.
 fn end_of(alloc: Global, end: Result<u32, ServeFault>) -> Result<String, AllocError> {
     match end {
         Ok(frames) => format!(in alloc; "ok {frames}"),
@@ -73,7 +74,8 @@ fn front(alloc: Global, count: &str, digits: &str) -> Result<Vec<u8>, CaseError>
 /// the most frames that are served, and how many bytes the front has, in decimal digits, and then the bytes of the whole stream as hex
 /// digits; if there are fewer bytes, all are served. Returns how `serve` ended, and in the next line the hex digits of what it wrote
 /// (`served`). `Number` if one of the first three words is no number, `OutOfRange` if the tenants are not from 1 to `MOST_TENANTS` or the
-/// frames above `MOST_FRAMES`, `Memory` if out of memory; other errors are those of `bytes_of` for the hex digits.
+/// frames above `MOST_FRAMES`, `Notation`, `NoText` or `Digits` if the hex digits are wrong (`bytes_of`). If out of memory, `Memory`, or
+/// `Digits` from the decoder of the digits.
 pub fn cut(alloc: Global, line: &str) -> Result<String, CaseError> {
     let (tenants, rest) = first_word(line);
     let (limit, rest) = first_word(rest);
@@ -83,11 +85,12 @@ pub fn cut(alloc: Global, line: &str) -> Result<String, CaseError> {
     served(alloc, &mut host, limit, &input)
 }
 
-/// A case of `Counted`, which has to pass each call on to the reader or writer in it: reads up to `ROOM` of the bytes of hex `digits` by
-/// one call, writes the bytes read by one call, and flushes. Returns the text `WRITTEN of READ [HEX]`: how many bytes the writer took, how
-/// many the reader gave, and all bytes that the writer has. If a call fails, the text is `no read`, `no write` or `no flush`, and not an
-/// error; but only a write out of memory can fail here, and `failing_io` tests how failures are counted. The errors are those of
-/// `bytes_of`, for example `Digits` if a character is no hex digit, and `Memory` if out of memory elsewhere.
+/// A case of `Counted`, which has to pass each call on to the reader or writer that it wraps. Reads up to `ROOM` of the bytes of `digits`
+/// by one call, writes the bytes read by one call, and flushes. Returns the text `WRITTEN of READ [HEX]`: how many bytes the writer took,
+/// how many the reader gave, and all bytes that the writer has, as hex digits. If a call fails, the result is no error, but the text
+/// `no read`, `no write` or `no flush`. Here only a write that is out of memory can fail; `failing_io` tests how failures are counted.
+/// `Notation`, `NoText` or `Digits` if `digits` are not hex digits in the notation of cases (`bytes_of`). Out of memory elsewhere is
+/// `Digits` in the decoder of the digits, else `Memory`.
 pub fn relay(alloc: Global, digits: &str) -> Result<String, CaseError> {
     let input = bytes_of(alloc, digits)?;
     let mut reader = Counted::new(input.as_slice());
@@ -111,9 +114,10 @@ fn word_of(word: &str) -> &str {
     if word == "\"\"" { "" } else { word }
 }
 
-/// How a run of the program on the arguments `words`, those after its name, and on this input ends, as text: its status, its output in hex
-/// digits, and its fault line, if it wrote one. The seed, which only `serve` needs, is a constant. `NoText` if the fault line is not UTF-8,
-/// `Memory` if out of memory.
+/// How a call of `run_words`, the command line of `bpfhost`, ends, as text: a line `status N` with the exit status, the bytes of its output
+/// as hex digits in groups of `GROUP` bytes, and its fault line, if it wrote one (`outcome`). `words` are the arguments after the name of
+/// the program, `input` is its standard input. The seed of hash maps, which only `serve` needs, is a constant. `NoText` if the fault line
+/// is not UTF-8, `Memory` if out of memory.
 fn ran(alloc: Global, words: &[&str], input: &[u8]) -> Result<String, CaseError> {
     let mut output = Vec::new(alloc);
     let mut faults = Vec::new(alloc);
@@ -133,10 +137,12 @@ fn ran(alloc: Global, words: &[&str], input: &[u8]) -> Result<String, CaseError>
 }
 
 /// Plays a line `program`: calls `run_words`, the host's command line, and returns as text how it ended: the exit status, the output in hex
-/// digits, and the fault line (`ran`). `line` is the line of the case after its first word: the arguments, separated by blanks, then `<`
-/// and the input as hex digits, which a repetition, as `{2*0a}`, may give (`bytes_of`). The argument `""` is empty. `Notation` if there is
-/// no `<`; `Notation`, `NoText` or `Digits` if the input breaks the notation or is not hex digits, two for each byte (`bytes_of`); `NoText`
-/// if the fault line is not UTF-8. If out of memory, `Memory`, or `Digits` from the decoder of the digits.
+/// digits, and the fault line, if there is one (`ran`). `line` is the line of the case after its first word: the arguments, separated by
+/// blanks, then `<` and the input as hex digits in the notation of cases, in which `{2*0a}` gives `0a0a` (`bytes_of`). The argument `""` is
+/// empty. `Notation` if there is no `<`, or if the input has a malformed repetition or no two bytes after a `\x`. `NoText` if what the
+/// input gives is not UTF-8, or if the fault line is not. `Digits` if the input gives a character that is neither a hex digit nor a space,
+/// or an odd number of digits, or if the two bytes after a `\x` are no hex digits. If out of memory, `Memory`, or `Digits` from the decoder
+/// of the digits.
 pub fn program(alloc: Global, line: &str) -> Result<String, CaseError> {
     let (words, digits) = input_of(line)?;
     let words: Vec<&str> = words.split_whitespace().map(word_of).collect(alloc)?;

@@ -22,10 +22,11 @@ impl LogPlayer {
         }
     }
 
-    /// The log of a program, verified with the open descriptors: lines or a graph (`style`). The program's text is what `text` means in the
-    /// notation of `cases`. A rejected program has a log too. The errors are `Notation` or `Digits` if `text` breaks the notation, `NoText`
-    /// if it means bytes that are not UTF-8, `Text` if they do not assemble or memory runs out in the assembler, and `Memory` if it runs
-    /// out elsewhere.
+    /// The log of a program, verified with the descriptors that are open: those that lines `map` and `program` have opened since the last
+    /// line `new`. `style` says whether the log is lines with what is new before each instruction, lines with all facts before it, or a
+    /// graph. A rejected program has a log too. `text` is the program's text in the notation of cases. The errors are `Notation` or
+    /// `Digits` if `text` breaks this notation, `NoText` if the bytes that it gives are not UTF-8, `Text` if these do not assemble or the
+    /// assembler is out of memory, and `Memory` if out of memory elsewhere.
     fn log(&self, text: &str, style: LogStyle) -> Result<String, CaseError> {
         let source = written(self.alloc, text)?;
         let program = assemble(self.alloc, text_of(&source)?)?;
@@ -59,10 +60,11 @@ impl LogPlayer {
 }
 
 impl Player for LogPlayer {
-    /// Plays a line, and returns its outcome. `log`, `all` and `dot`, with the text of a program after them, return its log: in lines with
-    /// what is new before each instruction (`log`), in lines with all facts before it (`all`), or as a graph (`dot`). `run`, with arguments
-    /// and an input, returns how `verifier_log` ends on them. `map` and `program` open a descriptor, and `new` closes all, for the programs
-    /// of later lines (`play` of `Descriptors`). `UnknownWord` if the line has another first word.
+    /// Plays a line, and returns its outcome, the text below it. `log`, `all` and `dot`, with the text of a program after them, return its
+    /// log: in lines with what is new before each instruction (`log`), in lines with all facts before it (`all`), or as a graph (`dot`).
+    /// `run`, with arguments, `<` and an input, returns how `verifier_log` ends on them: its exit status, output and fault. `map` and
+    /// `program` open a descriptor for the programs of later lines, and return `open`; `new` closes all, and returns `none open`.
+    /// `UnknownWord` if the line has another first word; other errors are those of `log`, `run`, and `play` of `Descriptors`.
     fn play(&mut self, line: &str) -> Result<String, CaseError> {
         let (word, rest) = first_word(line);
         match word {

@@ -34,8 +34,9 @@ impl Model for LiveMapsPlayer {
     ghost invariant = { λ p. IsPartOf 0 p.arena };
 }
 
-/// Creates a map with its area in `part`, the tenant's part, and adds `holds` references to the one that a new map has. Returns the handle
-/// of the map, which is live, or the fault of the creation: `NoSpace` or `Memory`.
+/// Creates a map with its area in `part`, the tenant's part, and adds `holds` references to the one that a new map has, so that it is still
+/// live after as many releases. Returns the handle of the map, which is live, or the fault, after which no live map has changed: `NoSpace`
+/// if no handle is free or the areas would take more than `LARGEST_SUM` bytes, else `Memory` if out of memory for a hash map.
 fn create_held(
     maps: &mut Maps,
     shape: MapShape,
@@ -53,8 +54,10 @@ fn create_held(
 }
 
 impl LiveMapsPlayer {
-    /// A player without maps. Its hash maps always have the same seed. Its memory is an arena of one part, `PART` bytes, which is the
-    /// tenant's. `AllocError`: out of memory.
+    /// A player, which plays the lines of worked cases that begin with `maps`, as it is before the first of them: no map is live, and
+    /// `handles`, by whose indices the lines name maps, is empty. The arena has one part, the tenant's, of `PART` zero bytes. All hash maps
+    /// get the same seed, of the words 1 and 2; others would do too, since what a map returns does not depend on its seed. `AllocError`:
+    /// out of memory.
     pub fn new(alloc: Global) -> Result<LiveMapsPlayer, AllocError> {
         Ok(LiveMapsPlayer {
             alloc,
@@ -133,8 +136,9 @@ impl LiveMapsPlayer {
         Ok(text.to_string(self.alloc)?)
     }
 
-    /// The shape of the live map with this number in the lines, as text: its kind, the sizes of a key and of a value in bytes, and
-    /// `max_entries`. `NoMap` if no live map has the number, `Number` if the text is no number, `Memory` if out of memory.
+    /// The shape of a live map as text, as `Array 4 8 2`: its kind, the sizes of a key and of a value in bytes, and `max_entries`. `number`
+    /// is the number, in decimal digits, by which lines of cases name the map: the index of its handle in `handles`. `NoMap` if no live map
+    /// has this number, `Number` if the text is no number, `Memory` if out of memory.
     fn shape(&self, number: &str) -> Result<String, CaseError> {
         let map = self.live_map(number)?;
         let shape = self.maps.shape(map);
@@ -169,11 +173,13 @@ impl LiveMapsPlayer {
         Ok(format!(in self.alloc; "at {offset}")?)
     }
 
-    /// The value of a key in a live map, as hex digits in groups of `GROUP` bytes, with a blank between them; `absent` if the map does not
-    /// have the key. `rest` is the map's number in the lines, a blank, and the key's hex digits in the notation of cases. `Number` if the
-    /// first word is no number, `NoMap` if no live map has this number. Then for the key: `Notation` if the notation is wrong; `NoText` if
-    /// the text that it gives is not UTF-8; `Digits` if a character of this is neither a blank nor a hex digit, or the number of digits is
-    /// odd; `Size` if it has not the size of the map's keys. If out of memory, `Memory`, or `Digits` from the decoder of the digits.
+    /// The outcome of a line `maps find`: the value of a key in a live map, as hex digits in groups of `GROUP` bytes, with a blank between
+    /// them; `absent` if the map does not have the key. `rest` is the map's number in the lines, which is no handle (`live_map`), a blank,
+    /// and the key's hex digits in the notation of cases. The arena has only part 0. `Number` if the first word is no number, `NoMap` if no
+    /// live map has this number. Then for the key (`bytes_of_size`): `Notation` or `Digits` if the notation is wrong; `NoText` if the bytes
+    /// that the notation gives are not UTF-8; `Digits` if one of their characters is neither a blank nor a hex digit, or the number of
+    /// digits is odd; `Size` if the key has not the size of the map's keys. If out of memory, `Digits` from the decoder of the hex digits,
+    /// else `Memory`.
     fn find(&self, rest: &str) -> Result<String, CaseError> {
         let (number, digits) = first_word(rest);
         let map = self.live_map(number)?;
@@ -187,11 +193,11 @@ impl LiveMapsPlayer {
         Ok(hex_groups(self.alloc, value, GROUP)?)
     }
 
-    /// Updates a map, for the words of a line: the map's number in the lines, which is no handle (`live_map`), the flags, and the key and
-    /// the value in hex digits. Claims an element for the key, and writes the value there. Returns `claimed`, or the name of the map's
-    /// fault. The errors are `NoMap` if no live map has the number, `Number` if that or the flags are no number, `Size` if the key or the
-    /// value does not have the size that the map's shape gives, and those of `bytes_of`, for example `Digits` if a character is no hex
-    /// digit.
+    /// Updates a map: claims an element for a key, and writes the value there. The words of `rest` are the number that `maps create`
+    /// printed for the map (`live_map` gives its handle), the flags of BPF_MAP_UPDATE_ELEM (bpf(2)) as a number, and the key and the value
+    /// in hex digits. Returns `claimed`, or the name of the `MapFault` for which the update is rejected, as `TooBig`. The errors are
+    /// `NoMap` if no live map has the number, `Number` if that or the flags are no number, `Size` if the key or the value does not have the
+    /// size that the map's shape gives, and those of `bytes_of`, for example `Digits` if a character is no hex digit.
     fn claim(&mut self, rest: &str) -> Result<String, CaseError> {
         let (number, rest) = first_word(rest);
         let (flags, rest) = first_word(rest);
@@ -214,11 +220,12 @@ impl LiveMapsPlayer {
         }
     }
 
-    /// Removes a key from a live map. The key's element is kept apart, so no other key gets it before a line `end` or `run` for this map.
-    /// The words of the line are the map's number in the lines, and the key in hex digits. Returns `removed`, or the name of the map's
-    /// fault: `Invalid` for an array, `NoEntry` if the key is absent. The error is `Number` if the first word is no number, `NoMap` if no
-    /// live map has it, `Notation`, `NoText` or `Digits` if the digits are wrong (`bytes_of`), and `Size` if the key has not the size of
-    /// the map's keys. If out of memory, it is `Memory`, or `Digits` from the decoder of the digits.
+    /// Removes a key from a live map, for a line `maps remove`. `rest` has the further words of the line: the number by which lines name
+    /// the map, which is no handle (`live_map`), and the key in hex digits. The key's element is kept apart, so no key gets it before a
+    /// line `maps end` or `maps run` for this map. Returns `removed`, or the name of the map's fault: `Invalid` for an array, `NoEntry` if
+    /// the key is absent. The error is `Number` if the first word is no number, `NoMap` if no live map has this number, `Notation`,
+    /// `NoText` or `Digits` if the digits are wrong (`bytes_of`), and `Size` if the key has not the size of the map's keys. If out of
+    /// memory, it is `Memory`, or `Digits` from the decoder of the digits.
     fn remove(&mut self, rest: &str) -> Result<String, CaseError> {
         let (number, digits) = first_word(rest);
         let map = self.live_map(number)?;

@@ -55,8 +55,9 @@ pub struct MemoryPlayer {
 }
 
 impl MemoryPlayer {
-    /// A player with the smallest memory that `Arena` allows: one part of one zero byte. The line `memory new` replaces it by a memory of
-    /// the size that a case needs (`begin`). `AllocError`: out of memory.
+    /// Makes a player for the lines of worked cases that begin with `memory`, which load, store and copy bytes of a memory. At first it has
+    /// the smallest memory that `Arena` allows: one part of one zero byte. The line `memory new` replaces it by a memory of the size that a
+    /// case needs. `AllocError`: out of memory.
     pub fn new(alloc: Global) -> Result<MemoryPlayer, AllocError> {
         Ok(MemoryPlayer {
             alloc,
@@ -88,10 +89,11 @@ impl MemoryPlayer {
         }
     }
 
-    /// Stores the low bytes of a number, as many as the size says, little-endian. `rest` has the words of a line: the address (`address`),
-    /// the size, 1, 2, 4 or 8, and the number. Returns the text `stored`, or `outside`, and stores nothing, if one of these bytes is not in
-    /// the memory. `Number` if the number, or that in the address, does not parse; `OutOfRange` for another size, or an address of 2^64 or
-    /// more; `Memory` if out of memory.
+    /// Plays a line `memory store`: stores the low bytes of a number, little-endian. `rest` has the address, the size, which is how many
+    /// bytes are stored, 1, 2, 4 or 8, and the number. The address is a number, or `+` and a distance from the memory's first address
+    /// (`BASE`). Returns the text `stored`, or `outside` if one of these bytes is not in the memory; then nothing is stored. `Number` if
+    /// the address, its distance or the number does not parse; `OutOfRange` for another size, or if `BASE` and the distance add up to 2^64
+    /// or more; `Memory` if out of memory.
     fn store(&mut self, rest: &str) -> Result<String, CaseError> {
         let (at, rest) = first_word(rest);
         let (size, value) = first_word(rest);
@@ -103,8 +105,8 @@ impl MemoryPlayer {
     /// Plays the call `copy` of a line: copies bytes in the memory. `rest` has the words after `copy`: the address of the target, that of
     /// the source, and the number of bytes. An address is a number, or `+` and a distance from the first address (`BASE`). Returns the text
     /// `copied`, or `outside` if the bytes at the source or those at the target do not all lie in the memory; then nothing is copied. The
-    /// error is `Number` if an address or the number of bytes does not parse, `OutOfRange` if the sum of `BASE` and a distance is 2^64 or
-    /// more, or the number of bytes is 0: `Arena::copy` requires at least 1.
+    /// error is `Number` if an address or the number of bytes does not parse; `OutOfRange` if the sum of `BASE` and a distance is 2^64 or
+    /// more, or the number of bytes is 0, since `Arena::copy` requires at least 1; `Memory` if out of memory.
     fn copy(&mut self, rest: &str) -> Result<String, CaseError> {
         let (to, rest) = first_word(rest);
         let (from, length) = first_word(rest);

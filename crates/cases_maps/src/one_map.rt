@@ -9,11 +9,12 @@ use seeded_hash::HashSeed;
 use std::alloc::Global;
 
 /// Finds a key in a map. Returns the text `element` with the number of its element, or `absent` if the map does not have the key. `digits`
-/// is the key, as hex digits in the notation of cases: blanks may separate them, and a repetition `{COUNT*PART}` or a `\xHH`, a byte by two
-/// digits, may give them. `size` is the size of the map's keys in bytes, which `ValueMap::find` requires of a key. `Notation` if a
-/// repetition is wrong or a `\x` is cut off; `NoText` if the bytes that `digits` gives (`written`) are not UTF-8; `Digits` if a character,
-/// also after a `\x`, is no hex digit, or the number of digits is odd; `Size` if the key has more or fewer bytes than `size`. If out of
-/// memory, `Memory`, or `Digits` from the decoder of the digits.
+/// is the key, as hex digits in the notation of cases: blanks may separate them, `{COUNT*PART}` gives the digits PART COUNT times, and
+/// `\xHH` the byte with these two hex digits, as `\x61` the digit `a`. `size` is the size of the map's keys in bytes, which
+/// `ValueMap::find` requires of a key. `Notation` if a repetition is wrong or a `\x` is cut off, and `Digits` if no two hex digits follow
+/// it. Then `NoText` if the text that the notation gives is not UTF-8, `Digits` if a character of it is neither a blank nor a hex digit or
+/// the number of digits is odd, and `Size` if the key has more or fewer bytes than `size`. If out of memory, `Memory`, or `Digits` from the
+/// decoder of the digits.
 fn find<M: ValueMap>(alloc: Global, map: &M, size: u32, digits: &str) -> Result<String, CaseError>
     requires { size ≡ (M.keys map.now).shape.key_size }
 {
@@ -24,11 +25,12 @@ fn find<M: ValueMap>(alloc: Global, map: &M, size: u32, digits: &str) -> Result<
     }
 }
 
-/// Claims an element of the map for a key. `rest` has the flags of an update in decimal digits (0: any key, 1: only an absent one, 2: only
-/// a present one), a blank, and the key as hex digits; `size` is the size of the map's keys in bytes. Returns the text `claimed`, without
-/// the element, or the name of the map's fault. `Number` if the flags are no number of 64 bits. For the key, `Size` if it has more or fewer
-/// bytes, `Digits` if it has a character that is no hex digit or an odd number of digits, `Notation` or `NoText` if the notation of cases
-/// is wrong or gives no text. If out of memory, `Memory`, or `Digits` from the decoder of the digits.
+/// Plays a line `map claim`: claims an element of the map for a key. `rest` has the flags of an update in decimal digits (0: any key, 1:
+/// only an absent one, 2: only a present one), a blank, and the key as hex digits, which blanks may separate; `size` is the size of the
+/// map's keys in bytes. Returns the text `claimed`, without the element, or the name of the map's fault. `Number` if the flags are no
+/// number of 64 bits. For the key, `Notation` if a repetition in it is wrong or a `\x` is cut off, `NoText` if the bytes that it gives are
+/// not UTF-8, `Digits` if a character, also after a `\x`, is no hex digit, or the number of digits is odd, `Size` if it has more or fewer
+/// bytes than `size`. If out of memory, `Memory`, or `Digits` from the decoder of the digits.
 fn claim<M: ValueMap>(
     alloc: Global,
     map: &mut M,
@@ -43,11 +45,12 @@ fn claim<M: ValueMap>(
     Ok(done(alloc, map.claim(&key, flags), "claimed")?)
 }
 
-/// Plays a line `map remove`: removes a key, given as hex digits, from a map. Returns the text `removed`, or the name of the map's fault:
-/// `Invalid` for an array, `NoEntry` if the key is absent. `size` is the size of the map's keys in bytes. `Notation` if a repetition in
-/// `digits` is wrong or a `\x` is cut off; `NoText` if the bytes that `digits` gives are not UTF-8; `Digits` if these, without blanks, are
-/// no hex digits or an odd number of them; `Size` if the key has more or fewer bytes. If out of memory, `Memory`, or `Digits` from the
-/// decoder of the digits.
+/// Plays a line `map remove`: removes a key from a map. `digits` is the key, as hex digits in the notation of cases: spaces may separate
+/// them, and a repetition `{COUNT*PART}` (PART, COUNT times) or a `\xHH`, a byte by its two hex digits, may give them. `size` is the size
+/// of the map's keys in bytes. Returns the text `removed`, or the name of the map's fault: `Invalid` for an array, `NoEntry` if the key is
+/// absent. `Notation` if a repetition is wrong or a `\x` is cut off; `NoText` if the bytes that `digits` gives are not UTF-8; `Digits` if a
+/// character, also after a `\x`, is no hex digit, or the number of digits is odd; `Size` if the key has more or fewer bytes than `size`. If
+/// out of memory, `Memory`, or `Digits` from the decoder of the digits.
 fn remove<M: ValueMap>(
     alloc: Global,
     map: &mut M,
@@ -60,11 +63,12 @@ fn remove<M: ValueMap>(
     Ok(done(alloc, map.remove(&key), "removed")?)
 }
 
-/// Returns the hex digits of the key that follows a key in the map, in groups of `GROUP` bytes; if no key follows, or the map has no key,
-/// the name of the map's fault, `NoEntry`. `digits` are the hex digits of the key that it follows. If there are none, or the map does not
-/// have that key, the result is the first key. `size` is the size of the map's keys in bytes, by the precondition. The errors are those of
-/// `bytes_of` (`Notation`, `NoText`, `Digits` or `Memory`, each of the last two also if out of memory), then `Size` if there are digits,
-/// but of more or fewer bytes than `size`; `Memory` also if out of memory for the text.
+/// Returns the key that follows a key in the map, as hex digits in groups of `GROUP` (4) bytes; if no key follows, or the map has no key,
+/// the name of the map's fault, `NoEntry`. `digits` is the key that it follows, as hex digits in the notation of cases (`bytes_of`), which
+/// blanks may separate. If it gives no byte, or the map does not have this key, the result is the first key. `size` is the size of the
+/// map's keys in bytes, by the precondition. `Notation` if a repetition is wrong or a `\x` is cut off; `NoText` if the bytes that `digits`
+/// gives are not UTF-8; `Digits` if a character, also after a `\x`, is no hex digit, or the number of digits is odd; `Size` if the key is
+/// not empty and has more or fewer bytes than `size`. If out of memory, `Memory`, or `Digits` from the decoder of the digits.
 fn next<M: ValueMap>(alloc: Global, map: &M, size: u32, digits: &str) -> Result<String, CaseError>
     requires { size ≡ (M.keys map.now).shape.key_size }
 {
@@ -79,10 +83,11 @@ fn next<M: ValueMap>(alloc: Global, map: &M, size: u32, digits: &str) -> Result<
 
 /// Calls a function of a map, and returns its result as text, which a case compares. `call` is the function, and `rest` has its arguments;
 /// a key is written as the hex digits of `size` bytes, the size of the map's keys. `find KEY` gives `element` and the element's number, or
-/// `absent`. `claim FLAGS KEY` gives `claimed`, `remove KEY` gives `removed`, and `next KEY`, or `next` for the first key, the next key's
-/// digits; each gives the name of the map's fault if it fails. `end` ends a run, so that the elements of removed keys are free again; its
-/// text is empty. `UnknownWord` if `call` is another word, `Number` if the flags are no number, `Size` if a key has another size, `Memory`
-/// if out of memory, and the errors of `bytes_of` for the key's digits: `Notation`, `NoText` and `Digits`.
+/// `absent`. `claim FLAGS KEY` gives `claimed`; FLAGS are those of an update in decimal digits (0: any key, 1: only an absent one, 2: only
+/// a present one). `remove KEY` gives `removed`, and `next KEY`, or `next` for the first key, the next key's digits. A `claim`, `remove` or
+/// `next` that fails gives the name of the map's fault, as `NoEntry`. `end` ends a run, so that the elements of removed keys are free
+/// again; its text is empty. `UnknownWord` if `call` is another word, `Number` if the flags are no number, `Size` if a key has another
+/// size, `Memory` if out of memory, and the errors of `bytes_of` for the key's digits: `Notation`, `NoText` and `Digits`.
 fn play_call<M: ValueMap>(
     alloc: Global,
     map: &mut M,
@@ -113,8 +118,8 @@ pub struct OneMapPlayer {
 }
 
 impl OneMapPlayer {
-    /// A player of the lines that begin with `map`, without a map: before the first `map new`, which makes one, all other calls fail with
-    /// `NoMap`. `alloc` is for the map and for the texts that calls return.
+    /// A player of the lines `map CALL REST`, which test one map (`play`). At first it has no map: until `map new` makes one, any other
+    /// line has the error `NoMap`. `alloc` is for the map and for the texts that `play` returns.
     pub fn new(alloc: Global) -> OneMapPlayer {
         OneMapPlayer { alloc, map: None }
     }

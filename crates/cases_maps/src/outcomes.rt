@@ -22,8 +22,8 @@ pub fn done<T: Drop>(
     }
 }
 
-/// The outcome of a store or a copy, as text: `what` if it succeeded, else (`None`) `outside`, since bytes that it stores or copies are not
-/// in the memory. `AllocError`: out of memory for the text.
+/// The outcome of a store or a copy of `Arena`, as the text that a case expects: `what`, which is `stored` or `copied`, if it succeeded;
+/// else (`None`) `outside`, since bytes that it stores or copies are not in the arena. `AllocError`: out of memory for the text.
 pub fn done_inside(alloc: Global, outcome: Option<()>, what: &str) -> Result<String, AllocError> {
     match outcome {
         Some(()) => what.to_string(alloc),

@@ -19,9 +19,10 @@ use verifier::{Verified, laws, verify};
 const DESCRIPTOR: u32 = 3;
 
 /// The program of a text in the notation of cases, accepted with a map of this shape at `DESCRIPTOR`, the only open descriptor. So each map
-/// that it loads has the shape: `maps_of` has the descriptors of these maps, `shapes_in` their shapes. `NoText` if the text is not UTF-8;
-/// `Text` if it does not assemble, and `Refused` if the program is rejected, these two also if out of memory there; `Notation`, `Digits` or
-/// `Memory` if `written` returns it, for example for a `}` that is missing.
+/// that the program loads has the shape. In the contract, `maps_of` lists the descriptors of these maps, and `shapes_in` has their shapes.
+/// The errors: `Notation` if a `{COUNT*PART}` or a `\xHH` of the text is wrong, but `Digits` if only the two bytes HH are no hex digits
+/// (both of `written`); `NoText` if the bytes that the text gives are not UTF-8; `Text` if they do not assemble; `Refused` if the program
+/// is rejected. Out of memory is `Memory` in `written`, `Text` in `assemble`, and `Refused` in `verify`.
 fn accepted(alloc: Global, text: &str, shape: MapShape) -> Result<Verified, CaseError>
     ensures { IfOk result (λ program. (i : ℕ) → i < length (maps_of program.code)
         → shapes_in program (slice_index (maps_of program.code) i) ≡ Some shape) }
@@ -38,12 +39,13 @@ fn accepted(alloc: Global, text: &str, shape: MapShape) -> Result<Verified, Case
     Ok(verified)
 }
 
-/// Runs a program on `packet` and returns its outcome. `text` is the program's text in the notation of cases. The words of the context are
-/// the packet's length and `GIVEN_WORDS` zeros. `map` is live (`live`), and the program has to load it, by `DESCRIPTOR`. Before the run,
-/// the last run on the map is ended, since no element of a map may be kept apart when a run begins. The map's values are in part 0 of the
-/// arena, whose parts have `PART` bytes before and after the run (`IsPartOf`). `Notation` or `Digits` if the notation is wrong, `NoText` if
-/// it gives no UTF-8, `Memory` if out of memory for its bytes. `Text` if the program does not assemble, `Refused` if it is rejected, these
-/// two also if out of memory there. `NoMap` if it loads no map, `OutOfRange` if the packet is longer than `LONGEST_PACKET`.
+/// Runs a program on `packet`, with the live map `map` (`live`), and returns its outcome. `text` is the program's text in the notation of
+/// cases; the program has to load the map, by `DESCRIPTOR`. The words of the context are the packet's length and `GIVEN_WORDS` zeros.
+/// Before the run, the last run on the map is ended, since no element of a map may be kept apart when a run begins. The map's values are in
+/// part 0 of the arena, whose parts have `PART` bytes before and after the run (`IsPartOf`). The errors: `Notation` or `Digits` if the
+/// notation is wrong; `NoText` if the bytes that it gives are not UTF-8; `Memory` if out of memory for these bytes. `Text` if these do not
+/// assemble, or if the assembler is out of memory. `Refused` if the program is rejected, or if the verifier is out of memory. `NoMap` if
+/// the program loads no map; `OutOfRange` if the packet is longer than `LONGEST_PACKET` bytes.
 pub fn run_text(
     alloc: Global,
     text: &str,

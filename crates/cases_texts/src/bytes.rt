@@ -25,10 +25,10 @@ fn encoded(alloc: Global, insn: &Insn, slots: usize) -> Result<String, AllocErro
     format!(in alloc; "{insn:?} in {slots}: {written}")
 }
 
-/// The result of a case with the word `codec`, whose `text` has bytes as hex digits: the instruction at the front of the bytes as Rust
-/// prints it for debugging, the number of its slots, and the bytes to which it is encoded, as `Exit in 1: 9500000000000000`. More bytes may
-/// follow the instruction. `Slots` if no instruction begins at the front. The other errors are those of `bytes_of`: `Notation`, `NoText` or
-/// `Digits` if the text is no hex digits in the notation of cases. It also fails if out of memory.
+/// The outcome of a line `codec`, whose `text` has bytes as hex digits: the instruction at the front of the bytes as Rust prints it for
+/// debugging, the number of its slots, and the bytes to which it is encoded, as `Exit in 1: 9500000000000000`. More bytes may follow the
+/// instruction. `Slots`, with the fault, if no instruction begins at the front. `Notation`, `NoText` or `Digits` if `text` is no hex digits
+/// in the notation of cases (`bytes_of`). If out of memory, `Digits` from the decoder of the digits, else `Memory`.
 pub fn decoded(alloc: Global, text: &str) -> Result<String, CaseError> {
     let bytes = bytes_of(alloc, text)?;
     match &decode(&bytes) {
@@ -75,10 +75,11 @@ fn append_slot(text: &mut String, program: &Program, slot: usize) -> Result<(), 
 }
 
 /// The outcome of a line `places`, as `0: Exit; 1: none`: for each slot of a program, and for the slot after its last one, the instruction
-/// that begins there, or `none`. `text` has the program's slots as hex digits. They are decoded, and a second program is made of the
-/// instructions and cloned. The outcome is that of the clone, so that `Program::new` and `clone` are tested too. `Slots` if the bytes spell
-/// no program; `Notation`, `NoText` or `Digits` if `text` is no hex digits in the notation of cases (`bytes_of`). If out of memory,
-/// `Memory`, but `Digits` from the decoder of the digits, and `Slots` from reading or making a program.
+/// that begins there, as Rust prints it for debugging, or `none`. `text` has the program's slots as hex digits. They are decoded, and a
+/// second program is made of the instructions and cloned. The outcome is that of the clone, so that `Program::new` and `clone` are tested
+/// too. `Notation` if `text` breaks the notation of cases; `NoText` if it gives no UTF-8; `Digits` if two bytes after a `\x` are no hex
+/// digits, a character that it gives is neither a space nor a hex digit, or the number of digits is odd (`bytes_of`); `Slots` if the bytes
+/// spell no program. If out of memory, `Memory`, but `Digits` from the decoder of the digits, and `Slots` from reading or making a program.
 pub fn places(alloc: Global, text: &str) -> Result<String, CaseError> {
     let bytes = bytes_of(alloc, text)?;
     let program = read_program(alloc, &bytes)?;

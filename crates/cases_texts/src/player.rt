@@ -20,10 +20,12 @@ impl TextPlayer {
 }
 
 impl Player for TextPlayer {
-    /// The first word of the line selects the function that makes the line's outcome from the text after this word. In the order of the
-    /// arms, the functions from `codec` to `opcodes` are in `bytes.rt`, those from `asm` to `hex` in `texts.rt`, and those for `program`
-    /// and `map` in `arguments.rt`. `opcodes` does not read that text. `UnknownWord` for any other word; the other errors are those of the
-    /// function.
+    /// Plays a line: the first word selects the function that makes the line's outcome from the text after this word. `codec` decodes an
+    /// instruction and encodes it again. `dis` disassembles a program, given in hex digits; the next arm lists the instructions of such a
+    /// program by slot. `exits` makes a program of a number of exits. `opcodes` counts the opcodes that instructions have, and reads no
+    /// text. `asm` assembles a program's text; `round` also disassembles the program, and assembles that text again. `hex` reads hex lines,
+    /// `program` runs the command line of `host`, and `map` reads an argument for a map. `UnknownWord` for any other word; the other errors
+    /// are those of the function.
     fn play(&mut self, line: &str) -> Result<String, CaseError> {
         let (word, rest) = first_word(line);
         match word {

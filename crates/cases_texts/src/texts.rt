@@ -16,10 +16,11 @@ fn program_of(alloc: Global, text: &str) -> Result<Program, CaseError> {
     Ok(program)
 }
 
-/// `asm`: assembles the program whose text is given in the notation of cases, and returns its hex lines on one line: `;` for each line
-/// feed, and equal lines, one after another, as a repetition (`shown`). `Notation` if a repetition in `text` is wrong or a `\x` is cut off,
-/// `Digits` if the two bytes after a `\x` are no hex digits, `NoText` if the bytes of the program's text are not UTF-8. `Text` if this does
-/// not assemble, also if the assembler is out of memory, and `Memory` if another call is.
+/// The outcome of a line `asm`. `text`, the line after this word, gives a program's text in the notation of cases. The program is
+/// assembled, and the result is its hex lines, one for each slot, on one line: `;` for each line feed, and equal lines, one after another,
+/// as a repetition `{COUNT*PART}` (`shown`). `Notation` if a repetition in `text` is wrong, or `text` can't be split two bytes after a
+/// `\x`; `Digits` if these two bytes are no hex digits; `NoText` if the bytes of the program's text are not UTF-8. `Text` if this text does
+/// not assemble, also if the assembler is out of memory; `Memory` if memory runs out elsewhere.
 pub fn assembled(alloc: Global, text: &str) -> Result<String, CaseError> {
     let program = program_of(alloc, text)?;
     let lines = hex_lines(alloc, &program)?;
@@ -27,10 +28,11 @@ pub fn assembled(alloc: Global, text: &str) -> Result<String, CaseError> {
     Ok(answer)
 }
 
-/// The outcome of a line `round`: `text`, the line after this word, is a program's text in the notation of cases. The program is
-/// disassembled, and the result is the text that this prints, on one line (`shown`). That text is assembled again: if this gives other
-/// slots, the result is `another program`. `Notation` or `Digits` if `text` is not in the notation, `NoText` if its bytes are not UTF-8,
-/// `Text` if one of the two texts does not assemble or the assembler is out of memory, and `Memory` if another call is.
+/// The outcome of a line `round`: `text`, the line after this word, is a program's text in the notation of cases. The program is assembled
+/// and disassembled, and the text of the disassembler is assembled again. If this gives the same slots, the result is that text on one
+/// line: `;` for each line feed, and a repetition for equal lines (`shown`). If it gives other slots, the result is `another program`.
+/// `Notation` or `Digits` if `text` is not in the notation, `NoText` if its bytes are not UTF-8, `Text` if one of the two texts does not
+/// assemble. Out of memory is `Text` in the assembler, else `Memory`.
 pub fn printed(alloc: Global, text: &str) -> Result<String, CaseError> {
     let program = program_of(alloc, text)?;
     let text = disassemble(alloc, &program)?;

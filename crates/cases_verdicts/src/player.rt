@@ -52,11 +52,12 @@ impl VerdictPlayer {
         self.verdict(whole.as_str())
     }
 
-    /// The word `accepted` if the verifier accepts a program of `MAX_SLOTS` slots (`jumping`): a load, then conditional jumps, each with a
-    /// move after it, and in the last slot an instruction. `text` is a number and this instruction, in the notation of cases: each jump
-    /// skips this number of slots, or goes to the last slot if it would go past that. `Refused`, with slot and reason, if the program is
-    /// rejected; `Number` if the first word of `text` is no number. `Notation`, `Digits` or `NoText` if the instruction is not in this
-    /// notation, `Text` if the program does not assemble. Out of memory is `Text` from the assembler, `Refused` from the verifier,
+    /// Verifies a program of `MAX_SLOTS` slots, the most that a program may have, so that cases show the verdict on a longest program with
+    /// many jumps (`jumping`). The program is a load of a word of the context, 2,047 conditional jumps, each with a move after it, and an
+    /// instruction in the last slot. `text` is a number and this instruction, in the notation of cases. Each jump skips this number of
+    /// slots, or all slots before the last one if these are fewer. Returns the word `accepted`; `Refused`, with slot and reason, if the
+    /// program is rejected; `Number` if the first word of `text` is no number; `Notation`, `Digits` or `NoText` if the instruction is not
+    /// in this notation, `Text` if the program does not assemble. Out of memory is `Text` from the assembler, `Refused` from the verifier,
     /// else `Memory`.
     fn verdict_of_longest(&self, text: &str) -> Result<String, CaseError> {
         let (ahead, end) = first_word(text);
@@ -77,9 +78,11 @@ impl VerdictPlayer {
 }
 
 impl Player for VerdictPlayer {
-    // Plays a line by its first word. The outcome of `verify`, `start` and `jumps` is a program's verdict, that of `maps` the maps of an
-    // accepted program, that of `join` a join of facts; `map`, `program` and `new` change the open descriptors. The head of `main.rt` has a
-    // table of these lines. The errors are those of the called function, and `UnknownWord` for any other first word.
+    // Plays a line by its first word. The outcome of `verify`, `start` and `jumps` is the verdict on a program: the text after the word
+    // (`verify`), this text and then `r0 = 0; exit` (`start`), or one of `MAX_SLOTS` slots with a jump in every second one (`jumps`). The
+    // outcome of `maps` is the maps and the number of slots of an accepted program, that of `join` a join of facts; `map`, `program` and
+    // `new` change the open descriptors. The head of `main.rt` has a table of these lines. The errors are those of the called function, and
+    // `UnknownWord` for any other first word.
     fn play(&mut self, line: &str) -> Result<String, CaseError> {
         let (word, rest) = first_word(line);
         match word {

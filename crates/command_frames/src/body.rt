@@ -99,8 +99,9 @@ fn map_delete(body: &[u8]) -> Result<Command<'_>, BadFrame>
     })
 }
 
-/// Reads the body of MAP_NEXT_KEY, command 4 (`command_in 4`): a descriptor, four bytes, little-endian, then the key, which may have any
-/// length, also 0. `Body` if the body is too short for the descriptor. In the contract, `shown_result` takes the borrowed key as its bytes.
+/// Reads the body of MAP_NEXT_KEY, command 4 (`command_in 4`): a descriptor, four bytes, little-endian, then the key, which is all the
+/// rest. `Body` if the body is too short for the descriptor. The length of the key is not checked here: `next_key` of `tenant` does this,
+/// and takes an empty key as the request for the map's first key. In the contract, `shown_result` takes the borrowed key as its bytes.
 fn map_next_key(body: &[u8]) -> Result<Command<'_>, BadFrame>
     ensures { shown_result result ≡ command_in 4 body.now }
 {
@@ -113,9 +114,10 @@ fn map_next_key(body: &[u8]) -> Result<Command<'_>, BadFrame>
     })
 }
 
-/// Reads the body of PROG_LOAD, command 5: the type of the program, four bytes, little-endian, then its slots, all bytes after the type.
-/// `Body` if the body is too short for the type. The type may be any number here, and the slots any number of bytes: `load` of `tenant`
-/// tests both.
+/// Reads the body of PROG_LOAD, command 5: the type of the program (`kind`) in the first four bytes, little-endian, then its slots, all
+/// bytes after the type. `Body` if the body is too short for the type. The type may be any number here, and the slots any number of bytes:
+/// `load` of `tenant` tests both. By the contract the result, with the borrowed slots as a list of bytes (`shown_result`), is what the
+/// definition `command_in` has for command 5 and this body.
 fn prog_load(body: &[u8]) -> Result<Command<'_>, BadFrame>
     ensures { shown_result result ≡ command_in 5 body.now }
 {

@@ -116,9 +116,9 @@ fn front(head: Head, status: i32, length: u32) -> [u8; FRONT_LENGTH]
     [a, b, c, d, e, f, g, h, i, j, k, l]
 }
 
-/// Replaces the contents of `reply` by a reply: the length field, the tenant and the command number of `head`, the status and the payload.
-/// The status of a tenant's reply is 0, a new descriptor, or a negated error number. The payload has at most `LONGEST_PAYLOAD` bytes, so
-/// the buffer has room: no command gives a longer one.
+/// Replaces the contents of `reply` by a reply: the length field, which has the number of bytes after it, the tenant and the command number
+/// of `head`, the status and the payload. The numbers are little-endian. The status of a tenant's reply is 0, a new descriptor, or a
+/// negated error number. The payload has at most `LONGEST_PAYLOAD` bytes, so the buffer has room: no command gives a longer one.
 pub fn write_reply(head: Head, status: i32, payload: &[u8], reply: &mut ReplyBuf)
     requires { length payload.now ≤ longest_payload }
     ensures { reply.new ≡ reply_bytes head.tenant head.command status payload.now }
@@ -129,9 +129,10 @@ pub fn write_reply(head: Head, status: i32, payload: &[u8], reply: &mut ReplyBuf
     reply.append(payload);
 }
 
-/// Replaces the contents of `reply` by a reply with the tenant and the command of `head`. Its status is 0 (`pos 0`, an integer), and its
-/// payload is `number`, for a test run its result, in four bytes, little-endian. `write_reply` would take more machine instructions for it:
-/// here the number of all bytes, sixteen, is known in advance.
+/// Replaces the contents of `reply` by a reply with the tenant and the command number of `head`. Its status is 0 (`pos 0`, an integer), and
+/// its payload is `number`, the result of a test run, in four bytes, little-endian. `front` returns the twelve bytes before the payload:
+/// the length field, which is the number of bytes after it (`NUMBER_LENGTH`), tenant, command and status. `write_reply` would write the
+/// same with more machine instructions: here the number of all bytes, sixteen, is known in advance.
 pub fn write_number(head: Head, number: u32, reply: &mut ReplyBuf)
     ensures { reply.new ≡ reply_bytes head.tenant head.command (pos 0) (little_bytes 4 number) }
 {

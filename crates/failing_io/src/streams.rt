@@ -125,11 +125,11 @@ struct Stream<'a> {
     write_failures: u64,
 }
 
-/// Serves at most `limit` frames of the stream on a new host of two tenants, with any seed, since no frame makes a hash map. Asserts that
-/// the result is `end`, that as many calls of the reader and of the writer failed as `read_failures` and `write_failures` say, and that
-/// exactly the expected bytes are written: none differs, and `expected`, from which the writer removes the bytes that agree, is empty. The
-/// message of a failed assertion is `case`, the name of a group of streams, and `number`, the length or other number by which these differ:
-/// `room for 12`, for example.
+/// Serves at most `limit` frames of the stream on a new host of two tenants. Its seed does not matter, since no frame makes a hash map.
+/// Asserts that the result is `end`, that as many calls of the reader and of the writer failed as `read_failures` and `write_failures` say,
+/// and that exactly the expected bytes are written: none differs, and `expected`, from which the writer removes the bytes that agree, is
+/// empty. If the assertion fails, `rt` ends the test with a message: `case`, the name of a group of streams, and `number`, the length or
+/// other number by which the streams of this group differ, for example `room for 12`.
 fn assert_ends(rt: &impl Abort, alloc: Global, case: &str, number: usize, stream: Stream<'_>) {
     let Stream {
         input,
@@ -193,9 +193,11 @@ fn end_of_cut(length: usize) -> (Result<u32, ServeFault>, usize) {
     }
 }
 
-/// Asserts how `serve_new_host` ends, which bytes it writes, and how many calls fail (`assert_ends`). The input ends after each number of
-/// bytes, or fails after some. The output has room for only some bytes of the replies, takes five bytes in a call, or can't be flushed. The
-/// input has frames without end, one byte in a call, and five are allowed; or no frame is allowed, and it has no byte or one.
+/// Asserts of several streams how `serve_new_host` ends, which bytes it writes, and how many calls of the reader and the writer fail
+/// (`assert_ends`; its text and number are for the message of a failed assertion). In the first streams the input, a load and a test run
+/// (`LOAD_AND_RUN`), ends after each number of bytes, or fails after some. Then it is whole, but the output has room for only some bytes,
+/// takes at most five in a call, or can't be flushed. Then the input has frames without end, one byte in a call, and five frames are
+/// allowed. In the last two streams no frame is allowed: an empty input is no fault, but one byte is.
 #[test]
 fn streams_end_and_fail(rt: HostRuntime) {
     let alloc = rt.alloc();

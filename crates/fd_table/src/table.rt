@@ -58,8 +58,9 @@ impl<T: Drop> FdTable<T> {
         })
     }
 
-    /// The index of the lowest free descriptor, its distance from `FIRST`: that of the lowest bit of `taken` that is 0. `None` if no
-    /// descriptor is free: then all bits are ones.
+    /// The index of the lowest free descriptor, which is its distance from `FIRST`, less than `MOST` (`bound`). Bit k of `taken` is 1 if
+    /// descriptor `FIRST` + k is open, so the index is the position of the lowest bit that is 0. `None` if no descriptor is free: then all
+    /// bits are ones. The contract sees a list with `None` for each free descriptor, and takes the position of the first `None` (`value`).
     fn free_index(&self) -> Option<usize>
         ensures value { result ≡ position is_none self.now }
         ensures bound { IfSome result (λ index. index < most) }
@@ -95,8 +96,8 @@ impl<T: Drop> FdTable<T> {
         Ok(FIRST + index as u32)
     }
 
-    /// The object that `fd` names, by reference; in the contract `option_copied` is the object itself. `None` if this number is not open,
-    /// or no descriptor (below `FIRST`, or `FIRST + MOST` or above).
+    /// The object that `fd` names, as a reference; the contract has the object without the reference (`option_copied`). `None` if nothing
+    /// is open at this number: it is a free descriptor, or no descriptor (below 3, `FIRST`, or above 66, `FIRST + MOST - 1`).
     pub fn get(&self, fd: u32) -> Option<&T>
         ensures { option_copied result ≡ named self.now fd }
     {

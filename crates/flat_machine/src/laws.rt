@@ -30,11 +30,12 @@ pub(crate) fn bytes_fit(bytes: &[u8])
     let _ = bytes.len();
 }
 
-/// A law. `HasNext` means: the slots `rest` begin with an instruction that has a step with these registers, and with some maps and some
-/// memory of which its last argument holds. The precondition is this for the maps of `maps` and the memory of `arena` (`with_both`). From
-/// it follows what requires less: a step with some maps and some memory, whatever they are (`some`, `any`), with some maps and this memory
-/// (`within`), and with these maps and some memory (`among`). So each arm of `dispatch` requires no more than its step reads. `entry` is
-/// the value that `maps` has at the call.
+/// A law. `HasNext rest registers of` means: the slots `rest` begin with an instruction that has a step with these registers, and with some
+/// maps and some memory for which `of` holds. By the precondition the instruction has a step with the maps of the run (`run_maps`: their
+/// descriptors, and the addresses of their first values) and with the memory of `arena` (`with_both`). Each clause requires less of maps
+/// and memory: nothing (`some`, `any`), that the memory is this one (`within`, `in_memory`), or that the maps are these (`among`,
+/// `with_maps`). So each inline function for a group of opcodes may require only the clause for what its step reads. `maps.entry` is the
+/// value of `maps` at the call.
 #[inline(always)]
 pub(crate) fn has_some_next(maps: BoundMaps, rest: &[RawSlot], registers: &Registers, arena: &Arena)
     requires { HasNext rest.now registers.now
@@ -48,9 +49,11 @@ pub(crate) fn has_some_next(maps: BoundMaps, rest: &[RawSlot], registers: &Regis
     let _ = arena;
 }
 
-/// A law, for `run_premises`. Suppose that words and bytes represent a state of the tagged machine. If an instruction, which names no map
-/// but those of the run, has a step from this state, its step on the words and bytes leads to words and bytes that represent the next
-/// state, or both steps end the run with equal numbers (`StepsFollow`). A call of a helper is not included: it has a law of its own.
+/// A law. Suppose that words and bytes represent a state of the tagged machine. If an instruction, which names no map but those of the run,
+/// has a step from this state, its step on the words and bytes leads to words and bytes that represent the next state, or both steps end
+/// the run with equal numbers (`StepsFollow`). A call of a helper is not included: of calls, the clause `follows` of `call` and
+/// `call_in_run` of `bpf_helpers` promises this. `run_premises` gives the law to the proof that a run returns what the tagged run returns
+/// (`runs` of `run_with`).
 fn steps_follow()
     ensures { StepsFollow }
 {
@@ -69,10 +72,12 @@ fn steps_stay_inside()
     bpf_helpers::laws::stores_keep_simulation();
 }
 
-/// A law with all premises of the proofs of runs and batches, so that each takes them by one call: the laws of a run's steps
-/// (`steps_follow`, `steps_stay_inside`), of its start and its end; that the arguments of a call name all that its helper needs
-/// (`calls_name_all`); that maps that are not bound to the run keep their values (`others_stay`); that the list of a program's maps has
-/// each map that the program loads, once (`maps_are_listed`); and that elements keep their offsets if the areas are unchanged.
+/// A law with all premises of the proofs of runs and batches, so that each proof takes them by one call. A step on words and bytes that is
+/// no call simulates that of the tagged machine (`steps_follow`), and accesses only the tenant's part (`steps_stay_inside`). If the
+/// machine's call of a helper is no fault, the call's words name all maps and bytes that the helper needs (`calls_name_all`). At the start
+/// of a run, words and bytes represent the machine's first state (`runs_begin`). After a run, the bound maps have the keys and values of
+/// the machine's maps (`runs_end`), and other maps have their values from before it (`others_stay`). The list of a program's maps has each
+/// map that the program loads, once (`maps_are_listed`). Elements keep their offsets if the areas are unchanged.
 pub(crate) fn run_premises()
     ensures { RunLaws }
 {

@@ -105,10 +105,11 @@ fn first_fault(many: usize, ends: &[usize]) -> Option<PacketFault>
     None
 }
 
-/// Why packets in `many` bytes are refused: the fault of the first packet that has one, `Outside` or `TooLong`; `None` if none has. `ends`
-/// has for each packet how many of the bytes are before its end. The first packet begins at byte 0 (the `0` of the contract), each other
-/// one at the end of the one before. `first_fault` tests each packet, but only if `pass_quick_test`, a quick test of all, is false. The
-/// quick test may be false without a fault: a packet of exactly `LONGEST_PACKET` bytes has none.
+/// Why packets in `many` bytes are refused: the fault of the first packet that has one; `None` if none has. It is `Outside` if the packet
+/// ends before it begins or after the last byte, else `TooLong` if it has more than `LONGEST_PACKET` bytes. `ends` has for each packet how
+/// many of the bytes are before its end. The first packet begins at byte 0 (the `0` of the contract), each other one at the end of the one
+/// before. `first_fault` tests each packet, but only if `pass_quick_test`, a quick test of all, is false. The quick test may be false
+/// without a fault: a packet of exactly `LONGEST_PACKET` bytes has none.
 #[inline(always)]
 fn fault_of(many: usize, ends: &[usize]) -> Option<PacketFault>
     ensures { result ≡ packets_fault many 0 ends.now }
@@ -122,12 +123,14 @@ fn fault_of(many: usize, ends: &[usize]) -> Option<PacketFault>
 
 impl<'a> Packets<'a> {
     /// The packets in `bytes`, one after another from byte 0 on: the packet of index i ends before byte `ends[i]`, at which the next one
-    /// begins. `contexts` has one array of context words for all packets, or one for each.
+    /// begins. `contexts` has one array of context words for all packets, or one for each: `GIVEN_WORDS` words, all but the first, which is
+    /// the packet's length. Contracts see the input of each run, a packet with its words, in order (`inputs_of`).
     ///
     /// # Errors
     ///
     /// `Contexts` if there is neither one array of words nor one for each packet. Else the fault of the first packet that has one:
-    /// `Outside` if the packet ends before it begins or after the last byte, `TooLong` if it has more than `LONGEST_PACKET` bytes.
+    /// `Outside` if the packet ends before it begins or after the last byte, `TooLong` if it has more than `LONGEST_PACKET` bytes. By
+    /// `fault` the error is that of the definition `batch_fault`, and there is none exactly if that is `None`.
     pub fn new(
         contexts: &'a [[u32; GIVEN_WORDS]],
         bytes: &'a [u8],
@@ -152,7 +155,8 @@ impl<'a> Packets<'a> {
         })
     }
 
-    /// A law: no packet has more than `LONGEST_PACKET` bytes, since `new` refuses longer ones. It does nothing when it runs.
+    /// A law: no packet has more than `LONGEST_PACKET` bytes, since `new` refuses longer ones. The proof of `Tenant::run_packets` of
+    /// `tenant` needs it, since a test run rejects a longer packet (`TooBig`). The function does nothing when it runs.
     #[inline(always)]
     pub fn packets_are_short(&self)
         ensures { All (λ input. length input.packet ≤ longest_packet) self.now }

@@ -20,20 +20,23 @@ RunsFor fd (Some s) inputs room written after =
     (last : TenantState) × RunsBatch fd s inputs room written last × (after ≡ Some last)
 
 -- why a batch of the program at descriptor fd is rejected, by the first fault; None if it is run.
--- NotPermitted: the tenant is not served, so has no state (None). BadDescriptor: fd names nothing.
--- Invalid: it names a map; there is `room` for fewer results than packets; or the `contexts` are
--- neither one nor one for each packet. Of the first wrong packet: Invalid if its end (`ends`) is
--- before its beginning or past the `many` bytes, TooBig if it is longer than `longest_packet`
+-- The packets lie one after another in `many` bytes, and `ends` has for each the number of bytes
+-- before its end; `contexts` is the number of arrays of context words, and `room` how many results
+-- can be stored. NotPermitted: the tenant is not served, so has no state (None). BadDescriptor: fd
+-- names nothing. Invalid: fd names a map; `room` is less than the number of packets; or `contexts`
+-- is neither 1 nor this number. Of the first wrong packet: Invalid if its end is before its
+-- beginning or past the `many` bytes, TooBig if it is longer than `longest_packet`
 abbrev pub refusal_for : Option TenantState → ℕ → ℕ → ℕ → List ℕ → ℕ → Option Errno
 refusal_for None fd contexts many ends room = Some NotPermitted
 refusal_for (Some s) fd contexts many ends room =
     batch_refusal (named s.objects fd) contexts many ends room
 
 -- `bound`, a number of instructions, allows n of the `packets` packets of a batch at descriptor fd
--- (`IsAllowed`): as many runs as fit, at least one and at most all, if each counts for its
--- program's most instructions and `CALL_WEIGHT` more for each of its most calls of helpers. If
--- `bound` is 0, nothing is bounded, and n is `packets`; so it is if fd names no program, or the
--- tenant is not served (None), since such a batch is rejected as a whole
+-- (`IsAllowed`). A run has a weight: the most instructions on a path of the program to an exit,
+-- plus `CALL_WEIGHT` times the most calls of helpers on such a path. n is `bound` divided by the
+-- weight and rounded down, but at least 1, and then at most `packets`. If `bound` is 0, which is no
+-- bound, n is `packets`; also if fd names no program, or the tenant is not served, so has no state
+-- (None), since such a batch is rejected as a whole
 abbrev pub IsAllowedFor : Option TenantState → ℕ → ℕ → ℕ → ℕ → Type 0
 IsAllowedFor None fd bound packets n = n ≡ packets
 IsAllowedFor (Some s) fd bound packets n = IsAllowed (named s.objects fd) bound packets n

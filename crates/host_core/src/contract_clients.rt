@@ -18,11 +18,13 @@ use command_frames::ReplyBuf;
 use seeded_hash::HashSeed;
 use std::alloc::Global;
 
-/// If a new host serves a stream to its end, each tenant to which no memory was refused gets exactly the replies that the machine of a new
-/// tenant gives to its frames. Returns the number of replies; `None` at a fault, for which the contract promises nothing. In the contract,
-/// `after` are the states of the tenants at the end, and `[]` is the list of the bytes after the last whole frame: there are none. The host
-/// has 1 to `MOST_TENANTS` tenants (`some`, `few`), and fewer than 2^64 - 1 calls of the reader and of the writer have failed before, as
-/// they are counted in 64 bits (`reader`, `writer`). The seed and the limit of 100 frames are arbitrary.
+/// Shows what a caller can prove only from the contract of `serve_new_host`; nothing calls this function. If a new host serves a stream to
+/// its end, each tenant to which no memory was refused gets exactly the replies that the machine of a new tenant gives to its frames
+/// (`ServesAlone`). Returns the number of replies; `None` at a fault, for which this contract promises nothing. A `stream_state` has the
+/// states of the tenants, which are new at first and `after` at the end, and what contracts see of reader and writer. `[]` is the list of
+/// the bytes after the last whole frame: there are none. The host has 1 to `MOST_TENANTS` tenants (`some`, `few`), and fewer than 2^64 - 1
+/// calls of the reader and of the writer have failed before, as they are counted in 64 bits (`reader`, `writer`). The seed and the limit of
+/// 100 frames are arbitrary.
 fn serve_from_the_beginning<R: Source, W: Sink>(
     alloc: Global,
     tenants: usize,
@@ -41,9 +43,10 @@ fn serve_from_the_beginning<R: Source, W: Sink>(
     serve_new_host(alloc, tenants, HashSeed::new(0, 0), reader, writer, 100).ok()
 }
 
-/// Lets a host, which may be in any state, serve a stream, to its end or to a fault. Then all parts of a save of each tenant, one after
-/// another, restore this tenant (`AreRestored`): a new tenant that has handled their frames replies as the saved one does, if no memory is
-/// refused to it. `serve` requires `reader` and `writer`: fewer than 2^64 - 1 calls of each have failed before.
+/// Shows from the contracts that a host can be saved after a stream. Lets a host, which may be in any state, serve a stream, to its end or
+/// to a fault. Then all parts of a save of each tenant, one after another, restore this tenant (`AreRestored`): a new tenant that has
+/// handled their frames replies as the saved one does, if no memory is refused to it. `serve` requires `reader` and `writer`: fewer than
+/// 2^64 - 1 calls of each have failed before. The limit of 100 frames is arbitrary. Nothing calls this function.
 fn serve_and_save<R: Source, W: Sink>(
     alloc: Global,
     host: &mut Host,
@@ -58,10 +61,11 @@ fn serve_and_save<R: Source, W: Sink>(
     host.tenants_are_restored();
 }
 
-/// Shows from the contracts that a reply after a refusal of memory is exact. Handles two frames: `refused`, for which memory may be refused
-/// (`first` is its reply, `between` are the states after it), and `next`. At the end `reply` has the reply to `next`. Unless its status is
-/// `NoMemory`, it is exactly the reply that the own machine of the tenant of `next` gives without refusals, from its state in `between`,
-/// even if memory was refused to this tenant before.
+/// Shows from the contracts that a reply is exact also after memory was refused. Handles the frame `refused`, for which memory may be
+/// refused: `first` is its reply, and `between` are the states of all tenants after it. Then handles `next`, so that `reply` has the reply
+/// to `next`. Unless the status of this reply is `NoMemory` (`IsRefusedMemory`), it is exactly the one that the machine of the tenant of
+/// `next` (`owner`) gives without refusals, from the tenant's state in `between` to that in `host` at the end (`IsServedAlone`), even if
+/// memory was refused to this tenant before. This follows from the law `each_stretch_is_served_alone`, which does nothing when it runs.
 fn handle_after_a_refusal(host: &mut Host, refused: &[u8], next: &[u8], reply: &mut ReplyBuf)
     ensures { (first : List ℕ) × (between : List TenantState)
         × Handles host.old.states refused.now first between
@@ -73,14 +77,16 @@ fn handle_after_a_refusal(host: &mut Host, refused: &[u8], next: &[u8], reply: &
     host.handle(next, reply);
 }
 
-/// The limit on tenants in the code is that of the definitions, `most_tenants`.
+/// Shows that a host's limit on tenants is the same in the code (`MOST_TENANTS`, the result) and in the definitions (`most_tenants`).
+/// Nothing calls this function: only its contract is of use.
 fn tenants_of_the_largest_host() -> usize
     ensures { result ≡ most_tenants }
 {
     MOST_TENANTS
 }
 
-/// The limit on the frames of a call of `serve` is the same in the code and in the definitions (`most_frames`).
+/// Returns `MOST_FRAMES`, the greatest limit that a call of `serve` may have on its frames. Nothing calls this function: its contract shows
+/// that the constant of the code is the number of the definitions (`most_frames`).
 fn frames_of_the_longest_call() -> u32
     ensures { result ≡ most_frames }
 {

@@ -114,12 +114,12 @@ impl Host {
         }
     }
 
-    /// Handles a frame (what follows the length field) of any length: writes its reply to `reply`, and changes the state of its tenant.
-    /// Both are what the tenant's machine allows for the frame, with or without a refusal of memory (`own`). The tenant's births, the
-    /// record of the maps created and programs loaded, change as well (`recorded`). All other tenants are unchanged (`others`), and so is
-    /// their number (`count`). The status of the reply is that of EINVAL if the frame has fewer than the four bytes of a head, and that of
-    /// EPERM if its tenant is not served; in both cases no state changes. It is never EFAULT, the status of a test run that faults
-    /// (`no_fault`).
+    /// Handles a frame (what follows the length field) of any length: writes its reply to `reply`, and changes the state of its tenant
+    /// (`owner`: the number in the frame's head; without a head 65535, which no tenant has). Both are what the tenant's machine allows for
+    /// the frame, with or without a refusal of memory (`own`). The tenant's births, the record of the maps created and programs loaded,
+    /// change as well (`recorded`). All other tenants are unchanged (`others`), and so is their number (`count`). The status of the reply
+    /// is that of EINVAL if the frame has fewer than the four bytes of a head, and that of EPERM if its tenant is not served; in both cases
+    /// no state changes. It is never EFAULT, the status of a test run that faults (`no_fault`).
     pub fn handle(&mut self, frame: &[u8], reply: &mut ReplyBuf)
         ensures own { MayReply frame.now reply.new
             (slice_get self.old.states (owner frame.now))
@@ -168,12 +168,13 @@ impl Host {
     }
 
     /// A law, which does nothing when it runs: what `save` returns restores a tenant (`AreRestored`). All parts of a save of a tenant, one
-    /// after another, are frames of this tenant. A new tenant to which no memory is refused succeeds at each of these frames, and then
-    /// replies as the saved tenant does. This holds whatever calls this host had, and whatever memory was refused to the saved tenant.
+    /// after another, are frames of this tenant, each with its length before it. A new tenant to which no memory is refused succeeds at
+    /// each of these frames. Then it replies as the saved tenant does, while no memory is refused to either. This holds whatever calls this
+    /// host had, and whatever memory was refused to the saved tenant before.
     pub fn tenants_are_restored(&self)
         ensures { AreRestored self.now }
     {
-        // For the proof only: by the invariant of the host each tenant has a history.
+        // For the proof only: by the invariant of the host each tenant has a history, commands that lead a new tenant to its state.
         let _ = &self.tenants;
         saving::laws::histories_are_restored();
         command_frames::laws::frames_have_owners();
@@ -181,9 +182,10 @@ impl Host {
     }
 
     /// Runs the program at the descriptor `fd` of `tenant` on many packets, in order. The packets lie one after another in `bytes`, from
-    /// byte 0 on, and `ends` has for each packet how many of these bytes are before its end. `contexts` has one context for all packets, or
-    /// one for each: the `GIVEN_WORDS` words that follow the packet's length in the context of a run. The results, for each packet the
-    /// number that the reply to its test run has, are written to the front of `results`, whose rest is unchanged.
+    /// byte 0 on; `ends` has for each packet the number of bytes up to its end. `contexts` has one context for all packets, or one for
+    /// each: the `GIVEN_WORDS` words that follow the packet's length in the context of a run. The result of a packet is the low 32 bits of
+    /// register 0 at the exit of its run, as in the reply to a test run. The results are written to the front of `results`, in the order of
+    /// the packets; the rest of `results` is unchanged.
     ///
     /// Results and states afterwards are those of the test-run frames of these packets in this order (`runs`). The states of all other
     /// tenants are unchanged (`tenant`), and so are all births, the records of created maps and loaded programs (`births`).
@@ -192,8 +194,8 @@ impl Host {
     ///
     /// The first that applies (`refusal`): `NotPermitted` if the tenant is not served; `BadDescriptor` if the descriptor is not open,
     /// `Invalid` if it names a map; `Invalid` if `results` has room for fewer results than packets, or if there is neither one context nor
-    /// one for each packet; for the first wrong packet `Invalid` if its end is before the previous one or after the end of `bytes`,
-    /// `TooBig` if it has more than `LONGEST_PACKET` bytes. Then no packet was run, and nothing has changed (`unchanged`).
+    /// one for each packet; for the first wrong packet `Invalid` if its end is before the previous packet's end or after the end of
+    /// `bytes`, `TooBig` if it has more than `LONGEST_PACKET` bytes. Then no packet was run, and nothing has changed (`unchanged`).
     pub fn run_packets(
         &mut self,
         tenant: usize,

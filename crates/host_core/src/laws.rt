@@ -5,10 +5,10 @@ ghost use Rattle.host_core.specs.Saving.{TenantsAreRestored};
 ghost use Rattle.host_core.specs.Laws.{UnrefusedAreServedAlone, CallsAreServedAlone, EachIsServedAloneUntilRefused};
 ghost use Rattle.host_core.specs.Laws.{EachStretchIsServedAlone, SameFramesSameReplies, SameFramesSameOutput, NoContentEndsAStream};
 
-/// A law, for a caller of `serve`, whose contract allows refusals of memory (`done`, `fault` of `ServesStream`). If each tenant gets
-/// replies that its own machine may give to its frames when memory may be refused (`EachIsServedByItsMachine`), then each tenant whose flag
-/// of refused memory is clear after the last frame gets exactly the replies that its machine gives without refusals, whatever was refused
-/// to others (`Noninterference`).
+/// A law, for a caller of `serve`. The contract of `serve` allows refusals of memory, both if the input ends (`done` of `ServesStream`) and
+/// if `serve` stops with a fault (`fault`). The law: if each tenant gets replies that its own machine may give to its frames when memory
+/// may be refused (`EachIsServedByItsMachine`), then each tenant whose flag of refused memory is clear after the last frame gets exactly
+/// the replies that its machine gives without refusals, whatever was refused to others (`Noninterference`).
 pub fn unrefused_are_served_alone()
     ensures { UnrefusedAreServedAlone }
 {
@@ -54,17 +54,20 @@ pub fn same_frames_same_replies()
     tenant::laws::one_reply_list();
 }
 
-/// A law: two streams with the same frames get the same replies and the same bytes of output, whichever hosts serve them, if each tenant
-/// with a frame among these has the same state at the beginning of both streams, and was refused no memory by the end of either (its flag
-/// `refused` is clear). Replaying a recorded stream relies on this.
+/// A law, on which the replay of a recorded stream relies: two streams with the same frames get the same replies, and the same bytes of
+/// output are written, whichever hosts serve them. The law assumes of both streams what `serve` promises unless its writer fails
+/// (`ServesAlone`). Of each tenant to which one of the frames goes (`owner`), it assumes that the tenant has the same state at the
+/// beginning of both streams, and that its flag of refused memory (`refused`) is clear at the end of both.
 pub fn same_frames_same_output()
     ensures { SameFramesSameOutput }
 {
     same_frames_same_replies();
 }
 
-/// A law, by which no tenant can end the stream of the others with the content of a frame: `serve` ends early only by a fault of the reader
-/// or the writer, an input that is cut inside a frame, no memory for its buffers, or the limit of frames.
+/// A law, by which no tenant can end the stream of the others with the content of a frame. It assumes that the bytes of the reader are
+/// known, no call of the reader or the writer fails, and `serve` gets the memory for its buffers. Then its result depends only on `limit`,
+/// the most frames that its caller allows, on the number of frames, and on whether bytes follow them (`stream_result`): it is an error only
+/// if any byte follows `limit` frames, or the input ends inside a frame.
 pub fn no_content_ends_a_stream()
     ensures { NoContentEndsAStream }
 {

@@ -22,8 +22,10 @@ use std::alloc::{AllocError, Global};
 pub(crate) const FRAME_BUFFER: usize = LONGEST_FRAME + 1;
 
 /// Reads until `buffer` is full or the input ends, and returns how many bytes were read, at most its length (`bound`). These are at its
-/// front, and are the next bytes of the input (`bytes`). If they don't fill it, the input has ended (`end`): a read into the rest of the
-/// buffer, which is not empty, gave 0 bytes. No call of the reader failed (`sound`). Fewer than 2^64 - 1 have failed before.
+/// front, and are the next bytes of the input (`bytes`, `Takes`). If they don't fill it, the input has ended (`end`): a read into the rest
+/// of the buffer, at least one byte, gave 0 bytes. If the bytes that the reader has left are not known (`S.remaining` is `None`), `Takes`
+/// and `IsAtEnd` claim nothing. No call of the reader failed (`sound`). Fewer than 2^64 - 1 calls have failed before, so that the number of
+/// failed calls (`S.failures`) fits in 64 bits.
 ///
 /// # Errors
 ///
@@ -63,7 +65,8 @@ fn number_in(bytes: &[u8]) -> u32
 /// input is at its end, so that no byte is read (`none`). The error is `Truncated` if the input ends after one to three of the bytes, and
 /// `Read` if a call of the reader failed. If the result is no error, no call failed (`sound`). If it is an error, the bytes that were read
 /// are no whole frame (`short`), and the error is why no more were read: a call failed, or the input ended and no call failed (`stop`).
-/// `S.remaining` are the bytes that a reader has left, if they are known.
+/// `S.remaining` are the bytes that a reader has left, if they are known, and `S.failures` is how many of its calls have failed: before
+/// this call fewer than 2^64 - 1, so that the count fits in 64 bits.
 fn read_length<S: Source>(reader: &mut S) -> Result<Option<u32>, ServeFaultKind>
     requires { S.failures reader.old < 2 ^ 64 - 1 }
     ensures some { IfOk result (λ found.
@@ -89,9 +92,10 @@ fn read_length<S: Source>(reader: &mut S) -> Result<Option<u32>, ServeFaultKind>
 }
 
 /// Reads and discards `count` bytes: the rest of a frame that is too long, of which `read_long` keeps only the head. Each read overwrites
-/// the front of `scratch`, which is not empty. `Truncated` if the input ends before all are read, `Read` if a call of the reader failed. If
-/// the result is no error, `count` bytes were read (`bytes`), and no call failed (`sound`). If it is an error, fewer bytes were read
-/// (`short`), and the error is why no more were read (`stop`).
+/// the front of `scratch`, which is not empty, so each read is of at least one byte. By `failures` one more failed call of the reader can
+/// be counted in 64 bits. `Truncated` if the input ends before all are read, `Read` if a call of the reader failed. If the result is no
+/// error, `count` bytes were read (`bytes`), and no call failed (`sound`). If it is an error, fewer bytes were read (`short`), and the
+/// error is why no more were read (`stop`): for `Truncated` the input is at its end, and no call failed; for `Read` a call failed.
 fn skip<S: Source>(reader: &mut S, scratch: &mut [u8], count: usize) -> Result<(), ServeFaultKind>
     requires failures { S.failures reader.old < 2 ^ 64 - 1 }
     requires scratch { 0 < length scratch.old }
@@ -112,10 +116,12 @@ fn skip<S: Source>(reader: &mut S, scratch: &mut [u8], count: usize) -> Result<(
     Ok(())
 }
 
-/// Reads `count` bytes into the front of `buffer`, which has room for them (`bytes`). `Truncated` if the input ends before all are read,
-/// which `fill` does not count as an error; `Read` if a call of the reader failed. If the result is no error, no call failed (`sound`). If
-/// it is an error, fewer than `count` bytes were read (`short`), and the error is why no more were read (`stop`): for `Truncated` the input
-/// is at its end, and no call failed; for `Read` a call failed.
+/// Reads `count` bytes into the front of `buffer`, which has room for them (`room`). If the result is no error, exactly these bytes were
+/// taken from the reader (`bytes`), and no call of it failed (`sound`). `Truncated` if the input ends before all are read, which `fill`
+/// does not count as an error; `Read` if a call of the reader failed. After an error, fewer than `count` bytes were read (`short`), and the
+/// error is why no more were read (`stop`): for `Truncated` the input is at its end, and no call failed; for `Read` a call failed.
+/// `S.remaining` are the bytes that the reader has left, if they are known. Fewer than 2^64 - 1 of its calls have failed before, since 64
+/// bits count them (`failures`).
 fn read_whole<S: Source>(
     reader: &mut S,
     buffer: &mut [u8],
@@ -137,11 +143,12 @@ fn read_whole<S: Source>(
     Ok(())
 }
 
-/// Reads a frame of `total` bytes, which is longer than `buffer` (`long`), and so longer than any valid frame. Only the frame's head, its
-/// first four bytes, is kept, at the front of `buffer` (`frame`), since the reply to such a frame depends only on the head. Later bytes of
-/// the frame overwrite the rest of `buffer`. `Truncated` if the input ends before all are read, `Read` if a call of the reader failed. If
-/// the result is no error, no call failed (`sound`). If it is an error, fewer than `total` bytes were read (`short`), and the error is why
-/// no more were read (`stop`).
+/// Reads a frame of `total` bytes, which is longer than `buffer` (`long`), and so longer than any valid frame: the length of `buffer`,
+/// `FRAME_BUFFER`, is one byte more than that of the longest one (`room`). Only the frame's head, its first four bytes, is kept, at the
+/// front of `buffer` (`frame`), since the reply to such a frame depends only on the head. Later bytes of the frame overwrite the rest of
+/// `buffer`. `Truncated` if the input ends before all are read, `Read` if a call of the reader failed. If the result is no error, no call
+/// failed (`sound`). If it is an error, fewer than `total` bytes were read (`short`), and the error is why no more were read (`stop`). By
+/// `failures` the number of failed calls fits in 64 bits after the call too.
 fn read_long<S: Source>(
     reader: &mut S,
     buffer: &mut [u8],
@@ -164,10 +171,12 @@ fn read_long<S: Source>(
 }
 
 /// Reads a frame of `total` bytes to the front of `buffer`, and returns how many bytes of the buffer are handled as the frame. These are
-/// the `total` bytes, if they fit. Of a longer frame only the head, four bytes, is kept (`IsKeptFrontOf`); the result is then the buffer's
-/// length, which is too long for a valid frame. Without an error exactly the frame was read (`frame`), and no call failed (`sound`).
-/// `Truncated` if the input ends before all are read, `Read` if a call of the reader failed: `stop` says which of the two it was, and by
-/// `short` fewer than `total` bytes were read.
+/// the `total` bytes, if they fit. Of a longer frame only the head, four bytes, is kept, and the bytes after it may be any
+/// (`IsKeptFrontOf`); the result is then the buffer's length, which is too long for a valid frame. Without an error exactly the frame was
+/// read (`frame`), and no call of the reader failed (`sound`). `Truncated` if the input ends before all are read, `Read` if a call of the
+/// reader failed: `stop` says which of the two it was, and by `short` fewer than `total` bytes were read. `S.remaining` are the bytes that
+/// the reader has left, if they are known. `S.failures` counts its failed calls: fewer than 2^64 - 1, so that one more fits in 64 bits
+/// (`failures`).
 fn read_body<S: Source>(
     reader: &mut S,
     buffer: &mut [u8],
@@ -196,10 +205,11 @@ fn read_body<S: Source>(
 
 /// Reads the length of a frame, four bytes, and then the frame, and returns how many bytes at the front of `buffer` are handled as the
 /// frame (`kept`). A frame of at most `FRAME_BUFFER` bytes, the length of `buffer`, is kept whole. Of a longer one only the head is kept,
-/// four bytes; then `kept` is `FRAME_BUFFER`, too long for a valid frame, and the bytes after the head may be any (`IsKeptFrontOf`). `None`
-/// if the input ends before the length. `Truncated` if it ends inside the length or the frame, `Read` if a call of the reader failed.
-/// Without an error no call failed (`sound`). After an error, the bytes that were read are no whole frame (`short`), and the error is why
-/// no more were read (`stop`). By `failures` the number of failed calls fits in 64 bits.
+/// four bytes; then `kept` is `FRAME_BUFFER`, too long for a valid frame, and the bytes after the head may be any (`IsKeptFrontOf`).
+/// Exactly the length and the frame (`framed`) are read; `Takes` claims this if the bytes that the reader has left (`S.remaining`) are
+/// known. `None` if the input ends before the length: then no byte is read. `Truncated` if it ends inside the length or the frame, `Read`
+/// if a call of the reader failed. Without an error no call failed (`sound`). After an error, the bytes that were read are no whole frame
+/// (`short`), and the error is why no more were read (`stop`). By `failures` the number of failed calls fits in 64 bits.
 pub(crate) fn read_frame<S: Source>(
     reader: &mut S,
     buffer: &mut [u8],

@@ -72,7 +72,9 @@ impl Buffers {
 /// failed: then no state has changed, and nothing was written. It fails by `Write` if a call of the writer failed: then the frame was
 /// handled, and a prefix of its reply written. A frame that is longer than the buffer is too long for any command, so its reply depends
 /// only on its head, the tenant and the command number. For such a frame the whole buffer is handled, which begins with the frame's head
-/// and is too long for any command as well.
+/// and is too long for any command as well. `stream_state` has the tenants' states, the bytes that the reader has left and those that the
+/// writer holds, if known, and how many calls of each have failed. Before the call these two numbers are less than 2^64 - 1 (`reader`,
+/// `writer`), as they are counted in 64 bits.
 fn serve_frame<R: Source, W: Sink>(
     host: &mut Host,
     reader: &mut R,
@@ -96,10 +98,11 @@ fn serve_frame<R: Source, W: Sink>(
     Ok(true)
 }
 
-/// Whether no byte of the input is left. `serve` asks this after as many frames as its `limit` allows: any byte after them is the fault
-/// `TooManyFrames`. `end`: if true, no byte was taken, and none is left. `more`: if false, one more byte was taken, and is lost. `sound`:
-/// in both cases no call of the reader failed. The error is `Read` (`kind`): a call of the reader failed, and no byte was taken (`failed`).
-/// If the reader's bytes are not known (`remaining` is `None`), the clauses claim nothing about bytes.
+/// Whether no byte of the input is left. `serve` calls this after as many frames as its `limit` allows: any byte after them is the fault
+/// `TooManyFrames`. `end`: if true, no byte was read (`Takes` with `[]`), and none is left. `more`: if false, one more byte was read, and
+/// is lost. `sound`: in both cases no call of the reader failed. The error is `Read` (`kind`): a call of the reader failed, and no byte was
+/// read (`failed`). If the reader's bytes are not known (`remaining` is `None`), the clauses claim nothing about bytes. Fewer than 2^64 - 1
+/// calls of the reader have failed before: they are counted in 64 bits (`failures`).
 fn is_at_end<R: Source>(reader: &mut R) -> Result<bool, ServeFaultKind>
     requires { R.failures reader.old < 2 ^ 64 - 1 }
     ensures end { IfOk result (λ end. end ≡ true → Takes R.remaining reader.old reader.new []
@@ -169,9 +172,12 @@ pub fn serve<R: Source, W: Sink>(
     }
 }
 
-/// Serves a stream, as `serve` does, on a new host for 1 to `MOST_TENANTS` tenants, and frees the host: until the input ends or `limit`
-/// frames, at most `MOST_FRAMES`, got replies. Returns the number of these frames. The keys of the host's hash maps are hashed with `seed`.
-/// The contract is that of `serve`, from the states of new tenants to some `states`, since the host is freed.
+/// Serves a stream by `serve`, on a new host for 1 to `MOST_TENANTS` tenants, until the input ends or `limit` frames, at most
+/// `MOST_FRAMES`, got replies; then frees the host. Returns the number of these frames. The keys of the host's hash maps are hashed with
+/// `seed`. Fewer than 2^64 - 1 calls of the reader, and of the writer, have failed before: they are counted in 64 bits. `ServesStream` has
+/// which frames were read, which bytes were written, and, unless a call of the writer failed, that each tenant to which no memory was
+/// refused got the replies of its own machine, from the state of a new tenant on. The states after the call are only some `states`, since
+/// the host is freed.
 ///
 /// # Errors
 ///

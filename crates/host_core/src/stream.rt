@@ -40,10 +40,10 @@ pub trait Sink {
     // How many calls failed so far.
     ghost failures: { Self → ℕ };
 
-    /// Writes bytes from the front of `bytes`, and returns how many, at most all (`bound`). If the bytes written so far are known
-    /// (`contents`), those of this call are appended to them; a call that returns an error writes none (`bytes`). The call counts as failed
-    /// if it returns an error, or 0 although `bytes` is not empty (`failures`). Fewer than 2^64 - 1 calls have failed before, so that
-    /// `Counted` can count them in 64 bits.
+    /// Writes bytes from the front of `bytes`, and returns how many, at most all (`bound`). `contents` has the bytes written so far, if
+    /// contracts know them, as those of a vector, and else is `None`. If it has them, those of this call are appended to them; a call that
+    /// returns an error writes none (`bytes`). The call counts as failed if it returns an error, or 0 although `bytes` is not empty
+    /// (`failures`). Fewer than 2^64 - 1 calls have failed before, so that `Counted`, which wraps a writer, can count them in 64 bits.
     fn write(&mut self, bytes: &[u8]) -> io::Result<usize>
         requires { failures self.old < 2 ^ 64 - 1 }
         ensures bound { WritesAtMost result bytes.now }
@@ -71,9 +71,9 @@ pub struct Counted<T> {
 }
 
 impl<T> Counted<T> {
-    /// Wraps `inner`, a reader or a writer of std. The count of failed calls begins at 0 (`failures`). What was written to a writer before
-    /// counts as flushed (`flushed`), but nothing is flushed here: `serve` promises that everything is flushed at its end only if
-    /// everything was before, and so promises it for a new writer. Of a reader, `is_flushed` means nothing.
+    /// Wraps `inner`, a reader or a writer of std. The count of failed calls begins at 0 (`failures`). A writer counts as flushed at first
+    /// (`flushed`); bytes that were written to it before are not flushed here. `serve` promises flushed replies at its end only for a
+    /// writer that counts as flushed at the call, as a new one does. Of a reader, `is_flushed` means nothing.
     pub fn new(inner: T) -> Counted<T>
         ensures inner { result.inner ≡ inner }
         ensures failures { result.failures ≡ 0 }
@@ -112,8 +112,9 @@ impl<R: Read> Source for Counted<R> {
 
     ghost failures = { λ c. c.failures };
 
-    /// Reads bytes from the wrapped reader of std into the front of `buffer`. Returns how many, or the reader's error, which adds 1 to
-    /// `failures`. The sum does not overflow, since the trait `Source` requires that fewer than 2^64 - 1 calls have failed before.
+    /// Reads bytes from the wrapped reader of std (`inner`) into the front of `buffer`. Returns how many, or the reader's error, which adds
+    /// 1 to `failures`. By this count the contract of `serve` says whether a call failed. The sum does not overflow, since the trait
+    /// `Source` requires that fewer than 2^64 - 1 calls have failed before.
     fn read(&mut self, buffer: &mut [u8]) -> io::Result<usize> {
         let outcome = self.inner.read(buffer);
         if outcome.is_err() {
@@ -131,8 +132,9 @@ impl<W: Write> Sink for Counted<W> {
     ghost failures = { λ c. c.failures };
 
     /// Writes to the writer of std and returns its outcome. The call counts as failed if the outcome is an error, or 0 although `bytes` is
-    /// not empty: both end a stream. Each call, a failed one too, clears `is_flushed`, which only contracts read. A flush that succeeds
-    /// sets it again, since the writer of std may keep bytes in a buffer until then.
+    /// not empty: after either, `write_whole` writes no more and fails. The count does not overflow, since the trait `Sink` requires that
+    /// fewer than 2^64 - 1 calls have failed before. Each call, a failed one too, clears `is_flushed`, which only contracts read. A flush
+    /// that succeeds sets it again, since the writer of std may keep bytes in a buffer until then.
     fn write(&mut self, bytes: &[u8]) -> io::Result<usize> {
         self.is_flushed = false;
         let outcome = self.inner.write(bytes);

@@ -6,8 +6,10 @@ ghost use Rattle.std.specs.Io.KnownBytes.{Appends};
 use crate::server::ServeFaultKind;
 use crate::stream::Sink;
 
-/// Writes all of `bytes`, each byte once (`whole`), and flushes (`flushed`). No call of the writer has failed then: `S.failures`, the
-/// number of its failed calls, is unchanged (`sound`). Before it is below 2^64 - 1, so that one more fits in the 64 bits of `Counted`.
+/// Writes all of `bytes` to `writer`, each byte once (`whole`), and flushes (`flushed`). `S.contents` has the bytes written so far, if they
+/// are known, and `S.failures` is how many calls of the writer have failed so far. On success none of the calls here has failed:
+/// `S.failures` is unchanged (`sound`). At the call it has to be below 2^64 - 1, so that `Counted`, which counts in 64 bits, can count one
+/// more.
 ///
 /// # Errors
 ///

@@ -156,11 +156,11 @@ fn read_byte_order(
 }
 
 /// Reads a negation (code 8, the upper four bits of the opcode) or a byte-order conversion (code 13) into `entry`. `wide` is true of class
-/// ALU64, false of ALU (`class`). No operator of two operands has the opcode's code (`code`), as `read_alu` has tested. So an opcode
-/// without an arm here is no instruction's, and the fault is `Opcode`. Other faults are `Reserved` if a field has a value that the
-/// instruction does not allow, and `Register` if a register is above 10. `value`: the numbers of the instruction fit its fields. `slots`:
-/// its spelling is this slot only, so the second slot is `None` (`none`). `fault`: the fault is that of the form of the opcode (`alu_at`),
-/// whatever bytes follow the slot.
+/// ALU64, false of ALU (`class`). No operator of two operands has the opcode's code (`code`), as `read_alu` has tested. If `Ok`, the
+/// numbers of the instruction fit its fields (`value`), and `slot` is its only slot (`slots`). The result is the second slot, as for each
+/// function that reads an instruction, so here it is `None` (`none`). The error is the first that applies, whatever bytes follow the slot
+/// (`fault`): `Opcode` if class, source bit and code have no form (`alu_at`), and so no arm here; `Reserved` if a field has a value that
+/// the form does not allow; `Register` if a register is above 10.
 fn read_one_operand(
     wide: bool,
     entry: &mut Insn,
@@ -208,10 +208,11 @@ pub(crate) fn read_alu(
     }
 }
 
-/// Reads a conditional jump on the condition `cond`, of 64 bits (`wide`) or 32, into `entry`. It has no second slot (`None`), so `slot` is
-/// the whole instruction, which `entry` then is (`value`, `slots`). `source` says which field has the second operand of the comparison, the
-/// source register or the immediate. The faults are those of `check_fields`: `Reserved` if the other of these two fields is not 0, else
-/// `Register` if a register is above 10.
+/// Reads a conditional jump on the condition `cond`, of 64 bits (`wide`) or 32, into `entry`. The opcode of `slot` is that of such a jump
+/// (`opcode`). `entry` then is the instruction that the slot spells (`slots`), with its numbers in range (`value`). A jump has no second
+/// slot, so the result is `None` (`none`). `source` says which field has the second operand of the comparison, the source register or the
+/// immediate. The fault is `Reserved` if the other of these two fields is not 0, else `Register` if a register is above 10. The slot
+/// has this fault whatever bytes follow it (`fault`).
 #[inline(always)]
 fn read_branch(
     wide: bool,
@@ -290,7 +291,9 @@ fn read_call(entry: &mut Insn, slot: &RawSlot) -> Result<Option<RawSlot>, FaultK
     Ok(None)
 }
 
-/// Reads the exit into `entry`; it has no second slot (`None`). All fields but the opcode have to be 0, else the fault is `Reserved`.
+/// Reads the exit into `entry`; the slot has its opcode, 0x95 (`opcode`). It has no second slot, so the result is `None` (`none`). All
+/// fields but the opcode have to be 0, else the fault is `Reserved`, whatever bytes follow the slot (`fault`). After success this slot
+/// spells the instruction in `entry` (`slots`). An exit has no numbers that could be out of range (`value`).
 fn read_exit(entry: &mut Insn, slot: &RawSlot) -> Result<Option<RawSlot>, FaultKind>
     requires opcode { slot.now.opcode ≡ opcode_of form.Exit }
     ensures value { OnOk result (IsInsn entry.new) }
@@ -306,10 +309,12 @@ fn read_exit(entry: &mut Insn, slot: &RawSlot) -> Result<Option<RawSlot>, FaultK
     Ok(None)
 }
 
-/// Reads an unconditional jump (code 0, the upper four bits of the opcode), a call (code 8) or the exit (code 9) into `entry`. None of them
-/// has a second slot, so the result is `None`. Class JMP (`wide`) has all three, JMP32 (not `wide`) only the jump. No conditional jump has
-/// the slot's code (`code`): only then does `read_jump` call this function. The fault is `Opcode` for a code that the class does not have,
-/// and for every code if the source bit is 1. Else the fault is `Reserved` if a field that the instruction does not use is not 0.
+/// Reads an unconditional jump (code 0, the upper four bits of the opcode), a call (code 8) or the exit (code 9) into `entry`. Class JMP
+/// (`wide`) has all three, JMP32 (not `wide`) only the jump. No conditional jump has the slot's code (`code`): only then does `read_jump`
+/// call this function. The numbers of the instruction fit its fields (`value`), and `slot` is its only slot (`slots`), so the result is
+/// `None` (`none`). The fault is `Opcode` for a code that the class does not have, and for every code if the source bit is 1. Else the
+/// fault is `Reserved` if a field that the instruction does not use is not 0. `fault`: this is the fault by the form of the opcode
+/// (`jump_at`), whatever bytes follow the slot.
 fn read_unconditional(
     wide: bool,
     entry: &mut Insn,
@@ -334,9 +339,10 @@ fn read_unconditional(
 
 /// Reads an instruction of class JMP (`wide`) or JMP32 into `entry` (RFC 9669, section 4.3); it has no second slot (`None`, by `none`). The
 /// caller has found the class in the opcode (`class`). Without a fault the registers of `entry` are 0 to 10 and its numbers fit their
-/// fields (`value`), and `slot` is its spelling (`slots`). The fault is `Opcode` if no instruction has the opcode, else `Reserved` if a
-/// field that the instruction does not use is not 0, else `Register` if a register is above 10. Each source bit has an arm of its own, so
-/// that the inlined `read_branch` has it as a constant.
+/// fields (`value`), and `slot` is its spelling (`slots`). The fault is the first that applies, whatever bytes follow the slot (`fault`,
+/// `IsFaultAt`). It is `Opcode` if the class has no instruction with this source bit and this code, the upper four bits of the opcode (then
+/// `jump_at` is `None`); `Reserved` if a field that the instruction does not use is not 0; `Register` if a register is above 10. Each
+/// source bit has an arm of its own, so that the inlined `read_branch` has it as a constant.
 #[inline(always)]
 pub(crate) fn read_jump(
     wide: bool,
@@ -388,8 +394,9 @@ pub(crate) fn read_load(entry: &mut Insn, slot: &RawSlot) -> Result<Option<RawSl
 /// Reads a store of a constant (class ST, `source` is `Imm`) or of a register (class STX, `Reg`) into `entry` (RFC 9669, section 5.1). The
 /// result is `None` (`none`): a store has no second slot. `class`: the low three bits of the opcode are 2 for ST and 3 for STX. `value`,
 /// `slots`: the numbers of the instruction in `entry` are in their ranges, and `slot` is its only slot. `fault`: the error is the first
-/// that applies: `Opcode` if the mode, the upper three bits of the opcode, is not MEM, which is 3; `Reserved` if the field that is not
-/// used, the source register with `Imm` and the immediate with `Reg`, is not 0; `Register` if a register is above 10.
+/// that applies, whatever bytes follow the slot: `Opcode` if the mode, the upper three bits of the opcode, is not MEM, which is 3, so that
+/// no store has this opcode (`store_at` is `None`, else the store's form); `Reserved` if the field that is not used, the source register
+/// with `Imm` and the immediate with `Reg`, is not 0; `Register` if a register is above 10.
 #[inline(always)]
 pub(crate) fn read_store(
     source: SourceBit,
@@ -446,9 +453,10 @@ fn read_atomic(
 }
 
 /// Reads an instruction of class STX (`class`) into `entry` (RFC 9669, sections 5.1 and 5.3): an atomic operation on four bytes (opcode
-/// 0xc3) or eight (0xdb), else a store of a register. It has one slot, so the result is `None` (`slots`, `none`). The fault is the first of
-/// these: `Opcode` for any other opcode whose mode, the upper three bits, is not MEM (3); `Reserved` if the immediate selects no atomic
-/// operation or, in a store, is not 0; `Register` if the destination or the source register is above 10.
+/// 0xc3) or eight (0xdb), else a store of a register. If `Ok`, the numbers of the instruction are in their ranges (`value`), `slot` spells
+/// it (`slots`), and the result is `None`, since it has no second slot (`none`). The fault is the first of these (`fault`): `Opcode` for
+/// any other opcode whose mode, the upper three bits, is not MEM (3); `Reserved` if the immediate selects no atomic operation or, in a
+/// store, is not 0; `Register` if the destination or the source register is above 10.
 #[inline(always)]
 pub(crate) fn read_register_store(
     entry: &mut Insn,

@@ -25,8 +25,9 @@ fn kinds_of_faults() {
     prove!(last == 8);
 }
 
-/// `encode` spells the exit in 8 bytes, and leaves the byte after them unchanged. It spells a wide load of 0xffff_ffff_0000_0007 in 16
-/// bytes: the low half of the number begins at byte 4, and the high half ends at byte 15.
+/// A test of the contract of `encode`, never called: each `prove!` has to follow from the contract. `encode` spells the exit, opcode 0x95,
+/// in 8 bytes, and leaves the byte after them unchanged. It spells a wide load of 0xffff_ffff_0000_0007 in 16 bytes: the low half of the
+/// number begins at byte 4, and the high half ends at byte 15.
 #[tactic(auto, unfolding(insn_set::specs::Spelling::spelling))]
 fn written_instructions() {
     let mut out = [0x55; 16];
@@ -72,8 +73,9 @@ fn faults_at_front() {
     prove!(is_second_slot);
 }
 
-/// In a program of a wide load and an exit, instructions begin at slots 0 and 2, and none at slot 1 or at 3, the end (`is_first`). `get`
-/// returns none for slot 1 and one for slot 2. It fails only if memory is refused.
+/// In a program of a wide load, of the number 7, and an exit, instructions begin at slots 0 and 2, and none at slot 1, the second of the
+/// load, or at 3, the end (`is_first`). So `get` returns `None` for slot 1, and an instruction for slot 2. The function fails only if
+/// memory is refused.
 #[tactic(auto, unfolding(insn_set::specs::Program::begins_at))]
 fn first_slots_of_a_program(alloc: Global) -> Result<(), CodecFault> {
     let program = Program::new(alloc, &[wide(7), Insn::Exit])?;

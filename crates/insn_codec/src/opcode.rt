@@ -46,10 +46,11 @@ impl SourceBit {
         }
     }
 
-    /// The second operand of a slot that is decoded: its immediate if this is `Imm`, `src` if it is `Reg`. `src` is the register of the
-    /// slot's source field, which `read_operation` also uses for a move that extends a sign. Callers have tested that the
-    /// field that is not used is zero (`listed`), so the operand determines the source bit and both fields (`source`, `src`, `imm`), and
-    /// that the register's number is at most 10 (`bound`): by `value` (`IsOperand`) the operand is one that an instruction can have.
+    /// The second operand that a slot spells: its immediate if this is `Imm`, the register `src` of its source field if this is `Reg`. The
+    /// caller gives `src`, as `read_operation` also needs this register for a move that extends a sign. The caller has tested that the
+    /// other of the two fields is 0 (`listed`), and that `src` is at most 10 (`bound`). So the operand determines the source bit (`source`)
+    /// and both fields (`src`, `imm`). It is one that an instruction can have, a signed number of 32 bits or a register from 0 to 10
+    /// (`value`).
     pub(crate) fn operand(self, slot: &RawSlot, src: Reg) -> Operand
         requires listed { IsTrue (one_operand self (fields slot.now)) }
         requires src { (fields slot.now).src ≡ src }

@@ -62,9 +62,10 @@ fn read_wide(entry: &mut Insn, slot: &RawSlot, dst: Reg, rest: &[u8]) -> Result<
 
 /// Reads an instruction of class LD (`class`) into `entry`: a wide load, whose opcode is 0x18. `slot` is its first slot, and `rest` the
 /// bytes after that, at whose front its second slot has to be (`second`). Returns the second slot, never `None`: the result is an option
-/// because instructions of the other classes have no second slot. Both slots are those of the instruction (`slots`). The fault is the first
-/// that applies (`fault`): `Opcode` if the opcode is not 0x18; `Reserved` if the offset is not 0 or the source field is above 2; `Register`
-/// if the destination is above 10; `SecondSlot` if the second slot is missing, or a field of it that has to be 0 is not.
+/// because instructions of the other classes have no second slot. The two slots spell the instruction (`slots`), whose numbers fit their
+/// fields, with a register of 0 to 10 (`value`). The fault is the first that applies (`fault`): `Opcode` if the opcode is not 0x18;
+/// `Reserved` if the offset is not 0 or the source field is above 2; `Register` if the destination is above 10; `SecondSlot` if the second
+/// slot is missing, or a field of it that has to be 0 is not.
 #[tactic(auto, unfolding(crate::specs::inside::Form::form_at))]
 fn read_class_ld(
     entry: &mut Insn,
@@ -88,11 +89,11 @@ fn read_class_ld(
 }
 
 /// Reads the instruction whose first slot is `slot` into `entry`, by its class, the opcode's low three bits (RFC 9669, section 3.3). The
-/// classes 0 to 7 are LD, LDX, ST, STX, ALU, JMP, JMP32 and ALU64; for the last four, `true` is a width of 64 bits (JMP and ALU64), and
-/// `false` of 32. `rest` are the bytes after that slot. Returns the second slot, at the front of `rest` (`second`), if the instruction is
-/// wide, else `None`. The instruction's numbers are in their ranges (`value`), and these slots spell it (`slots`). The error is the first
-/// fault that applies (`fault`): `Opcode` if no instruction has the opcode, `Reserved` for a field's value that the opcode does not allow,
-/// `Register` for a register above 10, `SecondSlot` if the second slot is missing or wrong.
+/// classes 0 to 7 are LD, LDX, ST, STX, ALU, JMP, JMP32 and ALU64. Operations and comparisons of JMP and ALU64 are on 64 bits, those of ALU
+/// and JMP32 on 32. A store of class ST stores a constant (`Imm`). `rest` has the bytes after `slot`. Returns the second slot, at the front
+/// of `rest` (`second`), if the instruction is wide, else `None`. The instruction's numbers are in their ranges (`value`), and these slots
+/// spell it (`slots`). The error is the first fault that applies (`fault`): `Opcode` if no instruction has the opcode, `Reserved` for a
+/// field's value that the opcode does not allow, `Register` for a register above 10, `SecondSlot` if the second slot is missing or wrong.
 #[inline(always)]
 #[tactic(auto, unfolding(crate::specs::inside::Form::form_at))]
 fn read_slot(entry: &mut Insn, slot: &RawSlot, rest: &[u8]) -> Result<Option<RawSlot>, FaultKind>
@@ -116,9 +117,11 @@ fn read_slot(entry: &mut Insn, slot: &RawSlot, rest: &[u8]) -> Result<Option<Raw
 }
 
 /// Reads the instruction at the front of the bytes, which are at least eight, into `entry`. More bytes may follow the instruction. `first`
-/// is the slot in the first eight bytes. Returns whether the instruction is wide, that is, has two slots. If no instruction is at the
-/// front, the error is the first of `Opcode`, `Reserved`, `Register` and `SecondSlot` that applies, and `entry` means nothing. The
-/// instruction is written to `entry` directly: it is as large as two slots, and would be copied if it were returned.
+/// is the slot in the first eight bytes (`slot_of`), which the caller has read. By `found` the instruction's numbers are in their ranges
+/// (`IsInsn`), and the bytes begin with its spelling (`Begins`). Returns whether the instruction has two slots (`wide`). If no instruction
+/// is at the front, `entry` means nothing, and the error is the first that applies (`first_fault`): no instruction has the opcode
+/// (`Opcode`), the opcode does not allow the value of a field (`Reserved`), a register is above 10 (`Register`), or the second slot is
+/// missing or wrong (`SecondSlot`). `entry` saves a copy: an instruction, as large as two slots, would be copied if returned.
 #[inline(always)]
 #[tactic(auto, unfolding(crate::specs::inside::FirstFault::first_fault))]
 pub(crate) fn read_with_first(
@@ -138,9 +141,10 @@ pub(crate) fn read_with_first(
 }
 
 /// Reads the instruction at the front of `bytes` into `entry`; more bytes may follow. By `found` the instruction's numbers are in their
-/// ranges (`IsInsn`), and `bytes` begin with its spelling (`Begins`). The error is the fault at the front (`fault`): `Ragged` if there are
-/// fewer than eight bytes, else the first of `Opcode`, `Reserved`, `Register` and `SecondSlot` that applies; `entry` then means nothing.
-/// Unlike `read_with_first`, this function reads the first slot itself.
+/// ranges (`IsInsn`), and `bytes` begin with its spelling (`Begins`). The error is the fault at the front (`fault`), the first that
+/// applies: `Ragged` if there are fewer than eight bytes, `Opcode` if no instruction has the opcode, `Reserved` for a field's value that
+/// the opcode does not allow, `Register` for a register above 10, `SecondSlot` if the second slot of a wide instruction is missing or
+/// wrong. After an error `entry` means nothing. `read_with_first` reads all but the first slot, which it is given.
 #[tactic(auto, unfolding(crate::specs::inside::FirstFault::first_fault))]
 fn read_front(entry: &mut Insn, bytes: &[u8]) -> Result<(), FaultKind>
     ensures found { OnOk result (IsInsn entry.new × Begins entry.new bytes.now) }

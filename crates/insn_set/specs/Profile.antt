@@ -51,8 +51,8 @@ reference_of (value_ref fd off) = names.Value fd off
 
 -- the source register of an access, whose value a store (`stores`) writes to memory, and an atomic
 -- operation (`changes`) combines with the bytes in memory. None for a load (`loads`), and for a
--- store of a constant: `register_of` is None if the operand src is one. In the row of the access
--- the source register is the second that is read
+-- store of a constant: `register_of` is None if the operand src is one. `profile_of` has it in the
+-- profile of the access, as the register of the second operand (`second_read`)
 abbrev pub stored_register : Access → Option ℕ
 stored_register (loads size signed dst) = None
 stored_register (stores size src) = register_of src
@@ -68,13 +68,15 @@ loaded_register (changes size op src) = None
 
 -- the row of an instruction, by its group (`View`). `row` gets the registers that it reads as its
 -- first and its second operand, the register that it writes, its successors, what it names, and the
--- number of its slots. An operator of two operands (`binary`) reads its destination dst as the
--- first, but a move does not read it. An operator of one operand (`unary`) reads its source as the
--- first. An access reads its base register as the first operand, and as the second the register
--- that a store or an atomic operation has as its source. Of accesses only a load writes a register:
--- an `Insn` has no atomic operation that fetches the old value. The row of a call has only the
--- helper's number, neither the registers of the arguments that it reads nor those that it changes.
--- An exit reads register 0, the result
+-- number of its slots. None is no register. An operator of two operands (`binary`) reads its
+-- destination dst as the first, but a move does not read it. A conditional jump (`branch`) also
+-- reads dst as the first. Each of the two reads src as the second, unless it is a constant
+-- (`register_of`). The distance `off` of a jump is in slots from the next instruction. An operator
+-- of one operand (`unary`) reads its source as the first. An access reads its base register as the
+-- first operand, and as the second the register that a store or an atomic operation has as its
+-- source. Of accesses only a load writes a register: an `Insn` has no atomic operation that fetches
+-- the old value. The row of a call has only the helper's number, neither the registers of the
+-- arguments that it reads nor those that it changes. An exit reads register 0, the result
 abbrev pub profile_of : View → Profile
 profile_of (binary wide op dst src) =
     row (first_operand op dst) (register_of src) (Some dst) to.Next names.Nothing 1

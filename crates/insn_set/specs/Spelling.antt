@@ -44,15 +44,17 @@ imm_field (Reg r) = 0
 -- stores, atomic operations)
 
 -- an instruction's first slot, by the arguments of `slot`: opcode, destination, source, offset and
--- immediate; a field that is not used is 0. `opcode` makes an opcode from a code, a source bit and
--- a class (5 is JMP, 6 is JMP32). Code 11 is a move, also one with sign extension, which has its
--- number of bits in the offset; 8 is a negation or, in class 5, a call; 9 is the exit; 0 is a jump
--- without a condition, whose distance is in the offset in class 5, in the immediate in class 6. A
--- signed division or remainder has 1 in the offset. A byte-order conversion has its number of bits
--- in the immediate. `memory_opcode` makes an opcode from a mode (3 is MEM, 6 is ATOMIC), a size and
--- a class (1 is LDX, 2 is ST, 3 is STX). An atomic operation has its operator in the immediate. A
--- wide load (0x18) has source 0 for a number, whose low half is the immediate; 1 for a map, 2 for
--- the address of a byte in a map's first value, both with the map's descriptor as immediate
+-- immediate; a field that is not used is 0. `opcode` makes an opcode from a code, a source bit (0
+-- for a constant, 1 for a register) and a class (`alu_class`: ALU or ALU64; 5 is JMP, 6 is JMP32).
+-- Code 11 is a move, also one with sign extension, which has its number of bits in the offset; 8 is
+-- a negation or, in class 5, a call; 9 is the exit; 0 is a jump without a condition, whose distance
+-- is in the offset in class 5, in the immediate in class 6. A signed division or remainder has 1 in
+-- the offset (`alu_offset`). A byte-order conversion has its number of bits in the immediate.
+-- `memory_opcode` makes an opcode from a mode (3 is MEM, 6 is ATOMIC; `load_mode`: MEM, or MEMSX
+-- with sign extension), a size and a class (1 is LDX; 2 is ST, of a constant; 3 is STX, of a
+-- register). An atomic operation has its operator in the immediate. A wide load (0x18) has source 0
+-- for a number, whose low half is the immediate; 1 for a map, 2 for the address of a byte in a
+-- map's first value, both with the map's descriptor as immediate
 abbrev pub first : Insn → SlotFields
 first (Alu wide op dst src) =
     slot (opcode (alu_number op) (source_bit src) (alu_class wide)) dst (src_field src)
@@ -78,9 +80,10 @@ first (Const dst value) = slot 0x18 dst 0 0 (value % 2 ^ 32)
 first (MapFd dst fd) = slot 0x18 dst 1 0 (imm_bits fd)
 first (MapValue dst fd off) = slot 0x18 dst 2 0 (imm_bits fd)
 
--- an instruction's second slot, in a list of one, if the instruction is a wide load (section 5.4).
--- The immediate is the high 32 bits of a number `value`; 0 for a map; for the address of a byte in
--- a map's first value, the byte's offset `off`. The other fields are 0. The list is empty for any
+-- an instruction's second slot, in a list of one, if the instruction is a wide load (RFC 9669,
+-- section 5.4). The arguments of `slot` are opcode, destination, source, offset and immediate. All
+-- are 0 except the immediate: it is the high 32 bits of a number `value`; 0 for a map; for the
+-- address of a byte in a map's first value, the byte's offset `off`. The list is empty for any
 -- other instruction (`_`), which has one slot
 abbrev pub second : Insn → List SlotFields
 second (Const dst value) = slot 0 0 0 0 (value / 2 ^ 32) ∷ []

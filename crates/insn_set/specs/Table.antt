@@ -19,7 +19,9 @@ abbrev pub by_number : {A : Type 0} → List (Row A) → ℕ → Option A
 by_number [] n = None
 by_number (row ∷ rows) n = if row.1 == n then Some row.0 else by_number rows n
 
--- the value (row.0) of the first row whose symbol (row.2) has the bytes s; None if there is none
+-- the value of the first row of a table whose symbol has the bytes s; None if there is none. A row
+-- has a value (row.0), such as an operator or a condition, its number (row.1), and its symbol
+-- (row.2): what a line of a program's text has for the value, as += or s>
 abbrev pub by_symbol : {A : Type 0} → List (Row A) → List ℕ → Option A
 by_symbol [] s = None
 by_symbol (row ∷ rows) s = if bytes_eq s row.2 then Some row.0 else by_symbol rows s

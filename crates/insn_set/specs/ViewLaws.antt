@@ -8,15 +8,18 @@ use Rattle.insn_set.specs.View.{view, WideLoadFitsWord}
 use Rattle.insn_set.specs.Profile.{profile}
 use Rattle.insn_set.specs.Spelling.{slots, IsInsn}
 
--- an instruction takes as many slots by its profile (`slots` of the profile) as its spelling has:
--- one, or two for a wide load
+-- an instruction takes as many slots by its profile (what it reads, writes and names, its
+-- successors and its number of slots) as its spelling has: one, or two for a wide load. Code adds
+-- the number of the profile to an instruction's slot; so the sum is the slot of the next
+-- instruction
 pub profile_slots : (i : Insn) → (profile i).slots ≡ length (slots i)
 profile_slots (Alu wide op dst src) = refl
 profile_slots _ = refl
 
--- if the numbers of an instruction fit their fields (`IsInsn`), its view (`View`: what it does, and
--- its operands) meets `WideLoadFitsWord`: a number that it loads into a register is less than
--- 2 ^ 64. Only the view of `Const` has such a number; of the others nothing is required
+-- if the numbers of an instruction fit their fields (`IsInsn`), a number that its view (`View`:
+-- what it does, and its operands) loads into a register is less than 2 ^ 64 (`WideLoadFitsWord`).
+-- Only the view of `Const` loads such a number, and `IsInsn` has this bound (h.1); of others
+-- nothing is required. Proofs of `transfer` use this: facts have only ranges of 64-bit numbers
 pub view_is : (i : Insn) → IsInsn i → WideLoadFitsWord (view i)
 view_is (Const dst value) h = h.1
 view_is _ h = tt

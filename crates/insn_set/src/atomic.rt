@@ -73,7 +73,8 @@ impl AtomicOp {
 impl AtomicSize {
     ghost use Rattle.insn_set.specs.Atomic.{access_size, is_wide_atomic};
 
-    /// The access size of the operation's load and of its store.
+    /// The size of both accesses of an atomic operation of this size, which loads and then stores the same bytes: four (`Word`) or eight
+    /// (`Double`). The type `AccessSize` is that of every load and store, so it also has one byte and two.
     #[inline(always)]
     pub fn access(self) -> AccessSize
         ensures { result ≡ access_size self }

@@ -55,9 +55,11 @@ pub struct Profile {
     pub slots: usize,
 }
 
-/// The profile with these fields, in their order: the registers that an instruction reads first and second, the register that it writes
-/// (`None` if there is none), its successors, what it names outside the registers, and the number of its slots. So the table in
-/// `Insn::profile` has a short row for each instruction. The definition `row` has the fields in this order too.
+/// The profile with these fields. `first_read` is the register of the first or only operand, of an access's address, or of the exit's
+/// result; `second_read` is that of the second operand, or of the value that a store or an atomic operation uses; `written` is the one that
+/// the instruction writes. Each is `None` if there is no such register. `successors` are those in the control flow graph, `reference` is
+/// what the instruction names outside the registers, and `slots` is the number of its slots. So the table in `Insn::profile` has a short
+/// row for each instruction. The definition `row` has the fields in this order too.
 #[inline(always)]
 fn row(
     first_read: Option<Reg>,
@@ -79,8 +81,8 @@ fn row(
     }
 }
 
-/// The register of an operand: of an instruction's second operand, or of the value that a store writes. It is the column `second_read` of
-/// the table of instructions. `None` if the operand is a constant.
+/// The register of an operand; `None` if the operand is a constant. For the second operand of an operation or a comparison, and for the
+/// value that a store writes: the field `second_read` of the instruction's `Profile` is the result.
 #[inline(always)]
 fn register_of(operand: Operand) -> Option<Reg>
     ensures { result ≡ register_of operand }
@@ -106,11 +108,12 @@ fn first_operand(op: AluOp, dst: Reg) -> Option<Reg>
 impl Insn {
     ghost use Rattle.insn_set.specs.Profile.{profile};
 
-    /// The properties of the instruction that no register value affects, for the verifier and its log: its row of the table. The columns
-    /// are the registers that it reads first and second (`None` if there is none, as for a constant operand), the register that it writes
-    /// (`None` also for an atomic operation: those with FETCH are no instructions here), its successors, what it names outside the
-    /// registers (a descriptor as an unsigned number), and the number of its slots. An exit reads register 0, the program's result. The row
-    /// of a call has neither the arguments of the helper nor registers 0 to 5, which the call changes.
+    /// The properties of the instruction that no register value affects, for the verifier and its log. The `match` is the table of
+    /// instructions, with a row for each. The columns are the registers that the instruction reads first and second (`None` for a constant,
+    /// for the destination of a move, and if there is none), the register that it writes (`None` also for an atomic operation: those with
+    /// FETCH are no instructions here), its successors, what it names outside the registers (a descriptor as an unsigned number), and the
+    /// number of its slots. An access reads the register of its address first. An exit reads register 0, the program's result. The row of a
+    /// call has neither the arguments of the helper nor registers 0 to 5, which the call changes.
     #[inline(always)]
     pub fn profile(&self) -> Profile
         ensures { result ≡ profile self.now }
@@ -253,8 +256,9 @@ impl Successors {
 impl Reference {
     ghost use Rattle.insn_set.specs.Flow.{descriptor_by};
 
-    /// The descriptor of the map that an instruction with this reference names (`Map`), or a byte of whose first value it names (`Value`).
-    /// `None` if it names a helper or nothing.
+    /// The descriptor in this reference, that is, in what an instruction names outside its registers: of the map that it names (`Map`), or
+    /// of the map in whose first value it names a byte (`Value`, whose second field, the byte's offset, is not used). `None` if it names a
+    /// helper or nothing.
     #[inline(always)]
     pub fn descriptor(self) -> Option<u32>
         ensures { result ≡ descriptor_by self }

@@ -90,8 +90,10 @@ abbrev pub refined : ℕ → Condition → Range → Range → EdgePairs
 refined n condition a b =
     if nat_lt a.hi (2 ^ n) && nat_lt b.hi (2 ^ n) then edges condition a b else unchanged a b
 
--- x, the first operand's value, and y, the second's, are members of the ranges on the edge; false
--- on an edge that can't be taken (None)
+-- two values are in the ranges that the operands of a comparison have on one of its edges: x, the
+-- value of the first operand, is a member of the first range, y, the value of the second, of the
+-- second range. False on an edge that can't be taken (None). The refinement is sound if this holds
+-- of the edge that the comparison of x and y takes
 abbrev pub IsPairOn : Option RangePair → ℕ → ℕ → Type 0
 IsPairOn None x y = ⊥
 IsPairOn (Some p) x y = IsMember x p.0 × IsMember y p.1

@@ -13,9 +13,10 @@ use crate::range::{Range, greatest};
 use crate::shifts::{shift_left, shift_right, sign_extend, signed_shift_right};
 use words::{AluOp, BITS_32, BITS_64, KeptBits, Operator, words32, words64};
 
-/// The range of the results of `op` on 64 bits, for first operands (destinations) in `a` and second ones (sources) in `b`. `exact`: it is
-/// that of the table of ranges (`range_of`). `sound`: it includes the result of every two members. An operand that `op` does not read is
-/// ignored: a move and a sign extension read only the second one, a change of sign and a byte-order conversion only the first.
+/// The range of the results of `op` on 64 bits, for first operands (destinations) in `a` and second ones (sources) in `b`. By `exact` it is
+/// the range that the definition `range_of` gives, and by `sound` it has the result (`operate`) for every member of `a` and every member of
+/// `b`. An operand that `op` does not read is ignored: a move and a sign extension read only the second one, a change of sign and a
+/// byte-order conversion only the first.
 #[inline(always)]
 pub fn alu64(op: Operator, a: Range, b: Range) -> Range
     ensures exact { result ≡ range_of 64 op a b }
@@ -27,10 +28,10 @@ pub fn alu64(op: Operator, a: Range, b: Range) -> Range
     }
 }
 
-/// The range of the results of `op`, an operator of two operands or a move, on 64 bits, for first operands in `a` and second ones in `b`; a
-/// move reads only the second one. The range has one number if the range of each operand that `op` reads has only one, else it is that of
-/// `alu_range`. So it is what the table of ranges gives (`exact`), and includes the result of every two members (`sound`). `alu64` calls
-/// this function after one test, for most operators. It gives the others, which have one operand, to `unary64`.
+/// The range of the results of `op`, an operator of two operands or a move, on 64 bits, for first operands (destinations) in `a` and second
+/// ones (sources) in `b`; a move reads only the second one. The range has one number if the range of each operand that `op` reads has only
+/// one, else it is that of `alu_range`. So it is what the definition `range_of` gives (`exact`), and has the result for every member of `a`
+/// and every member of `b` (`sound`). `alu64` calls this function for these operators, and `unary64` for those of one operand.
 fn binary64(op: AluOp, a: Range, b: Range) -> Range
     ensures exact { result ≡ range_of 64 (Binary op) a b }
     ensures sound { (x y : ℕ) → IsMember x a → IsMember y b
@@ -121,11 +122,11 @@ fn are_alu_constants(op: AluOp, a: Range, b: Range) -> bool
     }
 }
 
-/// The range of the results of `op`, from the ends of its operands' ranges: for first operands in `a` and second ones in `b`, all of 64
-/// bits (`wide`) or 32, as the preconditions require; `alu32` has truncated the operands to 32 bits. A change of sign may give all numbers
-/// of that width, a byte-order conversion all numbers of as many bits as it keeps. A sign extension reads only the second operand. For
-/// constants the range may be wider than needed: if each operand that `op` reads has only one member, the callers (`unary64`, `alu32`)
-/// compute the result instead.
+/// The range of the results of `op` for first operands in `a` and second ones in `b`, computed from the ends of these ranges. `op` works on
+/// 64 bits (`wide`) or 32, and all members of `a` and `b` are numbers of that width (`first`, `second`): on 32 bits `alu32` has truncated
+/// them. For a change of sign (`Neg`) the range has all numbers of the width, for a byte-order conversion (`End`) all numbers of as many
+/// bits as it keeps. A sign extension reads only `b`. The range includes every result, but may have other numbers too. So if each range
+/// that `op` reads has only one member, the callers (`unary64`, `alu32`) compute the one result instead.
 fn general_range(wide: bool, op: Operator, a: Range, b: Range) -> Range
     requires first { a.hi < 2 ^ width wide }
     requires second { b.hi < 2 ^ width wide }
@@ -140,9 +141,9 @@ fn general_range(wide: bool, op: Operator, a: Range, b: Range) -> Range
 }
 
 /// The range of the results of an operator of two operands on 64 bits (`wide`) or 32, for first operands in `a` and second ones in `b`,
-/// numbers of that width (`first`, `second`). Signed divisions and remainders give all numbers of the width; a move reads only `b`. If each
-/// operand that `op` reads is a constant, callers compute the result instead. No clause requires that: the range here has that result too,
-/// and maybe other numbers.
+/// numbers of that width (`first`, `second`). Signed divisions and remainders give all numbers of the width; a move reads only `b`. If the
+/// range of each operand that `op` reads has only one number, `binary64` and `alu32` compute the one result, and this function is not
+/// called. No precondition excludes such ranges: for them the range includes that result, and maybe other numbers.
 fn alu_range(wide: bool, op: AluOp, a: Range, b: Range) -> Range
     requires first { a.hi < 2 ^ width wide }
     requires second { b.hi < 2 ^ width wide }

@@ -8,8 +8,9 @@ ghost use Rattle.interval.specs.Table.{sum_range, difference_range, product_rang
 use crate::range::{Range, greatest};
 
 /// The range of the sums of a member of `a` and a member of `b`, modulo 2^64 (`wide`) or 2^32: exact if no sum wraps or all do, else all
-/// numbers of 64 or 32 bits. The members are numbers of this width (`first`, `second`). The tests compare with differences from the
-/// greatest number of the width, and sums that all wrap are reduced by such differences, so nothing overflows.
+/// numbers of 64 or 32 bits. The members are numbers of this width (`first`, `second`). No operation overflows. Whether the sum of two ends
+/// wraps is tested by comparing one with the greatest number of the width minus the other. If all sums wrap, this difference and then 1 are
+/// subtracted from the end of `a`, which gives the sum of the ends minus 2^64 or 2^32.
 pub(crate) fn sum(wide: bool, a: Range, b: Range) -> Range
     requires first { a.hi < 2 ^ width wide }
     requires second { b.hi < 2 ^ width wide }

@@ -5,7 +5,8 @@ ghost use Rattle.interval.specs.Table.{and_range, or_range, xor_range, most_with
 
 use crate::range::Range;
 
-/// The range of the bitwise AND of a member of `a` and one of `b`: from 0 to the lesser high end, as no AND is above an operand.
+/// A range that includes each bitwise AND of a member of `a` and one of `b`: from 0 to the lesser of the two high ends, since no AND is
+/// above an operand.
 pub(crate) fn and(a: Range, b: Range) -> Range
     ensures { result ≡ and_range a b }
 {

@@ -13,10 +13,11 @@ use words::Condition;
 pub type Edge = Option<(Range, Range)>;
 
 /// Refines the ranges `a` and `b` of the operands of a conditional jump on 64 bits (`wide`) or 32. The first result is the edge that jumps,
-/// on which the condition holds; the second is the one that falls through, on which it fails. `None` is an edge that no two members take.
-/// Every two members are in the ranges of the edge that they take (`taken`, `not_taken`); `exact` has which ranges these are. They are `a`
-/// and `b` if the condition is signed or a test of common bits, or if an operand may be 2^32 or more on 32 bits, as only its low half is
-/// compared.
+/// on which the condition holds; the second is the one that falls through, on which it fails. An edge has the range of each operand on it,
+/// and is `None` only if no two members take it. Every two members are in the ranges of the edge that they take (`taken`, `not_taken`). By
+/// `exact` a range loses the numbers that take the edge with no number of the other range, as far as the rest is a range. But the ranges
+/// are `a` and `b` if the condition is signed or a test of common bits (JSET), or if an operand may be 2^32 or more on 32 bits, as only its
+/// low half is compared.
 pub fn refine(condition: Condition, wide: bool, a: Range, b: Range) -> (Edge, Edge)
     ensures exact { result ≡ refined (width wide) condition a b }
 
@@ -117,9 +118,9 @@ fn if_above(a: Range, b: Range) -> Edge
     Some((above, below))
 }
 
-/// The ranges of the operands on the edge on which the first, of range `a`, is at most the second, of range `b`: the first is also at most
-/// the greatest member of `b`, the second at least the least of `a`. `None`, an edge that no two members take, if all members of `a` are
-/// above those of `b`.
+/// The ranges of the operands on the edge on which the first, of range `a`, is at most the second, of range `b`. The first keeps the
+/// members of `a` that are at most the greatest of `b`, and the second the members of `b` that are at least the least of `a`. `None` if all
+/// members of `a` are above all of `b`: then no two members take the edge.
 fn if_at_most(a: Range, b: Range) -> Edge
     ensures { result ≡ if_at_most a b }
 {

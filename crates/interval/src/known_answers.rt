@@ -3,8 +3,9 @@
 use crate::{Range, alu32, alu64, hull, refine};
 use words::{AluOp, Condition, Operator};
 
-/// On 64 bits, the sums of a number from 0 to 7 and a number from 250 to 255 are from 250 to 262. On 32 bits, the sums of 2^32 - 1 and a
-/// number from 1 to 2 all wrap, so they are from 0 to 1.
+/// Known ranges of sums, which the contracts of `alu64` and `alu32` determine; nothing calls this function. On 64 bits, the sums of a
+/// number from 0 to 7 and a number from 250 to 255 are from 250 to 262. On 32 bits, the sums of 2^32 - 1 and a number from 1 to 2 all wrap,
+/// so they are from 0 to 1.
 fn ranges_of_sums() {
     let sum = alu64(
         Operator::Binary(AluOp::Add),

@@ -12,8 +12,8 @@ use log_reasons::rejection_text;
 use std::alloc::{AllocError, Global};
 use tagged_model::Named;
 
-/// The text between the reason of a rejection and what is known and required: a colon, and then a space in a line, or a line feed in a
-/// graph.
+/// The text between the reason of a rejection and what is known and required, which `rejection_text` writes after it: a colon, and then a
+/// space in a log of lines (`New`, `Whole`), or a line feed in a graph (`Graph`).
 fn separator(style: LogStyle) -> &'static str {
     match style {
         LogStyle::New | LogStyle::Whole => ": ",
@@ -21,11 +21,12 @@ fn separator(style: LogStyle) -> &'static str {
     }
 }
 
-/// The log of a program, verified with the open descriptors and their objects, which are listed in `named`. It has three parts: whether the
-/// program is accepted (`verdict`); the facts before each instruction that a run may reach (`facts`), of an unsafe program only up to the
-/// rejected one, and none if its shape has a fault; and a text, as lines or as a graph (`style`). Lines end with the verdict (`said`): a
-/// line with the cost and the line `accepted`, or the line of the refusal and then why. A graph has a refusal and why in the block of the
-/// rejected instruction.
+/// The log of a program, verified with the open descriptors and their objects, which are listed in `named`. It has three parts. The first
+/// is whether the program is accepted (`verdict`). The second is the facts before each instruction that a run may reach (`facts`): if these
+/// do not allow an instruction, only up to those before this one; if the program's shape has a fault, none. The third is a text: lines with
+/// what is new before each instruction (`style` is `New`) or with all facts before it (`Whole`), or a graph (`Graph`). Lines end with the
+/// verdict (`said`): a line with the cost and the line `accepted`, or the line of the refusal and then the reason in words. A graph has the
+/// verdict only if it is a refusal, in the block of the rejected instruction.
 ///
 /// # Errors
 ///

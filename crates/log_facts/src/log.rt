@@ -34,10 +34,11 @@ pub struct Log {
 }
 
 impl Judged {
-    /// Makes the log with this text, and with the facts and the verdict of `self`. The other clauses hold for each program `code`, verified
-    /// with the objects `named`, of which `self` has the facts and the verdict (`IsJudged`): `is_accepted` is whether the program is
-    /// accepted (`verdict`), and the log has its facts (`facts`). If `text` ends in the verdict of `self`, as a listing does and a graph
-    /// does not, it ends in that on the program: the cost of an accepted one, or the slot and the reason for which it is rejected (`said`).
+    /// Makes the log with this text (`text`), and with the facts and the verdict of `self`. The other clauses are about each program
+    /// `code`, with the open descriptors `named`, for which `self` has the facts and the verdict of the verifier (`IsJudged`). Then
+    /// `is_accepted` is whether this program is accepted (`verdict`), and the facts of the log are those of its verification (`facts`).
+    /// `said`: if `text` ends in the verdict of `self` (`EndsInVerdict`), as a listing does and a graph does not, the log's text ends in
+    /// the verdict on this program (`SaysVerdict`): its cost if it is accepted, else the slot and the reason of its rejection.
     pub fn into_log(self, text: String) -> Log
         ensures text { result.text ≡ text }
         ensures verdict { (code : List Insn) (named : List Named)

@@ -49,10 +49,10 @@ pub struct Judged {
     pub verdict: Result<Cost, VerifyFault>,
 }
 
-/// Verifies a program for the log, with the open descriptors `named`, each with the object that it names. Returns the verdict, the
-/// program's cost or the fault for which it is rejected, and in `known` the facts before the instructions that the pass reached, in order
-/// (`IsJudged`). If the program is accepted, these are all instructions that a run may reach. If a rule of safety rejects it, the last is
-/// that of the fault. If its shape is rejected, there is none.
+/// Verifies a program for the log, with the open descriptors `named`, each with the object that it names. Returns the verdict, which is the
+/// program's cost or the fault for which it is rejected, and in `known` the facts before instructions, in the order of the slots
+/// (`IsJudged`). If the program is accepted, `known` has the facts before each instruction that a run may reach. If a rule on the facts
+/// rejects an instruction, they end with the facts before this instruction. If the program's shape has a fault, `known` is empty.
 ///
 /// # Errors
 ///

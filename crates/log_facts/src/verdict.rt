@@ -34,7 +34,9 @@ fn write_refusal(text: &mut String, fault: VerifyFault, why: &str) -> Result<(),
     text.push_str(why)
 }
 
-/// Writes what a program costs: the most instructions and the most calls of helpers on a path. The error is out of memory.
+/// Appends to `text` the line of what an accepted program costs, with its line feed (`cost_line`): `cost: instructions I, calls C`. I is
+/// the most instructions, C the most calls of helpers, on a path from slot 0 to an exit; the two may be of different paths. The error is
+/// out of memory; nothing is promised of `text` then.
 fn write_cost(text: &mut String, cost: Cost) -> Result<(), AllocError>
     ensures { OnOk result (string_bytes text.new ≡ string_bytes text.old ++ cost_line cost) }
 {

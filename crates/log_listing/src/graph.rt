@@ -50,9 +50,10 @@ struct Block {
     is_refused: bool,
 }
 
-/// Writes the style or the label of an edge, by what is known of it (`edge`). An edge that no run takes (`Dead`) gets the style `UNREACHED`
-/// and no label. Any other edge gets the label `name`, followed by what is new on the edge (`seen`), if anything is. `name` is `taken` or
-/// `not taken` after a conditional jump. Otherwise it is empty and nothing is new, so no label is written.
+/// Writes the attributes of an edge in the language of Graphviz, by what is known of it (`edge`). An edge that no run takes (`Dead`) gets
+/// the style `UNREACHED` and no label. Any other edge, one that a run may take (`Taken`) or of which nothing is known (`Unknown`), gets the
+/// label `name`, followed by what is new on the edge (`seen`), if anything is. `name` is `taken` or `not taken` after a conditional jump.
+/// Otherwise it is empty and nothing is new, so such an edge has no label. `AllocError`: out of memory for the text.
 fn write_style(text: &mut String, name: &str, edge: Edge<'_>) -> Result<(), AllocError> {
     match edge {
         Edge::Dead => write!(text, " [{UNREACHED}]"),
@@ -189,8 +190,10 @@ impl<'a> Graph<'a> {
         }
     }
 
-    /// Writes the end of the block: the quote that closes its label, and its style. The block is red if it has the rejected instruction,
-    /// else dashed if the pass did not reach it. Without a pass (`has_pass`), since the program's shape has a fault, no block is dashed.
+    /// Writes the end of the basic block that is being written (`block`), in the language of Graphviz: the quote that closes its label, and
+    /// its style. The block is red if it has the rejected instruction. Else it is dashed if the pass over the facts did not reach it
+    /// (`is_reached` is false), so no run does. If there was no pass, since the program's shape has a fault (`has_pass` is false), nothing
+    /// is known of what runs reach, and no block is dashed. `AllocError`: out of memory for the text.
     fn end(&self, text: &mut String) -> Result<(), AllocError> {
         text.push_str("\"")?;
         if self.block.is_refused {
@@ -216,11 +219,12 @@ impl<'a> Graph<'a> {
         self.write_fault(text, slot)
     }
 
-    /// Writes the instruction `insn`, which is at `slot`, as a line in its block's label; the verdict follows if the instruction is
-    /// rejected. If a block begins at `slot`, its beginning is written first; the pass over the facts reached the block if `insn` has a
-    /// step. If the block ends with `insn`, its end and its edges follow, with what is new on each by the step. Without a step, or if the
-    /// block has the rejected instruction, they are written as edges that no run takes or, if the program's shape has a fault, so that
-    /// there was no pass (`has_pass`), as edges of which nothing is known. Slots are passed in ascending order, as `step_at` needs.
+    /// Writes the instruction `insn`, which is at `slot`, as a line in the label of its block; the verdict follows if `insn` is the
+    /// rejected instruction. If a block begins at `slot`, its beginning is written first. If the block ends with `insn`, the end of the
+    /// block and the edges out of it follow. `insn` has a step (`step_at`) if the pass over the facts reached `insn`, and so its block; the
+    /// step has what is new on each edge that a run may take. Without a step, or if an instruction of the block is rejected, the edges are
+    /// written as edges that no run takes. But if there was no pass (`has_pass`), since the program's shape has a fault, they are written
+    /// as edges of which nothing is known. Slots are passed in ascending order, since `step_at` compares only the next step.
     fn write_slot(
         &mut self,
         text: &mut String,
@@ -241,9 +245,10 @@ impl<'a> Graph<'a> {
     }
 }
 
-/// Writes the blocks of the program of `graph` in the order of their slots, and after each block its edges. `write_slot` writes an
-/// instruction, before it the beginning of a block, if one begins there, and after it the end of a block, if one ends there. A slot at
-/// which no instruction begins, the second one of a wide instruction, is skipped.
+/// Writes the basic blocks of the program of `graph`, in the order of their slots, as nodes in the language of Graphviz, and after each
+/// block the edges out of it. `graph` also keeps how far the writing is: the current block, and the next step, an instruction that a run
+/// may reach. `write_slot` writes an instruction, before it the beginning of a block, if one begins there, and after it the end of a block,
+/// if one ends there. A slot at which no instruction begins, the second one of a wide instruction, is skipped.
 fn write_blocks(text: &mut String, mut graph: Graph<'_>) -> Result<(), AllocError> {
     let program = graph.input.program;
     for slot in 0..program.slots() {

@@ -41,8 +41,9 @@ fn write_registers(
     Ok(())
 }
 
-/// Appends one note with the registers that are readable in `old` and not in `new`, as `r1, r3 lost`; nothing if there are none. `start` is
-/// the offset in the text at which the first note begins; each other note has a semicolon before it (`separate_note`). `AllocError`: out of
+/// Appends one note on the registers that are lost, as `r1, r3 lost`; nothing if there are none. The log shows how the facts `new` differ
+/// from the facts `old`: a register is lost if it is readable in `old` and not in `new`. `start` is the offset in the text at which the
+/// notes on these facts begin. Each of them but the first has a semicolon and a space before it (`separate_note`). `AllocError`: out of
 /// memory for the text.
 fn write_lost_registers(
     text: &mut String,
@@ -80,8 +81,9 @@ fn written(old: Slot, new: Slot) -> u8 {
     }
 }
 
-/// The mask of the bytes of a stack slot that the log lists as lost, those that are readable in `old` and not in `new`; bit 0 is the lowest
-/// byte. All bytes of a spill are readable, so the mask is 0 if `new` is a spill.
+/// The mask of the bytes of a stack slot that the log lists as lost; bit 0 is the lowest byte. They are readable in `old`, the slot in the
+/// earlier facts, and not in `new`, the slot in the later ones. The mask in `Bytes` has the bytes that are written, and so readable. Of a
+/// spill, a pointer or a map that is stored whole, all eight bytes are readable, so the result is 0 if `new` is a spill.
 fn lost(old: Slot, new: Slot) -> u8 {
     match (old, new) {
         (Slot::Bytes(before), Slot::Bytes(after)) => before & !after,
@@ -110,9 +112,10 @@ struct Row {
 }
 
 impl Row {
-    /// Writes a note on the bytes of the row, as `stack -8 to -5 written`, or `stack -8 written` for a single byte: the offsets of the
-    /// first and the last byte from the stack's upper end, and the word `what`, which is `written` or `lost`. Writes nothing if the row has
-    /// no byte.
+    /// Writes a note on the consecutive stack bytes that this `Row` has, as `stack -8 to -5 written`, or `stack -8 written` for a single
+    /// byte: the offsets of the first and the last byte from the stack's upper end, and the word `what`, which is `written` or `lost`.
+    /// Writes nothing if the `Row` has no byte. A note that does not begin at the offset `start` of the text is not the first, so a
+    /// semicolon separates it from the one before (`separate_note`). `AllocError`: out of memory for the text.
     fn write(&self, text: &mut String, what: &str) -> Result<(), AllocError> {
         if self.first == self.end {
             return Ok(());
@@ -138,10 +141,11 @@ impl Row {
         Ok(())
     }
 
-    /// Adds bytes of stack slot `index`, 0 for the lowest slot, to this `Row` of consecutive stack bytes: those whose bit in `mask` is 1;
-    /// bit 0 is that of the slot's lowest byte. If a byte does not follow the last byte of the `Row`, those in the `Row` are first written
-    /// into `text`, as a note with the word `what`, `written` or `lost`, and the `Row` begins anew at this byte (`add_byte`). The bytes
-    /// that the `Row` has at the end are left to the caller, who writes them after the last stack slot.
+    /// Adds bytes of a stack slot to this row of consecutive stack bytes. The slot has the number `index`, 0 for the lowest slot. Its bytes
+    /// whose bit in `mask` is 1 are added; bit 0 is that of the lowest byte. If a byte does not follow the last byte of the row, the row,
+    /// if it has bytes, is first written into `text` as a note, for example `stack -8 to -5 lost`, and begins anew at this byte
+    /// (`add_byte`). `what` is the last word of the note: `written` or `lost`. The bytes that the row has at the return are not yet
+    /// written: the caller does that after the last stack slot. `AllocError`: out of memory for the text.
     fn add_slot_bytes(
         &mut self,
         text: &mut String,
@@ -162,10 +166,11 @@ impl Row {
 }
 
 /// Appends a note for each row of consecutive stack bytes that changed from the facts `old` to the facts `new`, as `stack -8 to -5 lost`.
-/// If `are_lost`, these are the bytes that were readable in `old` and are not in `new`, with the word `lost`. Else they are the bytes that
-/// are written in `new`, and in `old` were unwritten or in a slot with a spill, with the word `written`. A slot with a spill in `new` has
-/// none of these bytes: a new spill has a note of its own (`write_spills`). `start` is the offset in the text at which the first note
-/// begins; each other note has a semicolon before it (`separate_note`). `AllocError`: out of memory for the text.
+/// If `are_lost`, these are the bytes that are readable in `old` and not in `new`, with the word `lost`; all bytes of a spill are readable.
+/// Else they are the bytes that are written in `new`, and in `old` were unwritten or in a slot with a spill, with the word `written`. In
+/// both cases a stack slot with a spill in `new` has none of these bytes: a new spill has a note of its own (`write_spills`). `start` is
+/// the offset in the text at which the first note begins, which an earlier call may have written; each other note has a semicolon before it
+/// (`separate_note`). `AllocError`: out of memory for the text.
 fn write_stack_bytes(
     text: &mut String,
     start: usize,
@@ -218,8 +223,10 @@ fn write_spills(
     Ok(())
 }
 
-/// Appends what is known in `new` and was not in `old`, and what is not known any more, as notes. `start` is the offset in the text at
-/// which the first note begins; each other note has a semicolon before it (`separate_note`).
+/// Appends notes on what is known in the facts `new` and was not in `old`, as `r1 = any number`, and on what is not known any more, as
+/// `r1 lost`. `new` are the facts before an instruction, or on an edge of a conditional jump. `old` are those before the preceding
+/// instruction of the log, those before the jump, or facts in which nothing is known. `start` is the offset in the text at which the first
+/// note begins; each other note has a semicolon and a space before it (`separate_note`). `AllocError`: out of memory.
 pub(crate) fn write_known(
     text: &mut String,
     start: usize,

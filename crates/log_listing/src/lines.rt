@@ -150,10 +150,10 @@ fn write_step(
 
 /// Writes the notes on `insn`, the instruction at `slot`, at the end of its line. `line` has the offsets in `text` at which the line begins
 /// and the instruction ends. `steps` of `input` has a step for each instruction that the verifier's pass reached, in the order of the
-/// slots, and `cursor.step` is the index of the next one. If that is the step of `slot`, `write_step` writes its notes, and the cursor
-/// moves past it. Else the pass did not reach the instruction: the note is `not reached`, or nothing is written if there was no pass, since
-/// the program's shape has a fault. Then `falls_from` of the cursor becomes `None`, so that the next line does not name this instruction as
-/// one from which control comes.
+/// slots, and `cursor.step` is the index of the first step whose notes are not yet written. If this is the step of `slot`, `write_step`
+/// writes its notes, and the cursor moves to the next step. Otherwise the pass did not reach the instruction, and `not reached` is its
+/// note. If there was no pass (`has_pass`), since the program's shape has a fault, it has no note. In both cases `falls_from` of the cursor
+/// becomes `None`, so that the next line does not name this instruction as one from which control comes.
 fn write_notes(
     text: &mut String,
     input: &ListingInput<'_>,
@@ -179,10 +179,11 @@ fn write_notes(
     }
 }
 
-/// Writes the line of the instruction `insn` at `slot`, with its notes and a line feed. So the text then ends with a line feed, whatever it
-/// was before (`AreLines`). `cursor` has the next step and the next jump of `input`, and the slot of the line before, if a run may fall
-/// through from it. Then, if the pass reached `insn`, it is moved past the step of `insn` and the jumps to `slot`; and it has `slot` if a
-/// run may fall through from `insn`.
+/// Writes the line of `insn`, the instruction at `slot`: the slot, the instruction, its notes (`write_notes`), as what is known before it,
+/// and a line feed. So the text then ends with a line feed, whatever it was before (`AreLines`). `input` has a step for each instruction
+/// that the verifier's pass reached, and the jumps that a run may take. `cursor` has the index of the next step and that of the next jump,
+/// and in `falls_from` the slot of the line before, if a run may fall through from it. If the pass reached `insn`, the cursor is moved past
+/// its step and the jumps to `slot`. After the call `falls_from` is `slot` if a run may fall through from `insn`, else `None`.
 fn write_line(
     text: &mut String,
     input: &ListingInput<'_>,
@@ -202,8 +203,9 @@ fn write_line(
 
 /// Appends the line of each instruction that begins at a slot from 0 to `last`, in their order. `last` is the slot of the rejected
 /// instruction; for an accepted program it is past the end, and all lines are written. The second slot of a wide instruction has no line.
-/// `cursor` starts at the first step and the first jump of `input`, and with `None`, since no run falls through to the first line.
-/// `AreLines`: `text`, which `lines_of` passes empty, is empty or ends with a line feed, before the call and after it.
+/// `cursor` has what the next line needs: the index of the next step in `input` (a step is an instruction that the pass reached), that of
+/// the next jump, and the slot of the line before if a run may fall through from it (`falls_from`), so `None` for the first line. By the
+/// contract `text`, which `lines_of` passes empty, is empty or ends with a line feed, before the call and after it (`AreLines`).
 pub(crate) fn write_lines(
     text: &mut String,
     input: &ListingInput<'_>,

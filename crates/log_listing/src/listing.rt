@@ -36,9 +36,9 @@ fn lines_of(
 /// The listing of `program`, which was verified while descriptors named the objects of `named`. `judged` has the verdict, and the facts
 /// before each instruction that the pass reached; a program whose shape has a fault (`is_of_shape`) has no pass, and so no facts. `style`
 /// selects lines with what is new before each instruction (`New`), lines with all facts before it (`Whole`), or a graph (`Graph`). `why`
-/// has the reason of a rejection in words and a line feed, and is empty for an accepted program. Lines end with the verdict and `why`; a
-/// graph has both only after a rejection, in the block of the rejected instruction. Of a text in lines the contract says that it is whole
-/// lines and then this verdict (`EndsInVerdict`); of a graph it says nothing.
+/// has the reason of a rejection in words and a line feed, and is empty for an accepted program. Lines end with the verdict and then `why`;
+/// a graph has both only after a rejection, in the block of the rejected instruction. Of lines the contract says that they are whole lines,
+/// then the verdict, and after that of a rejection any text (`EndsInVerdict`); of a graph it says nothing.
 ///
 /// # Errors
 ///

@@ -51,7 +51,8 @@ impl StepMaker<'_> {
 
     /// Adds to `step` what is new on each edge of the conditional jump `insn` against `facts`, the facts before it: `falling` for the edge
     /// to the next instruction, `jumping` for the edge to the target. An edge that no run takes gets `None`; if the jump is rejected, both
-    /// edges do.
+    /// edges do. For this, `edges.leave` writes into the buffer `edges` whether a run may take each edge (`falls`, `jumps`), and the facts
+    /// on it (`falling`, `jumping`).
     fn branch(&mut self, step: &mut Step, insn: &Insn, facts: &Facts) -> Result<(), AllocError> {
         self.edges.leave(facts, self.named, step.slot, insn);
         let Edges {
@@ -65,10 +66,11 @@ impl StepMaker<'_> {
         Ok(())
     }
 
-    /// Sets the texts of the edges out of the instruction `insn`, `falling` and `jumping`, in its `step`, which has none yet. `facts` are
-    /// those before `insn`. An exit has no edge. The text of an edge of a conditional jump (`branch`) is what is new on this edge; it is
-    /// `None` if no run takes the edge, and for both edges if the jump is rejected. Any other instruction has one edge, and its text is
-    /// empty, also if the instruction is rejected: what it changes is new before the next instruction.
+    /// Sets the texts of the edges out of the instruction `insn` in `step`, the texts of this instruction: `falling` for the edge to the
+    /// next instruction, `jumping` for the edge to the target of its jump. Both are `None` before, and remain so for an edge that `insn`
+    /// does not have; an exit has neither. `facts` are those before `insn`. The text of an edge of a conditional jump (`branch`) is what is
+    /// new on this edge; it is `None` if no run takes the edge, and for both edges if the jump is rejected. Any other instruction has one
+    /// edge, and its text is empty, also if the instruction is rejected: what it changes is in the step of the next instruction (`known`).
     fn leave(&mut self, step: &mut Step, insn: &Insn, facts: &Facts) -> Result<(), AllocError> {
         match insn.profile().successors {
             Successors::Next => step.falling = Some(String::new(self.alloc)),
@@ -100,11 +102,12 @@ impl StepMaker<'_> {
 }
 
 /// The steps of a program, in the order of `known`: an element of `known` has a slot and the facts before the instruction there, and
-/// becomes one step. `named` lists the open descriptors and their objects. The field `known` of a step is all that is known in these facts
-/// if `is_whole`; else only what is new, or no longer known, since the element before, and for the first element all. The fields `falling`
-/// and `jumping` are what is new on the edges of a conditional jump, and `None` for an edge that no run takes, or for both if the jump is
-/// rejected. The edge of any other instruction has the empty text, since what the instruction changes is new before the next one; the field
-/// of an edge that it does not have is `None`. `AllocError`: out of memory.
+/// becomes one step, which is what the log shows of this instruction. `named` lists the open descriptors and their objects. The field
+/// `known` of a step is, if `is_whole` (the log shows all facts), the text of all these facts; else only what is new in them, or no longer
+/// known, against the facts of the element before, and for the first element all. The fields `falling` and `jumping` are the texts for the
+/// two edges, and `None` for an edge that the instruction does not have. For a conditional jump the text is what is new on the edge against
+/// the facts before the jump; it is `None` if no run takes the edge, and for both edges if the jump is rejected. For any other instruction
+/// it is empty, since what the instruction changes is new before the next one. `AllocError`: out of memory.
 pub(crate) fn steps_of(
     alloc: Global,
     program: &Program,

@@ -134,9 +134,10 @@ impl Finder<'_> {
     }
 
     /// Follows each edge out of `insn`, the instruction at `slot`, that a run may take; `facts` are those before `insn`. For the slot to
-    /// which the edge leads, `arrive` records whether the value that the rejected instruction needs (`wanted`) is present on this edge, and
-    /// if not, why. For that, `follow` has set `cause` before: why the value is missing before `insn`. The test of `slot` against
-    /// `MAX_SLOTS` always holds, since a program has no more slots; the contract of `target` needs it.
+    /// which the edge leads, `arrive` records whether the value that the rejected instruction needs (`wanted`) is present on this edge. For
+    /// the first edge to that slot on which it is missing, `arrive` also records why: the value is missing before `insn` for the cause that
+    /// `follow` has stored in `cause`, or, if that is `None`, `insn` destroys it. The test of `slot` against `MAX_SLOTS` always holds,
+    /// since a program has no more slots; the contract of `target` needs it.
     fn leave(&mut self, slot: usize, insn: &Insn, facts: &Facts) {
         let mut edges = Edges::none(facts);
         edges.leave(facts, self.named, slot, insn);
@@ -151,10 +152,11 @@ impl Finder<'_> {
         }
     }
 
-    /// Follows the instruction at `slot`, before which `facts` are known. Sets `cause` to why the value that the rejected instruction needs
-    /// is missing before this instruction; `None` if the value is present there. Then records in `arrivals`, for each edge out of it that a
-    /// run may take, whether the value is present or missing on the edge. At each slot with facts an instruction begins, so the `if` always
-    /// holds.
+    /// Follows the instruction at `slot`, before which `facts` are known. The rejected instruction needs the value of a register or of
+    /// stack bytes. By facts that allow an instruction to read it this value is present, by others it is missing. Sets `cause` to why it is
+    /// missing before the instruction at `slot`; `None` if it is present there. Then records for each edge out of this instruction that a
+    /// run may take whether the value is present or missing on the edge: in `arrivals`, under the slot to which the edge leads. At each
+    /// slot with facts an instruction begins, so the `if` always holds.
     fn follow(&mut self, slot: usize, facts: &Facts) {
         self.cause = self.cause_at(slot, facts);
         if let Some(insn) = self.program.get(slot) {
@@ -180,10 +182,11 @@ fn first_arrivals(alloc: Global, slots: usize) -> Result<Vec<Arrival>, AllocErro
     Ok(arrivals)
 }
 
-/// Why the value `wanted`, that of a register or of stack bytes, is missing before the rejected instruction; `None` if this value is
-/// present there. `follow` is called for each instruction that the pass over the program reached, in the order of the slots. It sets
-/// `cause` to why the value is missing before the instruction, and records in `arrivals` whether the value is present on each edge out of
-/// it. The rejected instruction is the last, so its `cause` is the result. The error is out of memory.
+/// Why the value `wanted`, that of a register or of stack bytes, is missing before the rejected instruction; `None` if it is present there.
+/// It is missing if an instruction may not read it by the facts there: the register is unreadable, or one of the bytes may be unwritten.
+/// `known` has the facts before each instruction that the verifier's pass reached, in the order of the slots. For each of them `follow`
+/// sets `cause` to why the value is missing before it, or to `None`. It also records in `arrivals`, for each slot, whether the value is
+/// present on the edges to it. The rejected instruction is the last, so its `cause` is the result. The error is out of memory.
 fn cause_of(refusal: &RefusedProgram<'_>, wanted: Wanted) -> Result<Option<Cause>, AllocError> {
     let (alloc, program, named) = (refusal.alloc, refusal.program, refusal.named);
     let mut finder = Finder {
@@ -224,11 +227,11 @@ fn verbs_of(wanted: Wanted) -> Verbs {
     }
 }
 
-/// Appends to `text` why the value `wanted`, which the rejected instruction of `refusal` needs, is missing before this instruction. It was
-/// never written, or the instruction at some slot destroys it, or the join at some slot loses it, or it is missing on the edge from some
-/// slot to an instruction to which another edge leads with it. The text is a sentence without its subject, the register or the stack bytes,
-/// which the caller has written before. The caller knows that the value is missing, so `cause_of` finds a cause, and `unwrap_or` does not
-/// use its default.
+/// Appends to `text` why the value `wanted`, which the rejected instruction of `refusal` needs, is missing before this instruction. Either
+/// it was never written (`Never`), or the instruction at a slot destroys it (`Destroyed`), or it is present on each edge to a slot, but
+/// their join loses it (`Joined`), or it is present on some edges to an instruction and missing on others (`OnEdge`): then the text has the
+/// slot from which the first of these others leads. The text is a sentence without its subject, the register or the stack bytes, which the
+/// caller has written. The caller knows that the value is missing, so `cause_of` finds a cause; the default of `unwrap_or` is not used.
 pub(crate) fn write_way(
     text: &mut String,
     refusal: &RefusedProgram<'_>,

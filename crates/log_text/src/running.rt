@@ -33,11 +33,13 @@ impl Output {
     }
 }
 
-/// The output for an input, by the parsed arguments `matches`: the log of its program, in the style that they choose, and the exit status,
-/// 0 if the program is accepted, else 1. The program is hex lines or text, as an option says, or else as the first line that is not blank
-/// shows (`form_of`). If the slots on hex lines are no program, the log says why. The failures: `MapArgument` for a wrong map argument;
-/// then `TooLong` if the input has more than `LONGEST_INPUT` bytes, or `Read` if a call of it failed; then `Line` if the input is not
-/// UTF-8, a line has a fault, or no line has a slot or an instruction. `Memory` at any of these steps if out of memory.
+/// The output for an input, by the parsed arguments `matches`: the log of its program, and the exit status, 0 if the program is accepted,
+/// else 1. By the options the log has lines with what is new before each instruction, lines with all that is known, or a graph
+/// (`style_of`). The program is hex lines or text, as an option says. Without this option it is hex lines if the first line that is not
+/// blank has only hex digits, else text (`form_of`). If the slots on hex lines are no program, the log says why. The failures:
+/// `MapArgument` for a wrong map argument; then `TooLong` if the input has more than `LONGEST_INPUT` bytes, or `Read` if a call that reads
+/// it failed; then `Line` if the input is not UTF-8, a line has a fault, or no line has a slot or an instruction. `Memory` at any of these
+/// steps if out of memory.
 fn log_output<I: Read + Drop>(
     alloc: Global,
     matches: &ArgMatches<'_>,
@@ -93,10 +95,11 @@ fn write_out<O: Write>(output: &mut O, text: &str) -> Result<(), Failure> {
     Ok(())
 }
 
-/// Writes the output for the arguments, a log of the input's program, the help or the version, and returns the exit status: 1 if the
-/// program is rejected or the slots on hex lines are no program, else 0. Fails before anything is written if arguments are wrong, if the
-/// input can't be read, is too long, or has a fault as hex lines or as text, or if out of memory; fails with `Write` if the output can't be
-/// written or flushed.
+/// Runs the command-line program on `arguments`, those after its name: writes its output to `output`, and returns its exit status. The
+/// output is the log of the eBPF program in `input`, or, if the arguments ask for it, the help or the version. The status is 1 if the eBPF
+/// program is rejected, or if the slots on hex lines are no program, else 0. Fails before anything is written if arguments are wrong, if
+/// the input can't be read, is too long, or has a fault as hex lines or as text, or if out of memory. Fails with `Write` if the output
+/// can't be written or flushed.
 fn run<I: Read + Drop, O: Write + Drop>(
     alloc: Global,
     arguments: &[&str],

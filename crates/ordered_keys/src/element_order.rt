@@ -80,7 +80,8 @@ impl ElementOrder {
         self.element_or_none(self.links[end].after)
     }
 
-    /// The element that follows `element`, which is in the order; `None` if it is the last.
+    /// The element that follows `element`, which is in the order; `None` if it is the last. In the ring of links the bound, a number above
+    /// all elements, comes after the last element: `element_or_none` returns `None` for the bound, and any element unchanged.
     pub(crate) fn after(&self, element: u32) -> Option<u32>
         requires { 0 < occurrences element self.now.elements }
         ensures { result ≡ following element self.now.elements }
@@ -125,9 +126,10 @@ impl ElementOrder {
         self.count = 0;
     }
 
-    /// Takes an element out of the order. The order has it, by the precondition, and only once; the other elements keep their order
-    /// (`taken_out`), and the bound is unchanged. In the ring its two neighbours are linked to each other. Each of them is an element, or
-    /// the bound, at which the ring begins and ends. The link of the element itself is not written: it means nothing then.
+    /// Takes `element` out of the order, which has it, by the precondition, and only once. The others keep their order (`taken_out`: the
+    /// list without `element`), and the bound, a number above all elements, is unchanged. In the ring of links the bound is before the
+    /// first element and after the last. So each of the two neighbours of `element` is an element or the bound, and they are linked to each
+    /// other. The link of `element` is not written: the link of a number that is not in the order means nothing.
     pub(crate) fn remove(&mut self, element: u32)
         requires { 0 < occurrences element self.old.elements }
         ensures bound { self.new.bound ≡ self.old.bound }

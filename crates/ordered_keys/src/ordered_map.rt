@@ -50,9 +50,11 @@ impl<K: Eq + Hash + Copy, S: BuildHasher> Model for OrderedMap<K, S> {
 
 impl<K: Eq + Hash + Copy, S: BuildHasher> OrderedMap<K, S> {
     /// A map without keys, for elements less than `bound`, whose table hashes keys by `hash_builder`. Allocates all memory that the map
-    /// will ever have. A removal may take the room of one entry from the table. When this has room for only `bound` entries in all, a
-    /// removal fills it anew (`rebuild_without`), in many steps; with room for four times the bound at first, that is rare. It copies the
-    /// second half of the entries to `rows`, a buffer with room for more than half of the bound, and back. `AllocError`: out of memory.
+    /// will ever have: the table of the keys, for each element the index of its key in the table (`indices`), the order of the elements
+    /// (`order`), and a buffer (`rows`). The table has to keep room for `bound` entries in all, and a removal may lose the room of one
+    /// entry. So it has room for four times as many at first. When it has room for only `bound`, a removal keeps that room by copying the
+    /// second half of the entries to `rows`, which has room for more than half of `bound` entries, and back (`rebuild_without`). That takes
+    /// many steps, but is rare. `AllocError`: out of memory.
     pub fn new(alloc: Global, bound: u32, hash_builder: S) -> Result<OrderedMap<K, S>, AllocError>
     where
         S: Drop,
@@ -108,8 +110,9 @@ impl<K: Eq + Hash + Copy, S: BuildHasher> OrderedMap<K, S> {
     }
 
     /// The key that follows the key of `element` in the order in which keys were added, or the first key if `element` is `None`; and the
-    /// element of the key that is returned. `None` if no key follows, if no key has `element`, or if there are no keys. A save goes over
-    /// the entries of a map by this function. Unlike `key_after`, it hashes no key.
+    /// element of the key that is returned. `None` if no key follows, if no key has `element`, or if there are no keys. In the contract,
+    /// `lent_entry` is this pair with the key itself instead of its borrow. A save goes over the entries of a map by this function. Unlike
+    /// `key_after`, it hashes no key.
     pub fn entry_after(&self, element: Option<u32>) -> Option<(&K, u32)>
         ensures { option_map lent_entry result ≡ next_entry element self.now.entries }
     {
@@ -153,10 +156,11 @@ impl<K: Eq + Hash + Copy, S: BuildHasher> OrderedMap<K, S> {
         ensures bound { self.new.bound ≡ self.old.bound }
     {
         let index = self.table.get_index_of(key)?;
-        // `take_out` may move entries through `rows`, which is empty before and after. Its third argument is the bound, as `indices` has an
-        // item for each element.
+        // Removes the entry at `index`; the last entry gets this index. The third argument is the bound, since `indices` has an item for
+        // each element below it. `rows` is a buffer, empty before and after, through which `take_out` may move entries.
         let (_key, element) = take_out(&mut self.table, &mut self.rows, self.indices.len(), index);
-        // The last key has taken the index. If the removed key was the last, `moved` is its element, whose index now means nothing.
+        // The element of the entry that is at `index` now. If the removed entry was the last one, there is none, and `moved` is the removed
+        // element, whose index now means nothing.
         let moved = element_at(&self.table, index, element);
         self.indices[moved as usize] = index as u32;
         self.order.remove(element);
@@ -207,9 +211,10 @@ fn next_element<K: Eq + Hash, S: BuildHasher>(
     }
 }
 
-/// The key of `element`: that of the entry at the index that `indices` has for the element. `None` if no element is given, or the table has
-/// no entry at the index. By the precondition an element that is given is in range: `indices` has an index for it. The callers pass only
-/// elements of the order, which have entries. For any other element the index means nothing, and the key may be that of another element.
+/// The key of `element`: that of the entry of `table` at the index that `indices` has for the element. `table` has the keys with their
+/// elements, and `indices` by element the index of its key. `None` if no element is given, or the table has no entry at the index. By the
+/// precondition an element that is given is in range: `indices` has an index for it. The callers pass only elements that keys have. For any
+/// other element the index means nothing, and the key may be that of another element.
 fn key_at<'a, K: Eq + Hash, S: BuildHasher>(
     table: &'a IndexMap<K, u32, S>,
     indices: &[u32],
@@ -285,9 +290,11 @@ fn take_out<K: Eq + Hash + Copy, S: BuildHasher>(
     }
 }
 
-/// Takes out the entry at `index`, at which the table has one, and returns it. The last entry moves to `index` (`entries`). The capacity of
-/// the table (its entries and the further ones for which it has room) falls by at most one (`room`). So `take_out` calls this function only
-/// if the capacity is above the bound of the map. Otherwise it calls `rebuild_without`, which loses no capacity but takes more steps.
+/// Removes the entry at `index`, at which the table has one (`within`), and returns its key and its element. The last entry moves to
+/// `index` (`entries`). The capacity of the table, its entries and the further ones for which it has room (`spare`), falls by at most one
+/// (`room`). It has to suffice for all entries that the map may have (the map's bound), so that no insertion needs memory. So `take_out`
+/// calls this function only if the capacity is above the bound. Otherwise it calls `rebuild_without`, which loses no capacity but takes
+/// more steps.
 #[inline(always)]
 fn take_at<K: Eq + Hash + Copy, S: BuildHasher>(
     table: &mut IndexMap<K, u32, S>,
@@ -306,12 +313,12 @@ fn take_at<K: Eq + Hash + Copy, S: BuildHasher>(
 }
 
 /// Takes out the entry at `index`, at which the table has one, and returns it; the last entry gets this index. The capacity of the table,
-/// its entries and the further ones for which it has room (`spare`), does not fall (`room`). With `take_at`, which is quicker, it may fall
-/// by one; so `take_out` calls this function only if the capacity is not above the map's bound: it has to suffice for the bound, so that no
-/// insertion needs memory. The entry is swapped to the end. Then the second half of the entries is copied to `rows`, removed from the
-/// table, and put back without the entry: by its contract the index map keeps its capacity if at least half of its entries are removed at
-/// once. `rows` is empty before and after, has room for this half (`requires buffer`), and keeps its capacity (`ensures buffer`). A call
-/// takes more steps the more entries there are, but is rare, so the function is out of line.
+/// its entries and the further ones for which it has room (`spare`), does not fall (`room`). `take_at` is quicker, but may lower it by one.
+/// The capacity must be at least the map's bound, the most entries that the map can have, so that no insertion needs memory. So `take_out`
+/// calls `take_at` if the capacity is above the bound, and else this function. The entry is swapped to the end. Then the second half of the
+/// entries is copied to `rows`, removed from the table, and put back without the entry: the table keeps its capacity if `truncate` removes
+/// at least half of the entries at once. `rows` is empty before and after, has room for this half (`requires buffer`), and keeps its
+/// capacity (`ensures buffer`). A call takes more steps the more entries there are, but is rare, so the function is out of line.
 #[cold]
 #[inline(never)]
 fn rebuild_without<K: Eq + Hash + Copy, S: BuildHasher>(

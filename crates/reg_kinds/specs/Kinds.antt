@@ -9,9 +9,10 @@ use Rattle.reg_kinds.specs.declared.kind.Slot.{Slot}
 use Rattle.reg_kinds.specs.declared.kind.Slot.TheVariants.{Bytes}
 use Rattle.reg_kinds.specs.declared.facts.Facts.{Facts}
 
--- whether a value of the kind is a pointer, possibly null, or a map, which counts as a pointer
--- here; false for a number, and if nothing is known. No store puts a part of a pointer into the
--- stack (`PartOfSpill`), or a pointer into a map's value (`PointerStored`)
+-- whether a value of the kind counts as a pointer: true for a pointer, also one that may be null,
+-- and for a map; false for a number, and if nothing is known. Stores test this: a value that counts
+-- as a pointer may be stored into the stack only whole (else `PartOfSpill`), and into a map's value
+-- not at all (`PointerStored`)
 abbrev pub is_pointer : Kind → Bool
 is_pointer Unreadable = false
 is_pointer (Scalar r) = false

@@ -26,10 +26,11 @@ abbrev pub is_touched_spill : Slot → Bool → Bool
 is_touched_spill (Bytes mask) touched = false
 is_touched_spill (Spill k) touched = touched
 
--- whether at least one of the bytes of a stack slot that a helper reads may be unwritten: `bits` is
--- the mask of these bytes, and `mask` that of the bytes of the slot that are known to be written
--- (`Bytes`). False for a spill: all its bytes are written, and `stack_input` has rejected any read
--- that touches a spill before, as PartOfSpill
+-- whether at least one of the bytes that a helper reads of a stack slot may be unwritten. `bits` is
+-- the mask of the bytes that it reads, and `mask` that of the bytes that are known to be written
+-- (`Bytes`); bit i is for byte i of the slot, from the lowest. False for a spill, a pointer or a
+-- map of kind k: all its bytes are written, and before this test `stack_input` rejects any read
+-- that touches one, for the reason `PartOfSpill`
 abbrev pub lacks : Slot → ℕ → Bool
 lacks (Bytes mask) bits = not (bit_and mask bits == bits)
 lacks (Spill k) bits = false

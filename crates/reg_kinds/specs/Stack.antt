@@ -54,10 +54,10 @@ stack_read f offset size signed =
 -- ---- stores
 
 -- what is known of a stack slot, the first argument, after a write to it: a store of a number, or a
--- helper's write. `bits` is the mask of the bytes that are certainly written, bit k for byte k.
--- These count as written, and so do those that did before (`mask`). If all eight bytes held a spill
--- (a pointer or a map, of kind k), only those in `bits` do: the rest of the spill must not be
--- loaded as a number
+-- helper's write. `bits` is the mask of the bytes that are certainly written, bit k for byte k. If
+-- the slot had bytes, of which those in `mask` were written, those in `mask` or `bits` are written
+-- now. If it had a spill (a pointer or a map of kind k, in all eight bytes), only those in `bits`
+-- count as written: the rest of the spill must not be loaded as a number
 abbrev pub bytes_over : Slot → ℕ → Slot
 bytes_over (Bytes mask) bits = Bytes (bit_or mask bits)
 bytes_over (Spill k) bits = Bytes bits

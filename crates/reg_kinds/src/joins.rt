@@ -112,9 +112,10 @@ fn holds_range(a: &Range, b: &Range) -> bool
     a.lo <= b.lo && b.hi <= a.hi
 }
 
-/// Joins the kind `edge` into `known`, for any two kinds. If both are ranges, or pointers into values of one map, only the bounds in
-/// `known` are written. `join_out_of_line` makes all other joins, so that this function need not save machine registers on the machine's
-/// stack. The function is not inlined, since no join that changes nothing reaches it: `join_kind`, its inlined caller, finds these first.
+/// Joins the kind `edge` into `known`, for any two kinds. For two ranges, and for two pointers into values of one map, it writes only the
+/// bounds of the least range that includes both (`hull`, `offsets_hull`). `join_out_of_line` makes all other joins, so that this function
+/// need not save machine registers on the machine's stack. The only caller, `join_kind`, is inlined: it finds the joins that change
+/// nothing, and calls this function, which is not inlined, only for the others.
 #[inline(never)]
 fn join_other_kind(known: &mut Kind, edge: &Kind)
     ensures { known.new ≡ kind_join known.old edge.now }
@@ -152,7 +153,8 @@ fn join_kind(known: &mut Kind, edge: &Kind)
     }
 }
 
-/// Joins the kind of register `r` in `edge`, the facts on another edge, into its kind in `facts`.
+/// Joins the kind of register `r`, 0 to 10, in `edge`, the facts on another edge to the same instruction, into the kind that this register
+/// has in `facts`, those of the edges so far. All else in `facts` is unchanged.
 #[inline(always)]
 fn join_register(facts: &mut Facts, edge: &Facts, r: usize)
     requires { r < REGISTERS }
@@ -228,10 +230,11 @@ fn keep_common(mask: &mut u8, other: u8) -> bool
 }
 
 /// Joins `edge`, what is known of a stack slot on another edge to the same instruction, into `known`. The join of two masks of written
-/// bytes is the mask of the bytes in both; that of two spills is a spill with the join of their kinds. If that join is `Unreadable`, or
-/// only one side is a spill, no byte counts as written (`Bytes(0)`). Returns false only if `known` is unchanged (`stays`), from which
-/// `join_group` finds that a group of slots is. Two arms find spills whose join is `known`. All other spills in `known` go to `join_spill`,
-/// which is not inlined and does not say whether it changes anything; so the result is then true.
+/// bytes is the mask of the bytes in both; that of two spills, slots that hold a pointer or a map whole, is a spill with the join of their
+/// kinds. If that join is `Unreadable`, or only one side is a spill, no byte counts as written (`Bytes(0)`). Returns false only if `known`
+/// is unchanged (`stays`); if it is false for all slots of a group, `join_group` returns false too. The two arms with a condition find
+/// spills whose join is `known`. All other spills in `known` go to `join_spill`, which is not inlined and does not return whether it
+/// changes anything; so the result is then true.
 #[inline(always)]
 fn join_slot(known: &mut Slot, edge: &Slot) -> bool
     ensures slot { known.new ≡ slot_join known.old edge.now }
@@ -272,9 +275,10 @@ fn join_spill(known: &mut Slot, edge: &Slot)
     }
 }
 
-/// Joins `edge`, what is known of a stack slot on another edge, into `known`, for any two stack slots (`Slot::join`). The only caller,
-/// `join_spill`, joins by itself the cases that a program can force in many slots, and calls this function for the others. It is out
-/// of line, so that `join_spill` need not save machine registers on the machine's stack.
+/// Joins `edge`, what is known of a stack slot on another edge to the same instruction, into `known` (`Slot::join`): afterwards `known` is
+/// what is known whichever of the two edges is taken. The contract is for any two stack slots. The only caller, `join_spill`, calls this
+/// function for two spills that are not both pointers into values of one map. The cases that a program can force in many slots `join_spill`
+/// joins by itself. This function is out of line, so that `join_spill` need not save machine registers on the machine's stack.
 #[inline(never)]
 fn join_any_slots(known: &mut Slot, edge: &Slot)
     ensures { known.new ≡ slot_join known.old edge.now }
@@ -301,8 +305,9 @@ pub fn join_group(facts: &mut Facts, edge: &Facts, group: StackGroup) -> bool
     changes
 }
 
-/// Joins each stack slot in `edge`, the facts on another edge, into that in `facts`. Whether a slot has changed, which `join_slot` returns,
-/// is not used.
+/// Joins each stack slot in `edge`, the facts on another edge to the same instruction, into that slot in `facts`, by `slot_join`, the join
+/// of two slots. No register changes. Whether a slot has changed, which `join_slot` returns, is not used: the caller `join_into` does not
+/// return it.
 fn join_stack(facts: &mut Facts, edge: &Facts)
     ensures { facts.new ≡ with_slots facts.old
         (λ i. slot_join (slot_at facts.old i) (slot_at edge.now i)) }

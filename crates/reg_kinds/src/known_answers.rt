@@ -10,7 +10,8 @@ use words::AccessSize;
 /// Facts take at most 3,072 bytes, a bound with some room: they are copied for the first jump to a target and for a null test.
 const _: () = prove!(size_of::<Facts>() <= 3072);
 
-/// At program entry register 1 holds the context.
+/// A test that is proved, only from contracts, and never called. In the facts at program entry (`at_entry`) register 1 is the pointer to
+/// the context (`Ctx`). The proof unfolds `tabulate`, which makes the list of the registers' kinds from a function.
 #[tactic(auto, unfolding(crate::specs::Kinds::tabulate))]
 fn registers_at_entry() {
     let facts = Facts::at_entry();

@@ -29,8 +29,10 @@ pub fn joins_associate()
     interval::laws::hull_is_a_join();
 }
 
-/// A law for what is known of a stack slot (`Slot`): once t has been joined into s, a second join with t changes nothing. So the pass of
-/// `verifier` may leave out a join that would repeat the last one into a group of stack slots. Nothing is done when it runs.
+/// A law for s and t, each of them what is known of a stack slot (`Slot`): once t has been joined into s, a second join with t changes
+/// nothing (`SlotsAbsorb`). So the pass of `verifier` over a program leaves out the join of a group of eight stack slots with the group
+/// that was joined into it last (`NumberedFacts`). For two spilled values the law needs that the join of kinds is associative
+/// (`joins_associate`). Nothing is done when it runs.
 pub fn slots_absorb()
     ensures { SlotsAbsorb }
 {

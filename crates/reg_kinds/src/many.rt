@@ -26,8 +26,9 @@ fn touches(start: usize, count: usize, index: usize) -> bool
     start < 8 * index + 8 && 8 * index < start + count
 }
 
-/// The mask in which `count` bits are 1, from bit `from` on, all among the eight bits of a slot's mask. If `count` is 8, 1 is subtracted
-/// from 2^8, for which a `u16` has room.
+/// A mask of bytes of a stack slot, bit k for byte k, in which `count` bits are 1, from bit `from` on, all among its eight bits. `bits_in`
+/// returns such a mask for the bytes of the slot that a helper reads or writes. If `count` is 8, 1 is subtracted from 2^8, for which a
+/// `u16` has room.
 fn ones(count: usize, from: usize) -> u8
     requires { count + from ≤ 8 }
     ensures { result ≡ (2 ^ count - 1) * 2 ^ from }
@@ -35,8 +36,10 @@ fn ones(count: usize, from: usize) -> u8
     (((1_u16 << count) - 1) << from) as u8
 }
 
-/// The mask of the bytes of stack slot `index` that are among the `count` bytes from byte index `start` on; 0 if none is. The bytes may end
-/// past the stack. `count` comes from a `u32`, so that their end does not overflow (precondition `count`).
+/// The mask of the bytes of stack slot `index` that are among the `count` bytes from byte index `start` on: bit k is 1 if byte k of the
+/// slot, from the lowest on, is one of them; so 0 if none is. The bytes may end past the stack. The callers have `count` from a `u32`, so
+/// `start + count` does not overflow (precondition `count`). A helper's read needs these bits in the mask of a slot's written bytes
+/// (`lacks`), and its write sets them there (`bytes_over`).
 fn bits_in(start: usize, count: usize, index: usize) -> u8
     requires start { start ≤ stack_size }
     requires count { count < 2 ^ 32 }
@@ -95,10 +98,11 @@ fn end_of_touched_slots(start: usize, count: usize) -> usize
     (start + count).div_ceil(8)
 }
 
-/// Whether the `count` stack bytes from byte index `start` on touch a spill; if so, `check_read` rejects a helper's read of them. The
-/// contract is about all stack slots (`touches_spill`). The loop leaves out those that end before the bytes or begin after them, since the
-/// bytes do not touch these. Helpers read keys and values, of at least one byte. With `count` 0 the stack slot of byte `start` counts as
-/// touched, unless this byte is its first: `touches` only compares both ends of the bytes with those of the slot.
+/// Whether the `count` stack bytes from byte index `start` on touch a spill, a stack slot that holds a pointer or a map whole. If so,
+/// `check_read` rejects a helper's read of them, since no single byte of a pointer or a map can be read. The contract is about all stack
+/// slots (`touches_spill`). The loop leaves out those that end before the bytes or begin after them, since the bytes do not touch these.
+/// Helpers read keys and values, of at least one byte. With `count` 0 the stack slot of byte `start` counts as touched, unless this byte is
+/// its first: `touches` only compares both ends of the bytes with those of the slot.
 fn bytes_touch_spill(facts: &Facts, start: usize, count: usize) -> bool
     requires { start + count ≤ stack_size }
     ensures { result ≡ touches_spill facts.now start count }
@@ -160,11 +164,12 @@ pub fn fill_stack(facts: &mut Facts, offset: i32, least: u32, most: u32) -> Resu
 }
 
 /// What is known of stack slot `index` after a write of at least `least` and at most `most` bytes from byte index `start` on; `slot` is
-/// what was known before. The first `most` bytes lie in the stack (`within`). If they do not touch the stack slot (`touches`), the result
-/// is `slot`. If they do, those of its bytes that are among the first `least` count as written (`bits_in`). Its other bytes stay as they
-/// were, written or not; but a spill is lost, and then they count as unwritten (`bytes_over`). With `most` 0 the stack slot with byte
-/// `start` counts as touched, unless this is its first byte; so a spill there is lost. If `least` is above `most`, no write has such a
-/// length, and the result describes no run. `least` comes from a `u32`, so it is below 2^32, and `start + least` can't overflow.
+/// what was known before. The first `most` bytes lie in the stack (`within`). If `touches` is false, none of them is in the stack slot, and
+/// the result is `slot`. If it is true, the bytes of the stack slot that are among the first `least` count as written (`bits_in`). Its
+/// other bytes are as before, written or not; but a spill is lost, and then they count as unwritten (`bytes_over`). With `most` 0,
+/// `touches` is true of the stack slot that has byte `start`, unless `start` is the slot's first byte; so a spill in that slot is lost. If
+/// `least` is above `most`, no write has such a length, and the result describes no run. `least` comes from a `u32`, so it is below 2^32,
+/// and `start + least` can't overflow.
 fn filled_slot(slot: Slot, start: usize, least: usize, most: usize, index: usize) -> Slot
     requires least { least < 2 ^ 32 }
     requires within { start + most ≤ stack_size }
@@ -180,11 +185,12 @@ fn filled_slot(slot: Slot, start: usize, least: usize, most: usize, index: usize
 }
 
 /// Changes the facts to what is known of each stack slot after a helper's write from byte index `start` on. Its length is a register's
-/// number, of which only a range is known: at least `least` and at most `most` bytes. A slot for which `touches` is false is unchanged. Of
-/// any other slot (`bytes_over`), the bytes that are among the first `least` (`bits_in`) count as written, and other written bytes are
-/// still written; but a spill, a pointer or a map stored whole, is lost, and its other bytes count as unwritten. With `most` 0 the slot
-/// with byte `start` counts as touched, unless this is its first byte, so a spill there is lost too. `within`: `start_of` has checked that
-/// `most` bytes lie in the stack. `least` comes from a `u32`, so its sum with `start` can't overflow.
+/// number, of which only a range is known: at least `least` and at most `most` bytes. A stack slot is unchanged if none of the first `most`
+/// bytes is in it (`touches` is false). In any other slot the bytes among the first `least` count as written (`bits_in` is their mask). The
+/// rest of its bytes are written or not as before; but if the slot was a spill, a pointer or a map stored whole, the spill is lost, and
+/// they count as unwritten (`bytes_over`). With `most` 0 `touches` is true of the slot of byte `start`, unless this is its first byte; so a
+/// spill there is lost. `within`: `start_of` has checked that the first `most` bytes lie in the stack. `least` comes from a `u32`, so its
+/// sum with `start` can't overflow.
 fn fill_slots(facts: &mut Facts, start: usize, least: usize, most: usize)
     requires least { least < 2 ^ 32 }
     requires within { start + most ≤ stack_size }

@@ -111,8 +111,10 @@ fn settle_both_registers(facts: &mut Facts, taken: &mut Facts, site: usize, null
 }
 
 /// Settles the stack for both edges of a null test of the look-up at slot `site` of the program. Before the call `facts` has the stack
-/// slots before the test; afterwards `facts` has the stack slots on the falling edge (`falls`), and `taken` has those on the jumping edge.
-/// The look-up's result is null on the jumping edge if `null`, else on the falling edge. No register changes.
+/// slots before the test; afterwards it has those on the falling edge (`falls`), and `taken` has those on the jumping edge. `null` is
+/// whether the look-up's result is null on the jumping edge; on the falling edge the opposite holds. A stack slot with the spilled result
+/// becomes eight written bytes on the edge with null, and a spilled pointer to the start of a value on the other edge (`slot_settled`). Any
+/// other stack slot is on both edges as it was in `facts`. No register changes, neither in `facts` nor in `taken`.
 fn settle_both_stacks(facts: &mut Facts, taken: &mut Facts, site: usize, null: bool)
     ensures taken { taken.new ≡ with_slots taken.old
         (λ i. slot_settled site null (slot_at facts.old i)) }

@@ -15,10 +15,10 @@ use words::{AccessSize, BITS_32, BITS_64, STACK_SIZE};
 /// The offset of the stack's lowest byte from its upper end: -512.
 pub(crate) const LOWEST: i32 = -(STACK_SIZE as i32);
 
-/// The kind of the value that a load of `size` bytes at `offset` from the stack's upper end gives: the kind of the spill at this offset;
-/// for other bytes any number of `size` bytes, or any of 64 bits if the load extends the sign (`signed`). The error is the first that
-/// applies: the load is not in the stack (`OutsideStack`), it is not aligned to its size (`UnalignedStack`), it reads only some bytes of a
-/// spill (`PartOfSpill`), a byte may be unwritten (`UnwrittenStack`).
+/// The kind of the value that a load of `size` bytes at `offset` from the stack's upper end gives. A spill, a stack slot that holds a
+/// pointer or a map whole, gives the kind of that; other bytes give any number of `size` bytes, or any of 64 bits if the load extends the
+/// sign (`signed`). The error is the first that applies: the load is not in the stack (`OutsideStack`), it is not aligned to its size
+/// (`UnalignedStack`), it reads only some bytes of a spill (`PartOfSpill`), a byte may be unwritten (`UnwrittenStack`).
 pub fn read_stack(
     facts: &Facts,
     offset: i32,
@@ -132,10 +132,10 @@ fn zero_extended(size: AccessSize) -> Range
 }
 
 /// What is known of `slot`, a stack slot, after a store of a value of kind `value` to its bytes of the mask `bits` (bit k for byte k),
-/// which are `size` bytes. If the value is a number, these bytes are written, and a spill that was in the slot is lost (`bytes_over`). If
-/// it is a pointer, the result of a look-up before its null test, or a map (`is_pointer`), the slot is a spill of it after a store of eight
-/// bytes; after one of fewer bytes the error is `PartOfSpill`. The contract allows an unreadable value, too, which would count as a number,
-/// but `write_stack` has rejected it before.
+/// `size` bytes. A number makes these bytes written (`bytes_over`). The slot's other bytes are as before, except if the slot was a spill:
+/// that is lost, and they count as unwritten. A pointer, the result of a look-up before its null test, or a map (`is_pointer`) is spilled:
+/// the slot is then a spill of this kind. That takes a store of eight bytes; for fewer the error is `PartOfSpill`. The contract allows an
+/// unreadable value, too, which would count as a number, but `write_stack` has rejected it before.
 fn slot_written(slot: Slot, bits: u8, size: AccessSize, value: Kind) -> Result<Slot, Reason>
     ensures { result ≡ slot_written slot bits size value }
 {

@@ -60,17 +60,19 @@ const BYTES_OF_LOADS: usize = 28 * MOST;
 /// How many bytes the frames have that close all descriptors. Each has length 4, tenant 2, command 2, descriptor 4.
 const BYTES_OF_CLOSES: usize = 12 * MOST;
 
-/// How many bytes the frames have that put `keys` keys with their values into a map of this shape: one frame for each key, with its length
-/// field. Only room is reserved by this number, so it may saturate.
+/// How many bytes the frames have that put `keys` keys with their values into a map of this shape. There is one frame for each key:
+/// `PUT_HEAD` bytes, from the length field to the flags, then the key and the value. The caller only reserves room by the result, so
+/// nothing is proved of it, and the product may saturate.
 fn bytes_of_puts(shape: MapShape, keys: usize) -> usize {
     let each = PUT_HEAD + shape.key_size as usize + shape.value_size as usize;
     each.saturating_mul(keys)
 }
 
 /// The element of the last of the first `count` keys in the order of a map, or of the map's last key if it has fewer. `None` if `count` is
-/// 0 or the map has no key. A part of a save begins after these keys, which are in earlier parts. `ensures`: the entries after that of the
-/// element (`rest_after`, all entries for `None`) are all but the first `count`. `map` is the map's handle. `part` is no part of a save: it
-/// has the tenant's `PART` bytes of the arena (`whole`).
+/// 0, or the map has no key. Earlier parts of a save put these keys, and the part that is written begins with the next key, which
+/// `map_entry` finds by the element. In the contract, `numbered_entries` are the map's entries in order, each a key and its value, with the
+/// number of its element. The entries after that of the result (`rest_after`; all entries for `None`) are all but the first `count`. `map`
+/// is the map's handle. `part` is no part of a save: it has the tenant's `PART` bytes of the arena (`whole`).
 fn element_before(tenant: &Tenant, map: MapKey, count: usize, part: &[u8]) -> Option<u32>
     requires whole { length part.now ≡ PART }
     ensures { rest_after result (numbered_entries part.now tenant.now.live map)
@@ -87,7 +89,8 @@ fn element_before(tenant: &Tenant, map: MapKey, count: usize, part: &[u8]) -> Op
 }
 
 impl FrameWriter {
-    /// A writer of frames to the tenant with this number. It has no frame yet (`frames`).
+    /// Makes a writer of the frames of one part of a save, for the tenant with this number. They will be appended to `frames`, which is
+    /// still empty (`frames`). `frame` is a buffer for the frame that is written next.
     pub(crate) fn new(alloc: Global, number: u16) -> FrameWriter
         ensures frames { result.frames.items ≡ [] }
         ensures number { result.number ≡ number }
@@ -133,14 +136,15 @@ impl FrameWriter {
 
     /// Appends the frame that puts a key and its value into the map at descriptor `fd`, with the frame's length before it (`written`). The
     /// flags are 0 (BPF_ANY), so the key may be present, as each key of a new array is, or absent, as each key of a new hash map is. The
-    /// tenant to which the frames go is not changed (`number`). `AllocError`: out of memory.
+    /// tenant to which the frames go is not changed (`number`). `AllocError`: out of memory; then the frame may be incomplete.
     fn append_update(&mut self, fd: u32, key: &[u8], value: &[u8]) -> Result<(), AllocError>
         ensures written { OnOk result (self.new.frames.items
             ≡ self.old.frames.items
             ++ framed (frame_of self.old.number (put_of fd (key.now, value.now)))) }
         ensures number { self.new.number ≡ self.old.number }
     {
-        // The key and the value are not one slice, so the frame is written with the key only, and the value is appended.
+        // The key and the value are not one slice, so `write_command` gets only the key. It replaces the contents of `self.frame`; then the
+        // value is appended.
         let command = Command::MapUpdate {
             fd,
             flags: 0,
@@ -182,9 +186,11 @@ impl FrameWriter {
         Ok(())
     }
 
-    /// Appends the frame that closes descriptor `fd`, if it is not open in `tenant`, the saved tenant; appends nothing if it is. The frames
-    /// before have opened all descriptors of the tenant that is restored; after the closes only those of the saved tenant are open.
-    /// `number`: frames still go to the tenant with this number. `AllocError`: out of memory.
+    /// Appends the frame that closes descriptor `fd`, if `fd` is not open in `tenant`, the saved tenant; appends nothing if it is. In
+    /// `written`, `named` is the object that `fd` names in the saved tenant, `closing` has the command of the frame, or none, and
+    /// `frames_of` makes the frame, with its length before it. Until the last part of a save, all descriptors are open in the tenant that
+    /// is restored; these closes leave open only those of the saved tenant. `number`, the number of the tenant to which the frames go, is
+    /// unchanged. `AllocError`: out of memory.
     fn append_close_unless_open(&mut self, tenant: &Tenant, fd: u32) -> Result<(), AllocError>
         ensures written { OnOk result (self.new.frames.items
             ≡ self.old.frames.items ++ frames_of self.old.number
@@ -197,10 +203,11 @@ impl FrameWriter {
         }
     }
 
-    /// Appends the frames of the last part of a save: for each descriptor that is not open in the saved tenant, a frame that closes it. In
-    /// the contract `closings` has the commands of these frames, for all descriptors, `most` from `first_descriptor` on. The tenant that is
-    /// restored has all descriptors open until then, so that each new object gets the descriptor that was closed for it. `AllocError`: out
-    /// of memory.
+    /// Appends the frames of the last part of a save: for each descriptor that is not open in `tenant`, the saved tenant, a frame that
+    /// closes it. In the contract `closings` has these commands, for the `most` descriptors from `first_descriptor` on; `frames_of` makes
+    /// them frames to tenant `self.number`, each with its length before it. The earlier parts open a program at each descriptor of the
+    /// tenant that is restored. Before they create an object, they close the descriptor that it had, so the object gets this one, the only
+    /// free one. `AllocError`: out of memory.
     fn append_closing(&mut self, tenant: &Tenant) -> Result<(), AllocError>
         ensures written { OnOk result (self.new.frames.items
             ≡ self.old.frames.items ++ frames_of self.old.number
@@ -214,10 +221,12 @@ impl FrameWriter {
         Ok(())
     }
 
-    /// Appends the frames that put keys of `map`, with their values, into the map at descriptor `fd` of the restored tenant: one update for
-    /// each key (`puts`), at most `KEYS_PER_SAVE_PART`, in the order of `map`. The first is the key after that of element `before`,
-    /// or the first key of the map if `before` is `None` (`rest_after`). If no key has this element, or none follows, no frame is appended.
-    /// `part` has the tenant's `PART` bytes of the arena (`whole`), among them the values. `AllocError`: out of memory.
+    /// Appends to `frames` the frames that put keys of `map` of the saved tenant, with their values, into the map at descriptor `fd` of the
+    /// restored tenant: one update for each key (`puts`), at most `KEYS_PER_SAVE_PART`, in the order of `map`. Each is a frame of the
+    /// tenant `number`, with its length before it (`frames_of`). `before` is the element of the last key that earlier parts of the save
+    /// put: the first frame has the key after it, or the first key of the map if `before` is `None` (`rest_after`). If no key has this
+    /// element, or none follows, no frame is appended. `part` is no part of a save: it has the tenant's `PART` bytes of the arena
+    /// (`whole`), among them the values. `AllocError`: out of memory.
     fn append_updates_after(
         &mut self,
         tenant: &Tenant,
@@ -245,8 +254,9 @@ impl FrameWriter {
 
     /// Appends the frames of one part of a save that put keys of `map` and their values into the restored map: one update for each key from
     /// index `first` on, in the order of `map`, at most `KEYS_PER_SAVE_PART`, 1,024. In these frames `fd` is the descriptor of the restored
-    /// map. The commands of all keys are `puts_of` in the contract. Appends no frame if `map` is not live, which does not happen for the
-    /// map of a birth. `part` is no part of a save: it has the tenant's `PART` bytes of the arena. `AllocError`: out of memory.
+    /// map. In the contract, `puts_of` has the commands for all keys, and `frames_of` their frames to the tenant `self.number`, each with
+    /// its length before it. Appends no frame if no key has index `first`, or if `map` is not live; the caller passes the map of a birth,
+    /// which is always live. `part` is no part of a save: it has the tenant's `PART` bytes of the arena. `AllocError`: out of memory.
     fn append_keys(
         &mut self,
         tenant: &Tenant,
@@ -272,10 +282,11 @@ impl FrameWriter {
         self.append_updates_after(tenant, map, fd, before, part)
     }
 
-    /// Appends the frame that creates a map of the shape of `map`, without keys; none if `map` is not live. The map of a birth is always
-    /// live: after each close the births of maps that are no longer live are removed. `written`: the frame is that of the command in
-    /// `made_empty`, a list of one or none. `part` may be any bytes, since the shape of a map does not depend on them. `AllocError`: out of
-    /// memory.
+    /// Appends the frame, with its length before it, that creates a map without keys, of the shape that the map of handle `map` has in
+    /// `tenant`, the saved tenant. No frame if this map is not live. That does not occur: the caller, `append_creation`, has the handle
+    /// from a birth, and after each close the births of maps that are no longer live are removed. `written`: the frame is that of the
+    /// command in `made_empty`, a list of one or none, to the tenant with the writer's `number`. `part` may be any bytes, since the shape
+    /// of a map does not depend on them. `AllocError`: out of memory.
     fn append_map(&mut self, tenant: &Tenant, map: MapKey) -> Result<(), AllocError>
         ensures written { (part : List ℕ) → OnOk result (self.new.frames.items
             ≡ self.old.frames.items ++ frames_of self.old.number
@@ -287,9 +298,11 @@ impl FrameWriter {
         }
     }
 
-    /// Appends the frame that loads the program that descriptor `fd` names, with the program's slots. `append_creation` calls this for the
-    /// birth of a program, which is open at `fd`. If `fd` names no program, which does not happen for such a birth, no frame is appended
-    /// (`made_program`). `AllocError`: out of memory; then nothing is promised of the frames.
+    /// Appends to `frames` a frame for the tenant `self.number`, with its length before it, which loads the program that descriptor `fd` of
+    /// `tenant`, the saved tenant, names. By `written` it is the frame (`frames_of`) of the command in `made_program`, a list of one:
+    /// PROG_LOAD with the program's slots. If `fd` names no program, the list is empty, and nothing is appended. That does not happen:
+    /// `append_creation` calls this for the birth of a program, which is open at `fd`. `AllocError`: out of memory; then nothing is
+    /// promised of the frames.
     fn append_program(&mut self, tenant: &Tenant, alloc: Global, fd: u32) -> Result<(), AllocError>
         ensures written { OnOk result (self.new.frames.items
             ≡ self.old.frames.items ++ frames_of self.old.number
@@ -302,10 +315,11 @@ impl FrameWriter {
         self.append_load(&slots)
     }
 
-    /// Appends the frames that close the descriptor of a birth and then create its object, a map without keys or a program. The object gets
-    /// this descriptor, since all others are open in the tenant that is restored. `tenant` is the saved one. By `written` the frames are
-    /// those of the commands `creation`, whatever bytes the saved tenant has in its part of the arena (`part`): no map's shape and no
-    /// program depends on them. `AllocError`: out of memory.
+    /// Appends the frames that close the descriptor of `birth` and then create its object, a map without keys or a program. The object gets
+    /// this descriptor, since all others are open in the tenant that is restored. `tenant` is the saved one. By `written` the frames have
+    /// the commands of `creation`; each frame is for the tenant with the writer's `number`, and has its length before it (`frames_of`).
+    /// This holds whatever bytes the saved tenant has in its part of the arena (`part`): no map's shape and no program depends on them.
+    /// `AllocError`: out of memory.
     fn append_creation(
         &mut self,
         tenant: &Tenant,

@@ -122,13 +122,15 @@ fn reply_to_command(
 }
 
 impl SavableTenant {
-    /// Executes the command of a frame of this tenant, and writes the reply to `reply`, which is that of the tenant's machine, with or
-    /// without memory refused to the command (`replied`, with states as `Some`: a tenant that is not served has none). A frame without a
-    /// command (`BadFrame`: too long, of an unknown number, or with a body of a wrong length) gets an error and changes nothing. `frame` is
-    /// what follows the length field, and `head` its tenant and command number, which the host has read. `tenant` is the number of the
-    /// tenant's part in the arena. A load is verified in `working`, the memory for the loads of all tenants, whose contents mean nothing.
-    /// The births change as the command says (`recorded`), and no reply is the error of a run that faults, EFAULT (`no_fault`). The number
-    /// and the size of the arena's parts (`parts`, `part`) and the bytes of all other parts (`others`) are unchanged.
+    /// Executes the command of a frame of this tenant, and writes the reply to `reply`. By `replied` the reply and the next state are those
+    /// of the tenant's machine if memory is refused to the command, or those if it is not. The states are in `Some`, since a tenant that is
+    /// not served has none. A frame without a command (`BadFrame`: too long, of an unknown number, or with a body of a wrong length) gets
+    /// an error and changes nothing. `frame` is what follows the length field, and `head` its tenant and command number, which the host has
+    /// read. `tenant` is the number of the tenant's part in the arena. A load is verified in `working`, the memory for the loads of all
+    /// tenants, whose contents mean nothing. By `recorded`, MAP_CREATE and PROG_LOAD add a birth if they succeed, CLOSE removes the births
+    /// of objects that are no longer live, and any other command changes none. No reply is the error of a run that faults, EFAULT
+    /// (`no_fault`). The number and the size of the arena's parts (`parts`, `part`) and the bytes of all other parts (`others`) are
+    /// unchanged.
     pub fn handle(
         &mut self,
         head: Head,

@@ -33,12 +33,13 @@ fn status_of(reply: &Result<Reply<'_>, Errno>) -> i32
 }
 
 impl SavableTenant {
-    /// Opens a program that was verified elsewhere, and records its birth, as for a frame that loads the program. Returns the status of the
-    /// reply to that frame, which has no payload: the new descriptor, or a negative number if no descriptor is free or memory is refused.
-    /// `load_frame` is this frame, of a tenant with any `number`, and `load_reply` this reply; `part` is any bytes. `replied`: the tenant's
-    /// machine may reply so, between the states before and after. `recorded`: the births change as by the frame. `no_fault`: the status is
-    /// never that of `BadAddress`, the error of a run that faults. `fits`: after `Ok` each descriptor of the program's maps names a map of
-    /// the shape with which it was accepted.
+    /// Opens a program that was verified without a host, and records its birth, as for a frame that loads the program. Returns the status
+    /// of the reply to that frame, which has no payload: the new descriptor, or a negative number if no descriptor is free or memory is
+    /// refused. `load_frame` is this frame, of a tenant with any `number`, and `load_reply` its reply. `part` is any bytes of the tenant's
+    /// part, which are neither read nor written. `replied`: the tenant's machine may reply so to the frame, and then goes from the state
+    /// before to the state after. `recorded`: the births change as by the frame. `no_fault`: the status is never that of `BadAddress`, the
+    /// error of a run that faults, as `Host::handle` promises of each reply. `fits`: after `Ok` each descriptor of the program's maps
+    /// names, among the open descriptors (`targets`), a map of the shape with which it was accepted.
     ///
     /// # Errors
     ///

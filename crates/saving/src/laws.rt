@@ -5,25 +5,27 @@ ghost use Rattle.saving.specs.SaveParts.{PartsAreWhole};
 ghost use Rattle.saving.specs.Laws.{MapsAreHeld, AlikeIsBisimulation, AlikeStatesReplyAlike, BirthsAreKept, RestorableIsKept};
 ghost use Rattle.saving.specs.Laws.{RestoredIsAlike, TestRunsHaveFrames, RestoredByFrames, HistoriesAreRestored};
 
-/// A law, the half of the invariant of `SavableTenant` about maps; `births_are_kept` is the other. In the state of a tenant a handle has a
-/// live map exactly if a descriptor names this map, or a program that has a reference to it (`HoldsItsMaps`). This holds for a new tenant
-/// (`new`), and each command preserves it, whether memory is refused to the command or not (`kept`).
+/// A law about the maps of a tenant, a part of the invariant of `SavableTenant`; `births_are_kept` has the part about births. In each state
+/// of a tenant a map is live exactly if a descriptor names it, or names a program that has a reference to it (`HoldsItsMaps`). This holds
+/// for a new tenant (`new`), and each command preserves it, whether memory is refused to the command or not (`kept`).
 pub fn maps_are_held()
     ensures { MapsAreHeld }
 {}
 
 /// A law: being alike is a bisimulation. States are alike if they differ only in the handles of their maps and in the flag of refused
-/// memory. Each result that a state gives a command, with or without a refusal of memory, each state alike to it can give with equal status
-/// and payload, and the states after the command are alike. So no command distinguishes them. It holds for states in which exactly the maps
-/// of open objects are live (`HoldsItsMaps`), as in all that a tenant reaches (`maps_are_held`).
+/// memory. Take two alike states, and a result that the first can give a command. Then the second can give the command a result with equal
+/// status and payload, and the states after the two results are alike. This holds if memory is refused to the command in both states, and
+/// if it is in neither. So no command distinguishes them. The law is about states in which exactly the maps of open objects are live
+/// (`HoldsItsMaps`), as in all that a tenant reaches (`maps_are_held`).
 pub fn alike_is_bisimulation()
     ensures { AlikeIsBisimulation }
 {}
 
-/// A law: if two states are alike, a tenant in the second can give to a list of frames each list of replies that it can give in the first,
-/// both if no memory is refused and if it may be. If none is refused, it can give no other replies. In both states exactly the maps that an
-/// open object names are live, as in each state that a tenant reaches (`maps_are_held`). So a tenant whose state is alike to a saved one
-/// replies as the saved one would.
+/// A law about two states that are alike: they differ only in the handles of their maps and in the flag of refused memory. A tenant in the
+/// second state can give to a list of frames each list of replies that a tenant in the first can give. This holds if no memory is refused,
+/// and if it may be. If none is refused, the tenant in the second can give no other replies. In both states exactly the maps that an open
+/// object names are live, as in each state that a tenant reaches (`maps_are_held`). So a tenant whose state is alike to a saved one replies
+/// as the saved one would. The body calls laws, for the proof.
 pub fn alike_states_reply_alike()
     ensures { AlikeStatesReplyAlike }
 {
@@ -33,10 +35,11 @@ pub fn alike_states_reply_alike()
 }
 
 /// A law, the half of the invariant of `SavableTenant` about births. A birth has the descriptor at which a map was created, or a program
-/// loaded. A new tenant has no births (`new`). Take a state in which exactly the maps that an open object names are live (`HoldsItsMaps`),
-/// and the list of the births of its live maps and open programs, the latest first (`AreBirths`). Then `births_after` is the list of those
-/// after a command (`kept`). The list has at most `MOST_BIRTHS` (`few`), so the room that `Births::new` allocates is enough. The law
-/// `maps_are_held`, the other half of the invariant, is called for the proof: by it `HoldsItsMaps` also holds after the command.
+/// loaded. The births of a state are those of its live maps and open programs, listed with the latest first (`AreBirths`). A new tenant has
+/// none (`new`). Take a state in which exactly the maps that an open object names are live (`HoldsItsMaps`). From the list of its births,
+/// `births_after` makes the list of the births of the state after a command (`kept`). A list has at most `MOST_BIRTHS` births (`few`), so
+/// the room that `Births::new` allocates is enough. The body calls the law `maps_are_held`, the other half of the invariant, for the proof:
+/// by it `HoldsItsMaps` also holds after the command.
 pub fn births_are_kept()
     ensures { BirthsAreKept }
 {
@@ -52,10 +55,11 @@ pub fn restorable_is_kept()
     verifier::laws::loaded_maps_have_shapes();
 }
 
-/// A law about the commands that restore a state by the list of its births (`restored`). If the state can be restored (`IsRestorable`), a
-/// new tenant to which no memory is refused succeeds at each of these commands. The state after them is alike to the restored one
-/// (`IsAlike`): it differs at most in the handles of maps and in the flag of refused memory. Exactly the maps that its open objects name
-/// are live. The law about the frames of these commands, `restored_by_frames`, follows from this law.
+/// A law about the commands that restore a state `s` by the list of its births (`restored`). Suppose that exactly the maps that an open
+/// object of `s` names are live, that their areas are not too large, and that each map and program can be created again (`IsRestorable`).
+/// Then a new tenant to which no memory is refused succeeds at each of these commands. Its state after them is alike to `s` (`IsAlike`): it
+/// differs at most in the handles of maps and in the flag of refused memory. In it, too, exactly the maps that an open object names are
+/// live. The law about the frames of these commands, `restored_by_frames`, follows from this law. The body calls laws, for the proof.
 pub fn restored_is_alike()
     ensures { RestoredIsAlike }
 {
@@ -73,10 +77,10 @@ pub fn test_runs_have_frames()
     command_frames::laws::encoding_inverts_parsing();
 }
 
-/// A law, `restored_is_alike` for frames instead of commands. If a state can be restored (`IsRestorable`: exactly the maps of its open
-/// objects are live, their areas are not too large, and each map and program can be created again), a new tenant to which no memory is
-/// refused succeeds at each of the frames that restore it. The new tenant's state is then alike to it (`IsAlike`): equal but for the
-/// handles of maps and the flag of refused memory.
+/// A law about the frames that restore a state by the list of its births. If the state can be restored (`IsRestorable`: exactly the maps of
+/// its open objects are live, their areas have at most `LARGEST_SUM` bytes together, and each map and program can be created again), a new
+/// tenant to which no memory is refused succeeds at each of these frames. The new tenant's state is then alike (`IsAlike`): equal but for
+/// the handles of maps and the flag of refused memory. `restored_is_alike` is the law about the commands in the frames.
 pub fn restored_by_frames()
     ensures { RestoredByFrames }
 {

@@ -66,15 +66,17 @@ impl SavableTenant {
         self.tenant.memory_was_refused()
     }
 
-    /// The frames of one part of a save, for tenant `number`, each with its length before it. `index` is the number of this part, from 0;
-    /// `None` after the last one. Also `None` if `part`, the bytes of the tenant's part of the arena, are not `PART` bytes. If they are,
-    /// the contract gives the frames (`frames_of`) of the commands at `index` in the list of the save's parts (`parts`).
+    /// The frames of one part of a save, for tenant `number`, each with its length before it. `index` is the number of this part of the
+    /// save, from 0; `None` after the last one. `part` has the bytes of the tenant's part of the arena; also `None` if these are not `PART`
+    /// bytes. If they are, the contract gives the frames (`frames_of`) of the commands at `index` in the list of the save's parts
+    /// (`parts`), for the state that the tenant and these bytes represent (`tenant_state`).
     ///
     /// A new tenant that is given the frames of all parts of the save in their order, and to which no memory is refused, then replies as
     /// this one does. Between two parts nothing may change in this tenant, but other tenants may be served. Part 0 opens a program at each
-    /// descriptor. Then each birth has its parts, the oldest birth first. The first of these closes the birth's descriptor, now the only
-    /// free one, and creates the map or loads the program, which gets this descriptor. For a map, the others put its keys, at most
-    /// `KEYS_PER_SAVE_PART` each. The last part of the save closes the descriptors that are not open in this tenant.
+    /// descriptor of the new tenant, so that none is free. Then each birth has its parts, the oldest birth first. The first of these closes
+    /// the birth's descriptor, and creates the map or loads the program, which gets this descriptor, the only free one. For a map, the
+    /// others put its keys with their values, at most `KEYS_PER_SAVE_PART` keys each. The last part of the save closes the descriptors that
+    /// are not open in this tenant.
     ///
     /// # Errors
     ///
@@ -114,13 +116,18 @@ impl SavableTenant {
     }
 
     /// Runs the program at descriptor `fd` on the packets of a batch, as test runs in their order (`runs`), and writes the results to the
-    /// front of `results`, whose rest is unchanged. `tenant` is the number of this tenant's part of `arena`, a part of `PART` bytes.
+    /// front of `results`, whose rest is unchanged. `batch` has the bytes of all packets, the offset in them at which each packet ends, and
+    /// the ten context words after the packet's length, in one array for all packets or in one for each; `inputs_of` gives each packet its
+    /// words. `tenant` is the number of this tenant's part of `arena`, a part of `PART` bytes; the other parts are unchanged (`others`),
+    /// and so are the number (`parts`) and the size (`part`) of all parts. A run creates no map and loads no program, so no birth is
+    /// recorded (`births`).
     ///
     /// # Errors
     ///
-    /// `BadDescriptor` if `fd` is not open. `Invalid` if it names a map, if `results` has room for fewer results than packets, or if there
-    /// is neither one array of context words nor one for each packet. Else that of the first bad packet: `Invalid` if it ends before it
-    /// begins or after the last byte, `TooBig` if it is longer than `LONGEST_PACKET`. Then no packet was run; nothing has changed.
+    /// By `refusal` the first of these: `BadDescriptor` if `fd` is not open. `Invalid` if `fd` names a map, if `results` has room for fewer
+    /// results than packets, or if there is neither one array of context words nor one for each packet. Else that of the first bad packet:
+    /// `Invalid` if its end is before its beginning or after the last byte, `TooBig` if it is longer than `LONGEST_PACKET`. Then no packet
+    /// was run; nothing has changed (`unchanged`).
     pub fn run_packets(
         &mut self,
         fd: u32,

@@ -55,9 +55,10 @@ fn count_of_parts(tenant: &Tenant, birth: Birth) -> usize
 }
 
 /// The part with this index, from 0, among the parts of a save for one birth, a map's creation or a program's load. Part 0 creates the
-/// object, and each later one puts the map's next keys, at most `KEYS_PER_SAVE_PART`. `None` after the last; for a program there is only
-/// part 0. The result has the commands that `birth_parts` has at this index. In the contract, `part` is the tenant's part of the arena,
-/// with any bytes.
+/// object, and each later one stores the map's next keys with their values, at most `KEYS_PER_SAVE_PART`. `None` after the last; for a
+/// program, and for a map without keys, there is only part 0. By the contract the commands of the result (`part_commands`) are those that
+/// the definition `birth_parts` lists at this index, for the tenant's state (`state_in`). There `part` is no part of a save but the
+/// tenant's bytes of the arena, which may be any.
 fn part_of_birth(tenant: &Tenant, birth: Birth, index: usize) -> Option<SavePart>
     ensures { (part : List ℕ) → option_map (part_commands (state_in part tenant.now)) result
         ≡ slice_get (birth_parts (state_in part tenant.now) birth) index }
@@ -77,11 +78,12 @@ fn part_of_birth(tenant: &Tenant, birth: Birth, index: usize) -> Option<SavePart
     }
 }
 
-/// What part `index` of a save does, if the saved tenant has these births, the oldest first; `None` after the last part. Part 0 opens a
-/// program at each descriptor of the new tenant. Then come the parts of each birth: one closes its descriptor, then the only free one, so
-/// that the object that it creates gets it; if that is a map, each other one puts at most `KEYS_PER_SAVE_PART` of its keys. The last part
-/// closes the descriptors that are not open in the saved tenant. In the contract, `ordered_parts` lists the commands of all parts of the
-/// save; `part` is no part of a save but the saved tenant's bytes of the arena, which may be any.
+/// What part `index`, from 0, of a save does, if the saved tenant has these births, the oldest first; `None` after the last part. The
+/// frames of the parts restore the tenant in a new one. Part 0 opens a program at each descriptor there, so that none is free. Then come
+/// the parts of each birth. The first closes the birth's descriptor and creates its object, which gets this descriptor, as no other is
+/// free. If the object is a map, each other part puts at most `KEYS_PER_SAVE_PART` of its keys. The last part of the save closes the
+/// descriptors that are not open in the saved tenant. In the contract, `ordered_parts` lists the commands of all parts, and `part_commands`
+/// has those of the result; `part` is no part of a save but the saved tenant's bytes of the arena, which may be any.
 pub(crate) fn part_at(tenant: &Tenant, births: &[Birth], index: usize) -> Option<SavePart>
     ensures { (part : List ℕ) → option_map (part_commands (state_in part tenant.now)) result
         ≡ slice_get (ordered_parts (state_in part tenant.now) births.now) index }

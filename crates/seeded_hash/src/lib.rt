@@ -51,8 +51,9 @@ pub struct HashSeed {
 }
 
 impl HashSeed {
-    /// The seed of these two words, for a caller that has drawn them: a hasher begins with `state`, and `factor` is in each of its
-    /// products. For an attacker not to know the seed, both have to be random.
+    /// The seed of these two words, for a caller that has drawn them, or fixes them as tests do. A hasher of this seed begins with the hash
+    /// `state`, and mixes bytes into it by multiplications: the second operand of each is `factor`, or an exclusive or with `factor`. For
+    /// an attacker not to know the seed, both words have to be random.
     pub fn new(state: u64, factor: u64) -> HashSeed {
         HashSeed { state, factor }
     }
@@ -117,11 +118,12 @@ impl Hasher for SeededHasher {
         self.state
     }
 
-    // Mixes the bytes into the state (`written`); `factor` is the second word of the seed. The number of bytes is added to the state first,
-    // since the reads below overlap: bytes of two lengths may be read as the same words, and without their number they would have the same
-    // hash. Up to eight bytes take one product with their word in both factors, its halves exchanged in the second. More take a product for
-    // each block of sixteen that does not reach the last byte, one for the last sixteen bytes, and one more by `factor`. Only one
-    // product would be linear in the key, and could leave keys that differ by equal steps in few groups of a table.
+    // Mixes the bytes into the state by folded products (`written`); `factor` is the second word of the seed. The number of bytes is added
+    // to the state first, since the reads below overlap: bytes of two lengths may be read as the same words, and without their number they
+    // would have the same hash. At most eight bytes are read as one word, which is in both factors of one product, in the second with its
+    // halves exchanged. More bytes take a product for each block of sixteen that does not reach the last byte, one for the last sixteen
+    // bytes, and one more by `factor`. Both ways avoid a hash that is a single product linear in the key: with some seeds, keys that differ
+    // by equal steps would fall into few groups of a hash table.
     #[inline(always)]
     fn write(&mut self, bytes: &[u8]) {
         let len = bytes.len();

@@ -21,9 +21,10 @@ abbrev pub and_then : {A B : Type 0} → Option A → (A → Option B) → Optio
 and_then None f = None
 and_then (Some x) f = f x
 
--- byte j, from 0 to 7, of a cell. It is None if the byte is absent: it was not written in this run,
--- or was lost when part of a value kept whole was overwritten. It is also None in a value kept
--- whole (`holds`, a pointer or a map), of which no single byte can be read
+-- byte j, from 0 to 7, of a cell, which is what eight bytes of the stack hold in a run. None if the
+-- byte is absent: it was not written in this run, or was lost when part of a pointer or a map kept
+-- whole was overwritten. Also None if the cell keeps a pointer or a map whole (`holds`), since no
+-- single byte of it can be read
 abbrev pub byte_at : Cell → ℕ → Option ℕ
 byte_at (holds v) j = None
 byte_at (bytes b) j = b j
@@ -44,12 +45,13 @@ widened size false n = n
 abbrev pub number_from : AccessSize → Bool → Option (List ℕ) → Option Tagged
 number_from size signed o = option_map (λ bs. Scalar (widened size signed (number_of bs))) o
 
--- the value that a load of `size` gets from a cell, from its byte j on; None if the load is a
--- fault. A cell that keeps a pointer or a map v whole (`holds v`) gives v to a load of a double
--- word, for which j is 0, since loads are aligned; a load of a smaller size is a fault. From a cell
--- of bytes the load gets the little-endian number of its bytes, sign-extended if `signed` is true,
--- else zero-extended; it is a fault if one of these bytes is absent: not written in this run, or
--- lost with a value that was kept whole
+-- the value that a load of `size` gets from a cell, the eight bytes of a stack slot, from its byte
+-- j on; None if the load is a fault. A cell may keep a pointer or a map v whole (`holds v`). Then a
+-- load of a double word gets v, and its j is 0, since loads are aligned; a smaller load is a fault.
+-- From a cell of bytes (`bytes`) the load gets the little-endian number of its bytes, sign-extended
+-- to 64 bits if `signed` is true, else zero-extended. It is a fault if one of these bytes is
+-- absent: not written in this run, or lost with a pointer or a map, of which another part was
+-- overwritten
 abbrev pub read_cell : Cell → ℕ → AccessSize → Bool → Option Tagged
 read_cell (holds v) j Double signed = Some v
 read_cell (holds v) j _ signed = None

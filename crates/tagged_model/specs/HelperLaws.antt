@@ -99,9 +99,11 @@ unchanged_named_map (Some t) = unchanged
 state_same : (s : RunState) → IsAfterCall s s
 state_same s = record { words = refl; maps = λ m. unchanged_named_map (s.maps m) }
 
--- if state s has the map t at descriptor m, and a call may change t to u (`MapAfterCall`), a call
--- may leave s with u at m: for each descriptor k, `NamedMapAfterCall` allows the map of s at k, or
--- None, before the call, and after it u if k is m, else the same map or None. For `map_changed`
+-- if state s has the map t at descriptor m, and a helper's call may leave t as u (`MapAfterCall`),
+-- the call may leave the maps of s with u at m (`set_at`). That means: for each descriptor k,
+-- `NamedMapAfterCall` holds of what k names in s, before the call, and of what k names after it.
+-- These are t and u if k is m. For any other k they are equal: a map of s, or None, no map.
+-- `map_changed` and `replied` use this for the state after a call
 changed_at : (s : RunState) (m : ℕ) (t u : RunMap)
     → s.maps m ≡ Some t
     → MapAfterCall t u
@@ -114,9 +116,10 @@ changed_at s m t u there change k =
     (sym (ap s.maps (eqb-true k m b) ∙ there)) change)
     (λ _. unchanged_named_map (s.maps k))
 
--- if s has the map t at descriptor m, and a call may change t to u (`MapAfterCall`), then s with u
--- at m, in which no other map and no context word differs, can be the state after a call that
--- begins in s (`IsAfterCall`). This is for a helper that writes into a value
+-- let state s have the map t at descriptor m, and let u be a map that a call may make of t
+-- (`MapAfterCall`). Then `with_map s m u`, which is s with u at m instead of t, can be the state
+-- after a call that begins in s (`IsAfterCall`): its context words and its other maps are those of
+-- s. `output_leaves` needs this for a helper that writes into a value
 map_changed : (s : RunState) (m : ℕ) (t u : RunMap)
     → s.maps m ≡ Some t
     → MapAfterCall t u
@@ -152,10 +155,11 @@ then_leaves : {A : Type 0} (s : RunState) (o : Option A) (f : A → Option RunSt
 then_leaves s None f h = tt
 then_leaves s (Some x) f h = h x refl
 
--- the return of a call (`returns`) with result v writes v to register 0 and empties registers 1 to
--- 5. If o, the result of a computation in a call that begins in state s, is a fault (None) or a
--- state that can be the one after the call (`PermitsAfterCall`), so is o with this return: a fault
--- is still a fault
+-- a call that begins in state s ends with `returns`, which writes the call's result v to register 0
+-- and empties registers 1 to 5; o is the result of the steps before. If `PermitsAfterCall` permits
+-- o, it permits the result of the call. It permits a fault (None), and each state that has the
+-- context words of s and the maps of s, each as a call may leave it; `returns` changes neither. If
+-- o is a fault, so is the call. For the load of bytes in `call_leaves`
 return_leaves : (s : RunState) (o : Option RunState) (v : Tagged)
     → PermitsAfterCall s o
     → PermitsAfterCall s (and_then o (λ t. Some (returns t v)))
@@ -164,11 +168,12 @@ return_leaves s (Some t) v h = returned s t v h
 
 -- ---- arguments
 
--- the first step of a look-up, an update or a delete reads the map in register r of s; f, which
--- gets this map and its descriptor, is the rest of the call. If `PermitsAfterCall` permits what f
--- returns for each map t of s and its descriptor m, it permits the result of the step and the rest:
--- it permits a fault (None), and each state that can be the one after a call that begins in s. If
--- register r has no map of the run, the result is a fault
+-- a look-up, an update or a delete that is called in state s first reads the map in register r; f,
+-- the rest of the call, gets this map and its descriptor. If the result of f is permitted for each
+-- map t of s and its descriptor m, so is the result of the call. `PermitsAfterCall` permits a fault
+-- (None), and each state that has the context words of s and the maps of s, each as a call may
+-- leave it. If the value of register r is no map, or s has no map at its descriptor, the result is
+-- a fault
 map_argument_permits : (s : RunState) (r : ℕ) (f : GivenMap → Option RunState)
     → ((m : ℕ) (t : RunMap)
     → s.maps m ≡ Some t
@@ -229,8 +234,10 @@ object_read_has_length : (o : Option RunMap) (number : ℕ) (y : ℤ) (n : ℕ)
 object_read_has_length None number y n = tt
 object_read_has_length (Some t) number y n = value_bytes_length (t.values number) y n
 
--- what a helper reads in state s as n bytes at p (`input`) has n bytes, or the read is a fault
--- (None), as it always is if p is no pointer into the stack or into a map's value
+-- a law: what a helper reads in state s as n bytes at p (`input`) has n bytes, or the read is a
+-- fault (None). So a key or a value that a helper reads has the size that the map gives it. p may
+-- point into the stack, or into the value of a map: m is the map's descriptor, and `number` the
+-- value's number in the run. x is the pointer's offset. At any other p the read is a fault
 input_long : (s : RunState) (p : Tagged) (n : ℕ) → HasLength n (input s p n)
 input_long s (Pointer object.Stack x) n =
     cond_both (is_in_stack x n) (gathered (stack_byte s) (byte_index x) n) None (HasLength n)
@@ -238,10 +245,11 @@ input_long s (Pointer object.Stack x) n =
 input_long s (Pointer (object.Value m number) x) n = object_read_has_length (s.maps m) number x n
 input_long s p n = tt
 
--- a step of a look-up, an update or a delete reads n bytes, a key or a value, at the pointer in
--- register r of s; f, which gets these bytes, is the rest of the call. If `PermitsAfterCall`
--- permits what f returns for any n bytes, it permits the result of the step and the rest: it
--- permits a fault (None), and each state that can be the one after a call that begins in s. If
+-- a look-up, an update or a delete reads n bytes, a key or a value, at the pointer in register r of
+-- s; f, which gets these bytes, is the rest of the call. If what f returns for any n bytes is
+-- permitted (h), so is the result of the read followed by f. A result is permitted
+-- (`PermitsAfterCall`) if it is a fault (None), or a state that can be the one after a call that
+-- begins in s: with the context words of s, and with its maps as a call may change them. If
 -- register r has no pointer to n bytes that can be read (`input`), the result is a fault
 bytes_permit : (s : RunState) (r n : ℕ) (f : List ℕ → Option RunState)
     → ((bs : List ℕ) → length bs ≡ n → PermitsAfterCall s (f bs))
@@ -256,11 +264,12 @@ bytes_permit s r n f h = by (s.registers r)
     by None = tt
     by (Some p) = read (input s p n) (input_long s p n)
 
--- what a helper's write of the bytes bs at p makes of state s is permitted as the result of a call
--- that begins in s (`PermitsAfterCall`): the write keeps the context words, and changes no map, or
--- one value of one map (`written` of `MapAfterCall`). A fault is permitted too: if p is no pointer
--- into the stack or a value, or the bytes do not all lie in it. `call_leaves` uses this for the
--- write of `LoadBytes`
+-- a helper's write of the bytes bs at p in state s (`output`) is a fault (None), or leads to a
+-- state that can be the one after a call that begins in s (`PermitsAfterCall`). A write into the
+-- stack changes no map, and a write into a value changes only this value (`written` of
+-- `MapAfterCall`); both keep the context words. The write is a fault if p is no pointer into the
+-- stack or a value, or the bytes do not all lie in it. `call_leaves` uses this for the write of
+-- `LoadBytes`
 output_leaves : (s : RunState) (p : Tagged) (bs : List ℕ) → PermitsAfterCall s (output s p bs)
 output_leaves s (Pointer object.Stack x) bs =
     cond_both (is_in_stack x (length bs))

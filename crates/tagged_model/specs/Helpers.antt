@@ -141,15 +141,16 @@ abbrev pub length_given : Tagged → Option ℕ
 length_given (Scalar n) = if n == 0 then None else Some n
 length_given _ = None
 
--- the descriptor of the map that the value of a helper's first argument is (of a look-up, an update
--- or a delete); None, which makes the call a fault, if the value is a number or a pointer
+-- for an argument that must be a map, as the first one of a look-up, an update or a delete: the
+-- map's descriptor m, if the value is a map; None, which makes the call a fault, if the value is a
+-- number or a pointer
 abbrev pub map_given : Tagged → Option ℕ
 map_given (Map m) = Some m
 map_given _ = None
 
--- for an argument that must be the context, as the first one of a load of bytes: Some, without
--- content, if the value is a pointer to the first byte of the context (its offset x is 0); None,
--- which makes the call a fault, for any other value
+-- whether the value of a helper's argument is the context, as the first argument of `LoadBytes`
+-- (bpf_skb_load_bytes) has to be: Some, without content, if it is a pointer to the first byte of
+-- the context (its offset x is 0); None, which makes the call a fault, for any other value
 abbrev pub context_given : Tagged → Option (Unit {0})
 context_given (Pointer object.Context x) = if int_eq x (pos 0) then Some tt else None
 context_given _ = None

@@ -5,8 +5,9 @@ use Rattle.tagged_model.specs.declared.shape.Target.{Target}
 use Rattle.tagged_model.specs.declared.shape.Target.TheVariants as target
 use Rattle.tagged_model.specs.declared.shape.Named.{Named}
 
--- what descriptor `fd` names: the object, a map of some shape or a program, of the first item in
--- the list with this descriptor; None if there is no such item
+-- what descriptor `fd` names: a map, with its shape, or a program. Each item of the list is an open
+-- descriptor with what it names (`target`); the first item with descriptor `fd` counts. None if no
+-- item has it
 unfoldable pub target_of : List Named → ℕ → Option Target
 target_of [] fd = None
 target_of (n ∷ ns) fd = if n.fd == fd then Some n.target else target_of ns fd

@@ -4,19 +4,20 @@ ghost use Rattle.std.specs.Prelude.{ℕ, List};
 ghost use Rattle.tagged_model.specs.MapLaws.{CallsRefineValues, MapVerdictsMatchLookUps};
 
 /// A law, the refinement of maps. Take a map from keys to numbers, and a function of these numbers. A second map has the same keys, each
-/// with the function's value for its number. Each call gives the same result on both maps, with the function's value for a number, and
-/// changes both alike. `numbers` is for functions to numbers, as from the number of an object of the tagged machine to its element; `bytes`
-/// is for functions to bytes, as from an element to its value. So a map from keys to elements can be used instead of a map from keys to
-/// bytes.
+/// with the function's value for its number. Each operation gives the same result on both maps, with the function's value for a number, and
+/// changes both alike: the creation of a map, a look-up, the verdict on an update or a delete, the next key, a new key, a delete, and the
+/// end of a run. `numbers` is for functions to numbers, as from the number of an object of the tagged machine to its element; `bytes` is
+/// for functions to bytes, as from an element to its value. So a map from keys to elements can be used instead of a map from keys to bytes.
 pub fn calls_refine_values()
     ensures numbers { CallsRefineValues ℕ ℕ }
     ensures bytes { CallsRefineValues ℕ (List ℕ) }
 {}
 
-/// A law: the verdict on an update agrees with the look-up of its key. If the verdict is that the key is present with an object, the
-/// look-up finds this object; if the verdict is that the key is new, the look-up finds no object. No verdict is a refusal with the error
-/// `Memory`. `numbers` is for maps whose objects are numbers (elements), `bytes` for those whose objects are bytes (values). The proof that
-/// an update changes a map of elements and its map of values alike needs this (`live_maps_refine_values` of `bpf_maps`).
+/// A law: what a map decides on an update, its verdict, agrees with the look-up of the key. An object is what a map has for a key: a
+/// number, as that of an element (`numbers`), or the bytes of a value (`bytes`). If the verdict is that the key is present with an object,
+/// the look-up finds this object; if it is that the key is new, the look-up finds none. The third verdict, a refusal with an error, never
+/// has the error `Memory`. The proof that an update changes a map of elements and its map of values alike needs this
+/// (`live_maps_refine_values` of `bpf_maps`).
 pub fn map_verdicts_match_look_ups()
     ensures numbers { MapVerdictsMatchLookUps ℕ }
     ensures bytes { MapVerdictsMatchLookUps (List ℕ) }

@@ -83,10 +83,11 @@ shape_where true shape = Ok (shape refl)
 shape_where false shape = Err TooBig
 
 -- the shape with these fields of MAP_CREATE, with sizes in bytes. Invalid if no kind of maps has
--- the type (None), the key size is not 4 in an array or from 1 to `longest_key` in a hash map, the
--- value size not from 1 to `longest_value`, `max` not from 1 to `most_entries`, or a flag is set.
--- Else TooBig if the values, each rounded up to a multiple of eight bytes, take more than
--- `largest_area`. `listed` is the proof, which a `MapShape` contains, that a map may have the shape
+-- the type (None), or, by `is_valid`, the key size is not 4 in an array or from 1 to `longest_key`
+-- in a hash map, the value size not from 1 to `longest_value`, `max` not from 1 to `most_entries`,
+-- or a flag is set. Else TooBig if the values, each rounded up to a multiple of eight bytes, take
+-- more than `largest_area`: then `is_shape` is false. If it is true, `shape_where` passes the proof
+-- of this as `listed` to the record of the shape, since each `MapShape` contains such a proof
 abbrev pub asked_shape : Option MapKind → ℕ → ℕ → ℕ → ℕ → Result MapShape Errno
 asked_shape None key value max flags = Err Invalid
 asked_shape (Some kind) key value max flags =

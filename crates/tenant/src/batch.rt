@@ -32,8 +32,9 @@ pub struct Batch<'a> {
 pub const CALL_WEIGHT: u32 = 128;
 
 /// The weight of one run in a batch, in instructions, for a program of this cost: the most instructions that a run executes, plus
-/// `CALL_WEIGHT` times the most calls of helpers that a run makes. If a batch has a bound, that divided by this weight is how many packets
-/// may be run, but at least one (`allowed`).
+/// `CALL_WEIGHT` for each of the most calls of helpers that a run makes, since a call may take as long as many instructions. A batch may
+/// have a bound, a number of instructions. It allows as many packets as the bound divided by this weight, rounded down, but at least one
+/// and at most all (`allowed`).
 fn run_weight(cost: Cost) -> u64
     ensures { result ≡ run_weight cost }
 {
@@ -73,19 +74,21 @@ impl Tenant {
         }
     }
 
-    /// Runs the program at a descriptor on the packets of a batch, one after another, in this tenant's part of the arena; `tenant` is the
-    /// number of this tenant and of its part, which has `PART` bytes. The results are written to the front of `results`, in the order of
-    /// the packets; the rest of `results` is unchanged.
+    /// Runs the program at the descriptor `fd` on the packets of `batch`, one after another, in this tenant's part of the arena; `tenant`
+    /// is the number of this tenant and of its part, which has `PART` bytes. The packets follow one another in `bytes`, and `ends` has the
+    /// end of each (`packets_in`). `contexts` has the words of the context without the first, the packet's length: one array for all
+    /// packets, or one for each (`inputs_of`). The result of a run is the low 32 bits of register 0 at the exit. The results are written to
+    /// the front of `results`, in the order of the packets; the rest of `results` is unchanged.
     ///
     /// Results, maps and state afterwards are those of the test runs of these packets in this order (`runs`). The other parts of the arena
     /// are unchanged (`others`), and so are the number (`parts`) and the size (`part`) of its parts.
     ///
     /// # Errors
     ///
-    /// `BadDescriptor` if the descriptor is not open. `Invalid` if it names a map, if `results` has room for fewer results than
-    /// packets, or if there is neither one array of context words nor one for each packet. Else the error of the first packet that has
-    /// one: `Invalid` if the packet ends before it begins or after the last byte, `TooBig` if the packet has more than `LONGEST_PACKET`
-    /// bytes. After an error no packet was run, and nothing has changed.
+    /// `BadDescriptor` if the descriptor is not open. `Invalid` if it names a map, if `results` has room for fewer results than packets, or
+    /// if there is neither one array of context words nor one for each packet. Else the error of the first packet that has one: `Invalid`
+    /// if the packet ends before it begins or after the last byte, `TooBig` if the packet has more than `LONGEST_PACKET` bytes. After an
+    /// error no packet was run, and nothing has changed (`unchanged`).
     pub fn run_packets(
         &mut self,
         fd: u32,

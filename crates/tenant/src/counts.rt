@@ -29,8 +29,8 @@ pub struct Counts {
 }
 
 impl Counts {
-    /// The counts that `counts` of `Host` returns for a number of which no tenant is served, so that there is no state (`None`): all are 0,
-    /// and `memory_refused` is false.
+    /// The counts of a tenant that is not served, for `counts` of `Host`. Such a tenant has no state (`None`), so all counts are 0, and
+    /// `memory_refused` is false (`counts_if_served`).
     pub fn none() -> Counts
         ensures { result ≡ counts_if_served None }
     {

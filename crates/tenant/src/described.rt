@@ -102,9 +102,10 @@ impl Tenant {
         }
     }
 
-    /// What a descriptor names at this moment: a map with its shape and its number of keys, or a program with its number of slots. If the
-    /// descriptor is not open, `kind` is `NOTHING_THERE`, and all other fields are 0. The contract holds for any bytes `part` of the
-    /// tenant's part: what is returned does not depend on them.
+    /// What the descriptor `fd` names at this moment, for the owner of the host (`Host::describe`). `kind` is `MAP_THERE` for a map, of
+    /// which the result has the shape and the number of keys; `PROGRAM_THERE` for a program, with its number of slots; `NOTHING_THERE` if
+    /// the descriptor is not open. All other fields are 0. The contract holds for any bytes `part` of the tenant's part: what is returned
+    /// does not depend on them.
     pub fn describe(&self, fd: u32) -> Described
         ensures { (part : List ℕ) → result ≡ described (state_in part self.now) fd }
     {

@@ -93,8 +93,9 @@ impl Errno {
     ghost use Rattle.tenant.specs.Batch.{packet_errno};
     ghost use Rattle.tenant.specs.declared.errno.Errno.TheVariants.{BadAddress};
 
-    /// The error of a command whose call of a map fails for this fault: the one of the same name, and `NoMemory` for `Memory`. It is never
-    /// `BadAddress`, the error of a run that faults (`no_fault`), as the contracts of the commands on maps promise (`writable`).
+    /// The error of a command whose call of a map fails for this fault (`map_errno`): the one of the same name, and `NoMemory` for
+    /// `Memory`. It is never `BadAddress`, the error of a run that faults (`no_fault`). The clause `writable` of the commands on maps, by
+    /// which a reply can be written, needs this: it allows no such error.
     pub(crate) fn of_map(fault: MapFault) -> Errno
         ensures errno { result ≡ map_errno fault }
         ensures no_fault { result ≢ BadAddress }
@@ -111,7 +112,7 @@ impl Errno {
 
     /// The error of a batch whose packets are refused for this fault. `TooBig`: a packet is longer than `LONGEST_PACKET` (`TooLong`).
     /// `Invalid`: there is neither one array of context words for all packets nor one for each (`Contexts`), or a packet ends before it
-    /// begins, or after the last byte (`Outside`).
+    /// begins, or after the last byte of the buffer in which the packets lie one after another (`Outside`).
     pub(crate) fn of_packet(fault: PacketFault) -> Errno
         ensures { result ≡ packet_errno fault }
     {

@@ -22,8 +22,8 @@ use verifier::{ReplaceFault, Verified};
 
 impl Tenant {
     /// The shape of the map that the descriptor `fd` names; `None` if it is not open or names a program. `fits` compares this shape with
-    /// that with which a program was accepted. The contract says it by the list of open descriptors (`targets`), as `Fits` needs it; `part`
-    /// may be any bytes, since shapes do not depend on them.
+    /// that with which a program was accepted. In the contract, `targets` is the list of the open descriptors with their objects, and
+    /// `shapes_named` finds the shape in it, as in `Fits`. `part` may be any bytes, since shapes do not depend on them.
     fn shape_at(&self, fd: u32) -> Option<MapShape>
         ensures { (part : List ℕ) →
             result ≡ shapes_named (targets (state_in part self.now)) fd }
@@ -81,17 +81,18 @@ impl Tenant {
     /// Opens a prepared program, which was verified without a host, at the lowest free descriptor, as PROG_LOAD of its slots does (type 1,
     /// a socket filter). The program fits if each descriptor of its maps names here a map of the shape with which it was accepted. The
     /// program is neither copied nor verified again. Memory is allocated only for three lists (`program_here`): the open descriptors with
-    /// their objects, those of the program's maps, and the handles of these maps.
+    /// their objects, the descriptors of the program's maps with their objects, and the handles of these maps.
     ///
-    /// `Err` gives back a program that does not fit; then nothing has changed (`stale`). `Ok` means that the program fits (`fits`), and has
-    /// what `load` returns for the slots: the descriptor, or an error, after which the program is dropped. By `loaded` the tenant changes
-    /// as by this load, on any bytes of its part; `refused` is whether memory is refused to the load. The load's reply can be written
-    /// (`writable`) and has no payload (`no_payload`): only that of a rejected load would have one.
+    /// The result is `Err`, with the program, if it does not fit; then nothing has changed (`stale`). If it fits (`fits`), the result is
+    /// `Ok`, with the reply or the error of a load of its slots; after an error the program is dropped. The reply is `Opened`, with the new
+    /// descriptor. By `loaded` this result and the change of the tenant are those of such a load (`Loads`), whatever bytes the tenant's
+    /// part has (`part`); `refused` is whether memory is refused to the load. The result can be written as a reply to a frame (`writable`).
+    /// That reply has no payload (`no_payload`): only the reply to a load that the verifier rejects has one.
     ///
     /// # Errors
     ///
-    /// Those in `Ok`, the first that applies: `TooManyOpen` if no descriptor is free; `NoMemory` if memory for one of the lists is refused,
-    /// which sets the tenant's flag of refused memory (`refused`).
+    /// The error in `Ok` is the first that applies: `TooManyOpen` if no descriptor is free; `NoMemory` if memory for one of the lists is
+    /// refused, which sets the tenant's flag of refused memory (`refused`).
     pub fn install(
         &mut self,
         alloc: Global,

@@ -5,8 +5,9 @@ ghost use Rattle.tenant.specs.Laws.{OneCommandResult, OneReply, OneAlone, ClearF
 ghost use Rattle.tenant.specs.Laws.{RefusalsAreReported, OnlyCreationsAndLoadsAreRefused, UnrefusedRepliesMeanAlone, FaultsHaveNoPayload};
 
 /// A law, from which the determinism of a tenant's machine follows (`one_reply`, `one_reply_list`): in a state, a command has at most one
-/// result (status, payload and next state) if memory is refused to it, and at most one if it is not. For a load it needs that slots have at
-/// most one judgement.
+/// result (status, payload and next state) if memory is refused to it, and at most one if it is not. For a load the proof needs a law of
+/// `verifier` (`one_judgement`): with given objects of the open descriptors, the bytes of slots have at most one judgement. This is the
+/// program that they spell, if it is accepted, or else their `Refusal`.
 pub fn one_command_result()
     ensures { OneCommandResult }
 {
@@ -21,7 +22,9 @@ pub fn one_reply()
     one_command_result();
 }
 
-/// A law: if no memory is refused (`IsServedAlone`), a tenant's state and its frames determine its replies and the state after them.
+/// A law: if no memory is refused (`IsServedAlone`), a tenant's state and its frames determine its replies and the state after them. By it
+/// `host_core` shows that a tenant in the same state gets the same replies to the same frames, whatever frames others send
+/// (`same_frames_same_replies`).
 pub fn one_reply_list()
     ensures { OneAlone }
 {
@@ -35,9 +38,10 @@ pub fn clear_flag_means_no_refusal()
     ensures { ClearFlagMeansNoRefusal }
 {}
 
-/// A law about a tenant's frames and replies, from any state on, if memory may be refused to any command (`AloneWithRefusals`). If the flag
-/// of refused memory (`refused`) is clear after the last frame, the replies and the last state are those of its machine without refusals
-/// (`IsServedAlone`): a refusal that changes a result sets the flag, and no command clears it. `host_core` needs this for `serve`.
+/// A law about a tenant's frames and the replies to them, from any state on. Suppose that its machine may give these replies if memory may
+/// be refused to any command (`AloneWithRefusals`), and that its flag of refused memory (`refused`) is clear after the last frame. Then the
+/// machine also gives these replies, with the same last state, if no memory is refused (`IsServedAlone`): a refusal that changes a result
+/// sets the flag, and no command clears it. `host_core` needs this for `unrefused_are_served_alone`.
 pub fn clear_flag_means_alone()
     ensures { ClearFlagMeansAlone }
 {}
@@ -54,7 +58,8 @@ pub fn refusals_are_reported()
     verifier::laws::refused_by_a_rule();
 }
 
-/// A law: only the reply to the creation of a map or to a load has the status `NoMemory`.
+/// A law about the reply of a tenant's machine to one frame, if memory is refused to its command or not: it has the status `NoMemory` only
+/// if the frame is the creation of a map or the load of a program. So no other frame fails for lack of memory.
 pub fn only_creations_and_loads_are_refused()
     ensures { OnlyCreationsAndLoadsAreRefused }
 {}

@@ -75,10 +75,11 @@ fn maps_named(
 
 impl Tenant {
     /// Makes a loaded program of `program` and the handles of its maps, for a load or an install. The maps get no reference here, but from
-    /// `open_program`. `program` was accepted with the objects that are open now (`accepted`), and has a list of those that its maps'
-    /// descriptors name (`objects`). So these maps are live (`there`) and have the shapes with which `program` was accepted (`bound`). The
-    /// result has the instructions of `program` (`insns`), and is that of the tenant's machine (`found`). `part` may be any bytes: only
-    /// values depend on it. `AllocError`: out of memory.
+    /// `open_program`. `program` was accepted with what the open descriptors name now, `targets` (`accepted`), and has the list of what
+    /// those of its maps name (`objects`). So these maps are live (`there`) and have the shapes with which `program` was accepted
+    /// (`bound`). The result has the instructions of `program` (`insns`), and is the loaded program that the tenant's machine makes of them
+    /// (`found`). The machine's state, `state_in`, takes the values of maps from `part`, the bytes of the tenant's part of the arena. The
+    /// clauses hold for any bytes, as no value matters for a load. `AllocError`: out of memory.
     pub(crate) fn loaded(
         &self,
         alloc: Global,
@@ -148,18 +149,20 @@ impl Tenant {
         open(&mut self.objects, OpenObject::Program(program))
     }
 
-    /// PROG_LOAD: verifies the program that the bytes `slots` spell, eight for each slot, with the open descriptors, and if it is accepted,
-    /// opens it at the lowest free descriptor (`Reply::Opened`). The program keeps its maps when their descriptors are closed.
+    /// PROG_LOAD: verifies the program that the bytes `slots` spell, eight for each slot, given what each open descriptor names. If it is
+    /// accepted, it is opened at the lowest free descriptor, which the result has (`Reply::Opened`). It keeps its maps when their
+    /// descriptors are closed.
     ///
     /// Slots that are no program, or whose program is not accepted, are no error here: the result is `Reply::Refused`, which has the slot
     /// and the cause. `working` is memory to work in, which the next load of any tenant can use again; its contents mean nothing. By
-    /// `answer` the result and the new state are those of the machine, with memory refused or not (`refused`), whatever bytes the tenant's
-    /// part has (`part`). By `writable` a reply can have the result if `slots` has fewer than 2^32 bytes: a refusal's slot fits in four.
+    /// `answer` the result (`shown_reply`) and the new state are those of the tenant's machine for this load (`Loads`), with memory refused
+    /// to it or not (`refused`), whatever bytes the tenant's part has (`part`). By `writable` the result can be written as a reply if
+    /// `slots` has fewer than 2^32 bytes: then the slot of a refusal fits in the four bytes that the reply has for it.
     ///
     /// # Errors
     ///
-    /// The first that applies: `Invalid` if `kind` is not the type of socket filters (`SOCKET_FILTER`); `TooManyOpen` if no descriptor is
-    /// free; `NoMemory` if out of memory, which sets the tenant's flag of refused memory.
+    /// The first that applies: `Invalid` if `kind`, the type of the program, is not that of socket filters (`SOCKET_FILTER`); `TooManyOpen`
+    /// if no descriptor is free; `NoMemory` if out of memory, which sets the tenant's flag of refused memory.
     pub fn load(
         &mut self,
         kind: u32,

@@ -79,7 +79,9 @@ impl Tenant {
         }
     }
 
-    /// How many keys the map of handle `map` has; 0 if the map is not live. From this number a save computes how many parts the keys take.
+    /// How many keys the map of handle `map` has: the entries of its table of keys (`keys_at`); 0 if the map is not live. A save is made in
+    /// parts, and a part puts at most `KEYS_PER_SAVE_PART` keys (`saving`) into a map. So a save computes from this number how many parts
+    /// the map's keys take.
     pub fn key_count(&self, map: MapKey) -> u32
         ensures { result ≡ length (keys_at self.now.live map).entries }
     {
@@ -89,7 +91,9 @@ impl Tenant {
     /// The entry of a map after the key whose element is `after`, or the first entry if `after` is `None`. The order is that of the indices
     /// in an array, and that of insertion in a hash map; a save gets all entries by passing the element of each result to the next call.
     /// The value is borrowed from `part`, the tenant's part of `PART` bytes. `None` if no entry follows, if no key has this element, if the
-    /// map is not live, and for a part of another size. `once`: no two keys have the same element, so `after` means one key.
+    /// map is not live, and for a part of another size. `entry`: the result, with lists for its borrowed bytes (`lent_entry`), is the one
+    /// after `after` among all entries of the map (`numbered_entries`: each has a key, its value and its element). `once`: no element `p`
+    /// occurs twice in the list of their elements (`values_of`), so `after` means one key.
     pub fn map_entry<'a>(
         &'a self,
         map: MapKey,

@@ -19,13 +19,14 @@ fn map_kind(number: u32) -> Option<MapKind>
     }
 }
 
-/// The shape with these fields of MAP_CREATE: `kind` is the number of a map's type in bpf(2), and the sizes are in bytes.
+/// The shape with these fields of MAP_CREATE: `kind` is the number of a map's type in bpf(2), from which `kind_of` has the kind of the map,
+/// and the sizes are in bytes.
 ///
 /// # Errors
 ///
-/// `Invalid` if `kind` is the number of neither hash maps nor arrays (`map_kind`), a size or `max_entries` is outside its limits, or a flag
-/// is set; else `TooBig` if the map's area would have more than `LARGEST_AREA` bytes. `no_fault`: never `BadAddress`, the error of a run
-/// that faults.
+/// `Invalid` if `kind` is the number of neither hash maps nor arrays, `key_size` is not 4 for an array or from 1 to 512 for a hash map,
+/// `value_size` or `max_entries` is not from 1 to 4096, or a flag is set; else `TooBig` if the map's area would have more than
+/// `LARGEST_AREA` bytes, 65,536. `no_fault`: never `BadAddress`, the error of a run that faults, which no command may return.
 pub fn asked_shape(
     kind: u32,
     key_size: u32,

@@ -123,10 +123,10 @@ impl Tenant {
         }
     }
 
-    /// What the verifier is given of the object that descriptor `fd` names: the shape of a map, or only that it is a program. `None` if the
-    /// descriptor is not open. The contract holds for any bytes `part` of the tenant's part, since a state takes only the values of maps
-    /// from them, which do not matter here. A load needs this of all descriptors (`targets`), the install of a prepared program of those of
-    /// its maps (`shape_at`).
+    /// What the verifier is given of the object that descriptor `fd` names (`object_target`): the shape of a map, or only that it is a
+    /// program. `None` if the descriptor is not open. `part` may be any bytes of the tenant's part: a state takes only the values of maps
+    /// from them, and the result does not depend on values. `targets` calls this for each descriptor, `shape_at` for the maps of a prepared
+    /// program that is installed.
     pub(crate) fn target(&self, fd: u32) -> Option<Target>
         ensures { (part : List ℕ) →
             result ≡ and_then (named self.now.objects fd) (object_target (state_in part self.now)) }
@@ -223,10 +223,11 @@ impl Tenant {
         }
     }
 
-    /// MAP_UPDATE_ELEM: writes the value of a key to `part`, the tenant's part, which has `PART` bytes before and after (`length`).
-    /// `key_and_value` has the bytes of the key, and then those of the value. The value of a present key is overwritten; a new key comes
-    /// last in the order of keys. Takes no memory. The reply, and the state that `self` and `part` then represent, are those of the
-    /// tenant's machine (`answer`). An error is never `BadAddress`, which only a run that faults would have (`writable`).
+    /// MAP_UPDATE_ELEM: writes the value of a key to `part`, the tenant's part, which has `PART` bytes before and after (`length`). `fd` is
+    /// the descriptor of the map. `key_and_value` has the bytes of the key, and then those of the value. The value of a present key is
+    /// overwritten; a new key comes last in the order of keys. Takes no memory. The reply, and the state that `self` and `part` then
+    /// represent, are those of the tenant's machine (`answer`). `writable`: `write_command_reply` may write the result, since an error is
+    /// never `BadAddress`, the error of a run that faults.
     ///
     /// # Errors
     ///
@@ -271,8 +272,9 @@ impl Tenant {
     }
 
     /// MAP_DELETE_ELEM: deletes a key and its value. No run is in progress, so the key's element is free at once (`end_run`). `answer`: the
-    /// reply and the state after it are the machine's, whatever bytes the tenant's part has (`part`): a deletion reads and writes none of
-    /// them. `writable`: no error is `BadAddress`, the error of a run that faults.
+    /// reply and the state after it are those of the tenant's machine (`element_deleted`), whatever bytes the tenant's part has (`part`): a
+    /// deletion reads and writes none of them. `writable`: the result is one that `write_command_reply` accepts (`IsWritable`): no error is
+    /// `BadAddress`, the error of a run that faults, which no reply may report.
     ///
     /// # Errors
     ///

@@ -63,8 +63,8 @@ abbrev pub operand_layout : Bool → SourceOperand → TokenLayout → TokenLayo
 operand_layout wide (source.Number n) rest = constant n rest
 operand_layout wide (source.Reg r) rest = reg wide r ∷ rest
 
--- the target of a jump, which ends a line: a number of slots, always after its sign, + or -, or the
--- name `label`. A target that is a number does not use `label`
+-- the tokens (`Some`) of the target of a jump, which ends a line: an offset in slots from the next
+-- slot, always after its sign, + or -, or the name `label`. An offset does not use `label`
 abbrev pub destination : JumpTarget → List ℕ → TokenLayout
 destination (target.Number n) label = sign (sign_name n.negative) ∷ Some (number n.magnitude) ∷ []
 destination target.Label label = word label ∷ []
@@ -110,7 +110,9 @@ value_layout (value.MapValue fd off) rest =
 -- loads have only r (`reg true`). `long`: the jump is `gotol`, else `goto`. `at`: the base register
 -- and the byte offset of an access. `signed`: the size of a load has an s, as s32, else a u, as
 -- u32; that of a store or an atomic operation has a u (false). An atomic operation begins with
--- `lock`, and a wide load ends with `ll`
+-- `lock`, and a wide load ends with `ll`. `word` is the token of a name, `sign` that of a symbol,
+-- as `=`. The last argument of `operand_layout`, `address`, `value_layout` and `constant` is the
+-- layout of what follows that operand on the line, [] if nothing does
 abbrev pub layout : Form → List ℕ → TokenLayout
 layout (form.Operation wide dst o) label = reg wide dst ∷ space ∷ operation_layout wide dst o
 layout (form.Jump long to) label = word (jump_name long) ∷ space ∷ destination to label

@@ -26,9 +26,11 @@ abbrev pub NoLabel : Bool → List ℕ → Type 0
 NoLabel true n = Unit {0}
 NoLabel false n = n ≡ []
 
--- the line is one that a text can have. Of an instruction, `IsForm` requires registers 0 to 10 and
--- an operation or access that an instruction can have. `NoLabel` requires that n, the label's name,
--- is empty if the form names no label, since no token has it then. A blank line and the definition
+-- the line is one that a text can have. The line of an instruction (`code`) has a form, and n, the
+-- name of the label to which it jumps. `IsForm` requires registers 0 to 10 and an operation or
+-- access that an instruction can have: for example, no byte-order conversion of a 32-bit register.
+-- `NoLabel` requires that n is empty if the form names no label. The line has the same tokens for
+-- each n then, so its bytes would otherwise be read as many lines. A blank line and the definition
 -- of a label are always well formed
 abbrev pub IsWellFormed : Line → Type 0
 IsWellFormed (code form n) = IsForm form × NoLabel (names_label form) n

@@ -34,9 +34,10 @@ offset_fits n = is_at_most (if n.negative then 32768 else 32767) n.magnitude
 abbrev pub next_imm_fits : Option ℕ → Bool
 next_imm_fits n = is_at_most 4294967295 n
 
--- whether a second operand, or what a store writes, fits its field, as it is written. A constant n
--- does if it is -2 ^ 31 to 2 ^ 31 - 1, the range of a signed field of 32 bits. For a register the
--- result is true: it has no constant, and `IsSource` requires that it is one of 0 to 10
+-- whether the second operand of an instruction, or what a store writes, as a line of text has it,
+-- fits its field in a slot. A constant n fits if it is -2 ^ 31 to 2 ^ 31 - 1, the range of a signed
+-- field of 32 bits (`imm_fits`). A register r always fits (true): that its number is 0 to 10 is not
+-- tested here, but required by `IsSource`
 abbrev pub source_fits : SourceOperand → Bool
 source_fits (source.Number n) = imm_fits n
 source_fits (source.Reg r) = true
@@ -90,11 +91,12 @@ abbrev pub normal_address : Address → Address
 normal_address at = record { base = at.base; offset = normal at.offset }
 
 -- the form with 0 for each number -0, which a text may have and a printed instruction has not. In
--- the order of the equations, this changes a constant operand of an operation; a constant that is
--- stored; the offset of any access; the descriptor of a wide load, but not the offset `off` in a
--- map's value, which has no sign; and the number of a called helper. All other forms are unchanged
--- (last equation). A jump and a conditional jump are not changed here, since `resolved` changes
--- their numbers and labels together. The others have no number that may be -0
+-- the order of the equations, -0 is replaced as the constant operand of an operation; as a constant
+-- that is stored, and as the offset of this store; as the offset of any other access; as the
+-- descriptor of a wide load of a map, or of an address in a map's value, whose offset `off` has no
+-- sign; and as the number of a called helper. The last equation leaves every other form unchanged:
+-- a jump and a conditional jump, in which `resolved` replaces both -0 and labels, and forms without
+-- a signed number, such as an exit
 abbrev pub normal_form : Form → Form
 normal_form (form.Operation wide dst (operation.Binary op src)) =
     form.Operation wide dst (operation.Binary op (normal_source src))

@@ -41,12 +41,14 @@ address_of base off = record { base = base; offset = number_of off }
 
 -- the form of the line that is printed for an instruction. `wide` is true if registers are named
 -- `r0` to `r10`, false if they are named `w0` to `w10`, for their low 32 bits. A byte-order
--- conversion names an `r` register (true), however many bits it keeps (`bits`). The target of a
--- jump is a number, the distance `off` in slots from the next slot, and never a label; the Boolean
--- of `form.Jump` is true for `gotol`, false for `goto`. A load, a store and an atomic operation
--- have an address: the base register, `src` of a load and `dst` of the others, and an offset in
--- bytes. Wide loads are last: their constant n, and their offset `off` in a map's value, are
--- `Some`. None, for a number of 2 ^ 64 or more, is only in a line that is read
+-- conversion names an `r` register (true), however many bits it keeps (`bits`). A second operand is
+-- a constant or a register (`source_of`). An integer is written as a sign and a magnitude
+-- (`number_of`). The target of a jump is a number, the distance `off` in slots from the next slot,
+-- and never a label; the Boolean of `form.Jump` is true for `gotol`, false for `goto`. A load, a
+-- store and an atomic operation have an address (`address_of`): the base register, `src` of a load
+-- and `dst` of the others, and an offset in bytes. The last three equations are of wide loads: a
+-- constant n, and an offset `off` in a map's value, are `Some`. None, which no instruction has, is
+-- a number of 2 ^ 64 or more in a line that is read
 abbrev pub written : Insn → Form
 written (Alu wide op dst src) = form.Operation wide dst (operation.Binary op (source_of src))
 written (Movsx m) = form.Operation m.wide m.dst (operation.SignExtend m.bits m.src)
@@ -76,7 +78,8 @@ lexeme (number (Some n)) = decimal n
 lexeme (number None) = []
 lexeme (symbol s) = s
 
--- the bytes of one item of a layout: those of its token, or for None one space
+-- the bytes that are printed for one item of a layout, the list of a line's tokens (`Some`) and of
+-- the single spaces between them (None): those of the token (`lexeme`), or one space, the byte 32
 abbrev pub piece : Option Token → List ℕ
 piece (Some t) = lexeme t
 piece None = 32 ∷ []

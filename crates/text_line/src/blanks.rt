@@ -10,7 +10,7 @@ pub(crate) fn is_blank(byte: u8) -> bool
     byte == b' ' || byte == b'\t' || byte == b'\r'
 }
 
-/// The line without the blanks at its front.
+/// The line without the blanks at its front: spaces, tabs and carriage returns. Empty if it has nothing else.
 fn skip_blanks(line: &[u8]) -> &[u8]
     ensures { result.now ≡ skip_blanks line.now }
 {

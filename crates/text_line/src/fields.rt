@@ -71,8 +71,8 @@ fn next_imm(magnitude: Option<u64>) -> Option<u32>
 
 impl SourceOperand {
     /// A law: if the operand is a register, its number is 0 to 10 (`IsSource`, which requires nothing of a constant). `Form::is_possible`
-    /// calls it, since registers of a form that a line can have are 0 to 10. The proof has the bound from the contract of `number`, whose
-    /// result is not used, so the function does nothing when it runs.
+    /// calls it for the proof of its contract: by this a form that a line can have has no register above 10 (`IsForm`). The proof of the
+    /// law has the bound from the contract of `number`, whose result is not used, so the function does nothing when it runs.
     fn register_is_in_range(self)
         ensures { IsSource self }
     {
@@ -99,10 +99,10 @@ impl SourceOperand {
 }
 
 impl JumpTarget {
-    /// The offset in slots of a jump to this target, in a field of 16 bits; a long jump, with a field of 32 bits, has `long_offset`. It is
-    /// the target's number, with -0 as 0, or, if the target is a label, `distance`: the number of slots from the slot after the jump to the
-    /// label (`placed`). `None` if the target's number doesn't fit 16 bits (`target_fits`, in which `false` means that the jump is not
-    /// long).
+    /// The offset in slots of a jump to this target, in a signed field of 16 bits. It is the target's number, with -0 as 0, or, if the
+    /// target is a label, `distance`: the number of slots from the slot after the jump to the label (`placed`). `None` if the target has a
+    /// number that does not fit 16 bits (`target_fits`, in which `false` means that the jump is not long). `long_offset` is for a long
+    /// jump, whose field has 32 bits.
     fn offset(self, distance: i16) -> Option<i16>
         ensures found { IfSome result (λ n. target.Number (number_of n) ≡ placed distance self) }
         ensures fits { IfSome result (λ _. target_fits false self ≡ true) }
@@ -162,9 +162,11 @@ impl Operation {
 }
 
 impl Access {
-    /// The instruction of this access at `address`: it is written as the access is, with -0 as 0 (`found`). `None` exactly if the address's
-    /// offset does not fit 16 bits, or the constant of a store 32 bits, both signed (`fits`, `none`). It is required that a line can have
-    /// the form (`IsForm`), as `Form::insn` has checked: else a load could sign-extend a double word.
+    /// The instruction of a line with this access, a load, a store or an atomic operation, at `address`, a base register and a written
+    /// offset. `found`: the line of the instruction (`written`) is that of the access, with 0 for each number -0 (`normal_form`). `None`
+    /// exactly if the offset does not fit 16 bits, or the constant of a store 32 bits, both signed (`form_fits`). It is required that a
+    /// line can have this access (`IsForm`); `Form::insn` has tested this. Else a load could sign-extend a double word, which no
+    /// instruction does.
     fn insn(self, address: Address) -> Option<Insn>
         requires { IsForm (form.Access self address) }
         ensures found { IfSome result (λ insn. written insn
@@ -309,9 +311,10 @@ impl Form {
     }
 
     /// The instruction of this form, which is one that a line can have: `insn`, the only caller, has tested the precondition (`IsForm`) by
-    /// `is_possible`. `distance` is the number of slots from the next slot to the label that its jump names; it has no effect if it names
-    /// none. `found`: the instruction is written as this form with 0 for each number -0, and with `distance` for a label (`resolved`). The
-    /// result is `None` if a number is out of the range of its field (`none`), and only then (`fits`).
+    /// `is_possible`. If the form is a jump, also a conditional one, to a label, `distance` is the number of slots from the slot after the
+    /// jump to the label; for any other form it has no effect. `found`: written as a form, the instruction is this one, with `distance` for
+    /// a label, and with 0 for a number that the line has as `-0` (`resolved`). The result is `None` if a number is out of the range of its
+    /// field (`form_fits` is false, `none`), and only then (`fits`).
     fn listed_insn(self, distance: i16) -> Option<Insn>
         requires { IsForm self }
         ensures found { IfSome result (λ insn. written insn ≡ resolved distance self) }

@@ -10,7 +10,9 @@ pub fn one_reading()
     ensures { OneReading }
 {}
 
-/// A law: instructions with the same written form are the same. So the forms on the lines of a text determine its program.
+/// A law: two instructions with the same written form are the same, whatever their numbers are. The written form (`written`) is the `Form`
+/// of the line that is printed for an instruction. So the forms on the lines of a text, with a distance for each label, determine its
+/// program (`one_program` of `bpf_text`).
 pub fn one_instruction()
     ensures { OneInsn }
 {}
@@ -23,9 +25,9 @@ pub fn written_in_range()
 {}
 
 /// A law: for an instruction whose numbers fit their fields (`IsInsn`), the printed text is one line, without a line feed, and that line is
-/// read as the instruction's written form, without a label (`IsPrinted`). No other instruction has this form (`one_instruction`), so the
-/// text that `disassemble` of `bpf_text` prints of a program is read as its instructions. The body only gives the proof the law
-/// `written_in_range`.
+/// read as the instruction's written form, without a label (`IsPrinted`). No other instruction has this form (law `one_instruction`), so
+/// the text that `disassemble` of `bpf_text` prints of a program is read as its instructions. The body calls the law `written_in_range`,
+/// since the proof needs that each number of the form is in its range and that the form names no label.
 pub fn printed_is_read()
     ensures { (insn : Insn) → IsInsn insn → IsPrinted insn }
 {

@@ -24,9 +24,10 @@ use words::BITS_64;
 
 // ---- operations
 
-/// The operation `op`, an operator of two operands or a move, with the source in `tokens`, which are those after the operator's symbol: a
-/// number, after a minus or without a sign, or a register, `r` if `wide`, else `w`. `None` if they begin with neither, or if more tokens
-/// follow: then `operation`, the caller, tries the operations of one operand, if `op` is a move.
+/// The operation `op`, an operator of two operands or a move, with the source in `tokens`, which are those after the operator's symbol. The
+/// source is a constant, a number after a minus or without a sign, or a register: an `r` register (64 bits) if `wide`, else a `w` register
+/// (the low 32). Whether the constant fits in its field, `Form::insn` tests later. `None` if the tokens do not begin with such a source, or
+/// if more tokens follow it. If `op` is a move, the caller, `operation`, then tries the operations of one operand.
 #[tactic(auto, unfolding(crate::specs::inside::Reading::parsed_binary))]
 fn binary(wide: bool, op: AluOp, tokens: &[Token<'_>]) -> Option<Operation>
     ensures { result ≡ parsed_binary wide op (shown_tokens tokens.now) }
@@ -71,9 +72,10 @@ fn in_place(wide: bool, dst: Reg, found: Operation, tokens: &[Token<'_>]) -> Opt
     at_end(found, rest)
 }
 
-/// An operation of one operand with the destination `dst`, from the tokens after `=`: a move with sign extension, a negation or, only for
-/// an `r` register (`wide`), a byte-order conversion. A negation and a byte-order conversion have to name `dst` again, as in `r1 = -r1`.
-/// `None` if the tokens are none of these.
+/// An operation of one operand, from the tokens after `=`. Its destination `dst` is an `r` register if `wide`, else a `w` register. It is a
+/// move with sign extension if the tokens begin with `(`, and a negation if they begin with `-`. Else it is a byte-order conversion, which
+/// only an `r` register has. A negation and a byte-order conversion have to name `dst` again (`in_place`), as in `r1 = -r1`. `None` if the
+/// tokens are none of these.
 #[tactic(auto, unfolding(crate::specs::inside::Reading::parsed_unary))]
 fn unary(wide: bool, dst: Reg, tokens: &[Token<'_>]) -> Option<Operation>
     ensures { result ≡ parsed_unary wide dst (shown_tokens tokens.now) }
@@ -164,8 +166,10 @@ fn atomic(tokens: &[Token<'_>]) -> Option<Form>
     at_end(Form::Access { access, address }, rest)
 }
 
-/// A load of a 64-bit value into `dst`, from the tokens after `=`: the value, and `ll`, as `5 ll`, `map_fd 3 ll` or `map_value 3 + 8 ll`.
-/// `None` if they are anything else.
+/// The form of a load of a 64-bit value into `dst`, from the tokens after `=`, which are the value and `ll`: a number, as `5 ll`, a map by
+/// its descriptor, as `map_fd 3 ll`, or an address in a map's value, as `map_value 3 + 8 ll`. `None` if the tokens are anything else, or if
+/// more follow. The contract: the definition `parsed_wide_load` reads the same form; `shown_tokens` turns tokens of the code into those of
+/// definitions.
 #[tactic(auto, unfolding(crate::specs::inside::Reading::parsed_wide_load))]
 fn wide_load(dst: Reg, tokens: &[Token<'_>]) -> Option<Form>
     ensures { result ≡ parsed_wide_load dst (shown_tokens tokens.now) }
@@ -175,9 +179,10 @@ fn wide_load(dst: Reg, tokens: &[Token<'_>]) -> Option<Form>
     at_end(Form::WideLoad { dst, value }, rest)
 }
 
-/// A line that begins with its destination register. It may be an operation on this register, as `w1 += 2`. If `=`, the symbol of `Mov`,
-/// follows an `r` register, it may also be a wide load, as `r2 = 5 ll`, or a load, as `r1 = *(u32 *)(r6 + 0)`. `None` if the tokens are
-/// none of these.
+/// Parses a line that begins with its destination register, from all tokens of the line. It may be an operation on this register, as
+/// `w1 += 2`. If `=`, the symbol of `Mov`, follows an `r` register, it may also be a wide load, as `r2 = 5 ll`, or a load, as
+/// `r1 = *(u32 *)(r6 + 0)`. `None` if the tokens are none of these, or if more follow. The contract: the definition `parsed_assigned` reads
+/// the same form from the tokens with their texts as bytes (`shown_tokens`).
 #[tactic(auto, unfolding(crate::specs::inside::Reading::parsed_assigned))]
 fn assigned(tokens: &[Token<'_>]) -> Option<Form>
     ensures { result ≡ parsed_assigned (shown_tokens tokens.now) }

@@ -18,9 +18,9 @@ pub(crate) fn atomic_size(signed: bool, size: AccessSize) -> Option<AtomicSize>
     }
 }
 
-/// The register that has this name, after a Boolean: `true` if the name is that of all 64 bits of the register (`r0` to `r10`), `false` if
-/// it is that of the low 32 (`w0` to `w10`). `None` if no register has the name. By the clause the table of these names in the definitions
-/// (`registers`) gives the same result.
+/// Looks up `name` among the names of registers, and returns a Boolean and the register. The Boolean is `true` if the name is one of all 64
+/// bits of the register (`r0` to `r10`), `false` if it is one of the low 32 (`w0` to `w10`). `None` if no register has the name. The table
+/// in the code has the rows of that in the definitions (`registers`): by the contract a look-up (`named`) gives the same in both.
 pub(crate) fn register_named(name: &str) -> Option<(bool, Reg)>
     ensures { result ≡ named registers name.now }
 {

@@ -28,7 +28,8 @@ pub(crate) fn leading_symbol<'t, 'a>(tokens: &'t [Token<'a>]) -> Option<(&'a str
     }
 }
 
-/// The first token, if it is a name, and the tokens after it; `None` if it is no name, or if there is no token.
+/// The text of the first token, if it is a name, and the tokens after it; `None` if it is a symbol or a number, or if there is no token.
+/// The definition `leading_name` gives the same; `seen_token` and `shown_tokens` turn names and tokens of the code to those of definitions.
 pub(crate) fn name<'t, 'a>(tokens: &'t [Token<'a>]) -> Option<(&'a str, &'t [Token<'a>])>
     ensures { seen_token result ≡ leading_name (shown_tokens tokens.now) }
 {
@@ -76,7 +77,8 @@ pub(crate) fn after_word<'t, 'a>(tokens: &'t [Token<'a>], expected: &str) -> Opt
 // ---- parts of a line
 
 /// Parses the register with which the tokens begin: `r0` to `r10` (all 64 bits) if `wide`, else `w0` to `w10` (the low 32). Returns the
-/// register and the tokens after it; `None` if there is no token, or the first is another, also a register of the other width.
+/// register and the tokens after it; `None` if there is no token, or the first is another, also a register of the other width. The
+/// definition `leading_register` gives the same: `seen_pair` and `shown_tokens` only turn tokens of the code into those of definitions.
 #[tactic(auto, unfolding(crate::specs::inside::Reading::leading_register))]
 pub(crate) fn register<'t, 'a>(
     wide: bool,
@@ -93,8 +95,10 @@ pub(crate) fn register<'t, 'a>(
     }
 }
 
-/// The number of the first token, and the tokens after it; `None` if this token is no number, or if there is no token. `negative`, the sign
-/// of the number, is whether the caller has read a minus before it, which is a token of its own.
+/// Reads the first token, a number, and gives it the sign that the caller has read before it, which is a token of its own: a minus if
+/// `negative`, else a plus or none. Returns the number with its sign, and the tokens after it; `None` if the first token is a name or a
+/// symbol, or if there is no token. In the contract `leading_number` reads the token, and the definition `number_from` adds the sign;
+/// `seen_pair` and `shown_tokens` turn tokens of the code into those of definitions.
 fn number_from<'t, 'a>(negative: bool, tokens: &'t [Token<'a>]) -> Option<(Number, &'t [Token<'a>])>
     ensures { seen_pair result ≡ number_from negative (leading_number (shown_tokens tokens.now)) }
 {
@@ -134,9 +138,10 @@ pub(crate) fn signed<'t, 'a>(tokens: &'t [Token<'a>]) -> Option<(Number, &'t [To
     }
 }
 
-/// Parses a second operand, and returns it and the tokens after it. It is a register, an `r` register (64 bits) if `wide`, else a `w`
-/// register (the low 32), or a constant, which is a number after a minus or without a sign. `None` if the tokens begin with neither, also
-/// with a register of the other width.
+/// Parses the second operand of arithmetic or of a conditional jump, or what a store writes, and returns it and the tokens after it. It is
+/// a register, an `r` register (64 bits) if `wide`, else a `w` register (the low 32), or a constant, which is a number after a minus or
+/// without a sign. `None` if the tokens begin with neither, also with a register of the other width. The contract has the result and the
+/// tokens as definitions have them (`seen_pair`, `shown_tokens`).
 #[tactic(auto, unfolding(crate::specs::inside::Reading::leading_operand))]
 pub(crate) fn operand<'t, 'a>(
     wide: bool,
@@ -153,7 +158,8 @@ pub(crate) fn operand<'t, 'a>(
     }
 }
 
-/// Whether no token is left.
+/// Whether `tokens` is empty. If they are the tokens after a part of a line that was parsed, the line then ends after this part (`at_end`).
+/// If they are all tokens of a line, the line is blank, or has only a comment (`line_of`).
 pub(crate) fn ended(tokens: &[Token<'_>]) -> bool
     ensures { result ≡ is_ended (shown_tokens tokens.now) }
 {
@@ -190,7 +196,8 @@ pub(crate) fn destination<'a>(tokens: &[Token<'a>]) -> Option<(JumpTarget, &'a s
 /// Reads a memory operand, as `*(u32 *)(r6 + 0)`, from the front of the tokens. Returns whether the name of its size is signed (`s8` to
 /// `s32`, not `u8` to `u64`), the size, the address (an `r` register and an offset with its sign, of any range), and the tokens after the
 /// operand; `None` if the tokens do not begin with a memory operand. The callers read loads, stores and atomic operations; those of stores
-/// and of atomic operations reject a signed size.
+/// and of atomic operations reject a signed size. The contract: the definition `leading_address` reads the same from these tokens;
+/// `seen_pair` and `shown_tokens` have the result and the tokens as definitions have them.
 #[tactic(auto, unfolding(crate::specs::inside::Reading::leading_address))]
 pub(crate) fn address<'t, 'a>(
     tokens: &'t [Token<'a>],
@@ -213,8 +220,9 @@ pub(crate) fn address<'t, 'a>(
 }
 
 /// The value of a wide load, and the tokens after it; the caller reads the `ll` that follows. The value is `map_fd` and a descriptor;
-/// `map_value`, a descriptor, `+` and an offset; or a number. Only a descriptor may have a minus. Numbers may be out of range here. `None`
-/// if the tokens begin with none of these. The contract: the definition `leading_wide_value` reads the same from these tokens.
+/// `map_value`, a descriptor, `+` and an offset; or a number. Only a descriptor may have a minus. `None` if the tokens begin with none of
+/// these. A number may be out of its field's range, which `Form::insn` checks. The contract: the definition `leading_wide_value` reads the
+/// same; `shown_tokens` and `seen_pair` convert the tokens and the result to those of definitions.
 #[tactic(auto, unfolding(crate::specs::inside::Reading::leading_wide_value))]
 pub(crate) fn wide_value<'t, 'a>(tokens: &'t [Token<'a>]) -> Option<(WideValue, &'t [Token<'a>])>
     ensures { seen_pair result ≡ leading_wide_value (shown_tokens tokens.now) }

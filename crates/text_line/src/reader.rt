@@ -9,11 +9,12 @@ use crate::line::line_of;
 use crate::token::tokens;
 use std::alloc::{AllocError, Global};
 
-/// Parses one line of a text, given without its line feed.
+/// Parses one line of a text, given without its line feed. A line is blank, defines a label, or has an instruction.
 ///
-/// `None` if the line is neither blank nor a label's definition nor an instruction; so also if something before its comment is no token, or
-/// if a byte is not ASCII, even in its comment. A number out of its field's range is no reason for `None`: the form keeps it, and the
-/// assembler rejects it. By the contract the definitions read the line so (`ReadAs`); `seen_line` is the result in their type.
+/// `None` if the line is none of these; so also if something before its comment is no token, or if a byte is not ASCII, even in its
+/// comment. A number out of its field's range is no reason for `None`: the form keeps it, and the assembler rejects it. The contract: by
+/// the definition of the grammar, the bytes are read as the returned line, or as no line if it is `None` (`ReadAs`). `seen_line` is the
+/// line of the definitions that a `Line` of the code represents.
 ///
 /// # Errors
 ///

@@ -111,7 +111,8 @@ fn is_hex_digit(byte: u8) -> bool
     byte.is_ascii_digit() || (byte > 64 && byte < 71) || (byte > 96 && byte < 103)
 }
 
-/// The byte at an index; past the end 0, which is in no name, number or symbol.
+/// The byte at `index` of `text`; the byte 0 if `index` is past the end. So `name` and `number` can test the first bytes of a text of any
+/// length: the byte 0 begins no name, and is no digit and no `x`.
 fn byte_at(text: &[u8], index: usize) -> u8
     ensures { result ≡ slice_index text.now index }
 {

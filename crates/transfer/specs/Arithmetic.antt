@@ -113,9 +113,10 @@ of_scalars wide op a b = Err PointerArithmetic
 -- the kind of a 64-bit sum, by the kinds of its operands. Of two numbers (Scalar) it is a number,
 -- of the range that `of_scalars` gives. Of a number and a pointer, in either order, it is the
 -- pointer moved forwards by the number (`pointer_moved`). PointerArithmetic if neither operand is a
--- number, if the other one is no pointer to the stack or into a value, or if it is one to the stack
--- and the number is no constant. OffsetTooLarge if the pointer's new offset may be over
--- `farthest_offset` bytes from 0, or if the number, read as signed, may have either sign
+-- number, if one is a number and the other is no pointer to the stack or into a value, or if one is
+-- a pointer to the stack and the other a number that is no constant. OffsetTooLarge if the
+-- pointer's new offset may be over `farthest_offset` bytes from 0, or if the range of the number
+-- has numbers of both signs, read as signed
 abbrev pub sum_kind : Kind → Kind → Result Kind Reason
 sum_kind (Scalar a) (Scalar b) = of_scalars true (Binary alu.Add) (Scalar a) (Scalar b)
 sum_kind (Scalar a) b = pointer_moved Forwards b a

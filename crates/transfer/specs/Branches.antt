@@ -22,18 +22,19 @@ pub record Edges : Type 0 where
   pub falling : Option Facts
   pub jumping : Option Facts
 
--- the facts on the falling edge out of an instruction, which leads to the next one, from the result
--- of the transfer function (`effect`). None if that is a reason for which the instruction may not
--- be run (Err). If it may be run (Ok), None for an exit and an unconditional jump, which have no
--- falling edge, and for a conditional jump that is always taken if the facts before it hold
+-- the facts on the falling edge out of an instruction, the edge to the next one. The argument is
+-- the result of the transfer function (`effect`). None means one of three things: the result is the
+-- reason why the instruction may not be run (Err); the instruction is an exit or an unconditional
+-- jump, which have no falling edge; or it is a conditional jump that is always taken if the facts
+-- before it hold
 abbrev pub falling_of : Result Edges Reason → Option Facts
 falling_of (Err reason) = None
 falling_of (Ok edges) = edges.falling
 
--- the facts on the jumping edge out of an instruction, which leads to the target of a jump. The
--- argument is the result of the transfer function (`effect`). None if that is the reason why the
--- instruction may not be run (Err), if the instruction is no jump, or if the jump is never taken,
--- as a comparison that never holds
+-- the facts on the jumping edge out of an instruction, which leads to the target of a jump, from
+-- the result of the transfer function (`effect`). None if that is a reason for which the
+-- instruction may not be run (Err). If it may be run (Ok), None for an instruction that is no jump,
+-- and for a conditional jump that is never taken if the facts before it hold
 abbrev pub jumping_of : Result Edges Reason → Option Facts
 jumping_of (Err reason) = None
 jumping_of (Ok edges) = edges.jumping

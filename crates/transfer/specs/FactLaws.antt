@@ -18,10 +18,11 @@ kind_at_later_slot at n (kind.Scalar r) lt h = h
 kind_at_later_slot at n (kind.MaybeValue m site) lt h = omega arith
 kind_at_later_slot at n k lt h = tt
 
--- if the stack slot s is well formed at slot `at` of the program (`IsSlotAt`), it is well formed at
--- each later slot n of the program, to which it is raised. Of what is required, only the bound on
--- the site of a look-up, in the kind k of a spill, depends on the slot of the program: a site below
--- `at` is below n too. A mask of written bytes is below 256 at each slot
+-- a stack slot s of facts that is well formed at slot `at` of the program (`IsSlotAt`) is well
+-- formed at each later slot n of the program. If s has a mask of written bytes, `IsSlotAt` only
+-- requires that the mask is below 256. If s is a spill, it requires `IsKindAt` of the spilled kind
+-- k. Of this only the bound on the site of a look-up depends on the program slot: a site below `at`
+-- is below n too. `facts_of_later_slots` needs this law
 slot_raised : (at n : ℕ) (s : Slot) → at < n → IsSlotAt at s → IsSlotAt n s
 slot_raised at n (Bytes mask) lt h = h
 slot_raised at n (Spill k) lt h = kind_at_later_slot at n k lt h

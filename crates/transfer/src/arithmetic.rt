@@ -73,9 +73,10 @@ fn offset_after_difference(offset: i32, by: i64) -> Option<i32>
     }
 }
 
-/// The kind of a stack pointer at `offset` after a move forwards or backwards (`way`) by the one number of `range`, read as signed.
-/// `OffsetTooLarge` if the new offset is more than `FARTHEST_OFFSET`, 2^29 bytes, from 0. The only caller, `pointer_moved`, has tested that
-/// `range` has only one number, which the contract does not require. So `distance` is never `None`, and its two distances are equal.
+/// The kind of a stack pointer at `offset` after a move forwards or backwards (`way`) by the one number of `range`, in bytes, read as
+/// signed. `OffsetTooLarge` if the new offset is more than `FARTHEST_OFFSET`, 2^29 bytes, from 0. `distance` gives the least and the
+/// greatest number of `range`, or `None` if it has numbers of both signs. The only caller, `pointer_moved`, has tested that `range` has
+/// only one number, which the contract does not require. So the least number is also the greatest, and `None` never occurs.
 fn stack_moved(way: Direction, offset: i32, range: Range) -> Result<Kind, Reason>
     ensures { result ≡ stack_moved way offset range }
 {
@@ -148,8 +149,9 @@ fn pointer_moved(way: Direction, pointer: Kind, range: Range) -> Result<Kind, Re
     }
 }
 
-/// The range of the results of `op` for a first operand in the range `a` and a second one in `b`, by the table of ranges (`range_of`). The
-/// operator is that of 64 bits if `wide`, else that of 32.
+/// A range that includes each result of `op` on a first operand in the range `a` and a second one in `b` (`range_of`). If each operand that
+/// `op` reads is one number, the range is one number too. The operator is that of 64 bits if `wide`, else that of 32. A move and a sign
+/// extension read only `b`, a negation and a byte-order conversion only `a`.
 #[inline(always)]
 pub(crate) fn result_range(wide: bool, op: Operator, a: Range, b: Range) -> Range
     ensures { result ≡ range_of (width wide) op a b }
@@ -183,10 +185,11 @@ pub(crate) fn of_scalar(wide: bool, op: Operator, kind: Kind) -> Result<Kind, Re
     of_scalars(wide, op, kind, kind)
 }
 
-/// The kind of a sum of 64 bits (`true` for `of_scalars`), of two numbers or of a pointer and a number in either order. Only a pointer into
-/// a value may be moved, and, if the range of the number has only one number, a stack pointer: `PointerArithmetic` for any other operands.
-/// The number that moves a pointer is read as signed. `OffsetTooLarge` if the moved offset may be more than `FARTHEST_OFFSET` from 0. This
-/// is so for each range with numbers of both signs: as a range of unsigned numbers, it has the greatest and the least signed number.
+/// The kind of a 64-bit sum of operands of the kinds `a` and `b`. Two numbers give a number (`of_scalars`). A pointer and a number, in
+/// either order, give the pointer moved forwards by the number, which is read as signed (`pointer_moved`). Only a pointer into a value may
+/// be moved, and, if the range of the number has only one number, a stack pointer: `PointerArithmetic` for any other operands.
+/// `OffsetTooLarge` if the moved offset may be more than `FARTHEST_OFFSET` bytes from 0. A range with numbers of both signs moves a pointer
+/// into a value too far: its ends are unsigned, so it contains 2^63 - 1.
 fn sum(a: Kind, b: Kind) -> Result<Kind, Reason>
     ensures { result ≡ sum_kind a b }
 {
@@ -231,13 +234,13 @@ fn is_maybe_value(kind: Kind) -> bool
     matches!(kind, Kind::MaybeValue { .. })
 }
 
-/// The kind of an operator's result, of 64 bits (`wide`) or 32, on the destination, of kind `a`, and the source, of kind `b`. A move does
-/// not read the destination, and for it `a` is the kind of the number 0. The caller has found both readable, which is not required: a
-/// 64-bit move would copy an unreadable kind, and the other operators reject it. Allowed are a 64-bit move of any value, each operator on
-/// two numbers, and 64-bit sums and differences that move a pointer into a value by a number, or a stack pointer by a number whose range
-/// has one member. `MaybeNull` if an operand of a 64-bit sum or difference is a look-up's result that may be null; `OffsetTooLarge` if the
-/// offset of the moved pointer may be more than `FARTHEST_OFFSET` from 0, or if the number, read as signed, may have either sign;
-/// `PointerArithmetic` for all other operands.
+/// The kind of the result of `op`, an operator of 64 bits (`wide`) or 32. Its first operand, the destination, is of the kind `a`, its
+/// second, the source, of the kind `b`. A move does not read the destination, and for it `a` is the kind of the number 0. The caller has
+/// found both readable, which is not required: a 64-bit move would copy an unreadable kind, and the other operators reject it. Allowed are
+/// a 64-bit move of any value, each operator on two numbers, and 64-bit sums and differences that move a pointer into a value by a number,
+/// or a stack pointer by a number whose range has one member. `MaybeNull` if an operand of a 64-bit sum or difference is a look-up's result
+/// that may be null; `OffsetTooLarge` if the offset of the moved pointer may be more than `FARTHEST_OFFSET`, 2^29 bytes, from 0, or if the
+/// number, read as signed, may have either sign; `PointerArithmetic` for all other operands.
 pub(crate) fn arithmetic(wide: bool, op: AluOp, a: Kind, b: Kind) -> Result<Kind, Reason>
     ensures { result ≡ arithmetic_kind wide op a b }
 {

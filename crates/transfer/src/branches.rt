@@ -89,11 +89,12 @@ fn compared(
     }
 }
 
-/// The edges of a comparison of two numbers of 64 bits (`wide`) or 32, `dst` in the range `a` and `src` in the range `b`. On each edge both
-/// ranges are refined; the edge is `None` only if it can't be taken. If a register is compared with itself, no range changes, and both
-/// edges count as possible (`Either`), even if the condition never or always holds. For any facts `f` before the jump, the edges are those
-/// of the definition (`edges`). `stack`, which `apply` needs, says that no stack slot changes: `KeepsStack` takes the facts before and
-/// after the comparison, and both are `f`, since only the facts on an edge get the refined ranges.
+/// The edges of a comparison of two numbers of 64 bits (`wide`) or 32: register `dst`, in the range `a`, and `src`, a register or a
+/// constant, in the range `b`. On each edge both ranges are refined; the edge is `None` only if it can't be taken. If a register is
+/// compared with itself, no range changes, and both edges count as possible (`Either`), even if the condition never or always holds.
+/// `edges`: for any facts `f` before the jump, the result has the edges, each with its facts (`edges_of`), that the definition
+/// `number_edges` gives. `stack`: the comparison changes no stack slot. `KeepsStack` takes the facts before it and after it, and both are
+/// `f`: the refined ranges are set only in the facts on an edge.
 #[inline(always)]
 fn compare_numbers(
     wide: bool,
@@ -144,11 +145,12 @@ fn is_null_test(wide: bool, condition: Condition, src: Operand) -> bool
     wide && tests_equality && src == Operand::Imm(0)
 }
 
-/// The edges of a conditional jump that compares `dst`, of the kind `a`, with `src`, of the kind `b`: 64 bits (`wide`) or 32.
-/// `PointerComparison` unless both are numbers, or `dst` is no number and this is a null test of it. The caller has rejected operands that
-/// may not be read, which the contract does not require. In the contract `f` is any facts before the jump, since they do not decide the
-/// flow: by `ok` and `refused` the result is that of the definition (`branch_edges`) with each `f`. The jump changes no stack slot:
-/// `KeepsStack` in `stack` takes the facts before and the facts after, and both are `f`.
+/// The edges of a conditional jump that compares `dst`, of the kind `a`, with `src`, of the kind `b`: all 64 bits (`wide`) or the low 32.
+/// `PointerComparison` unless both are numbers, or `dst` is no number and this is a null test of it: a comparison of 64 bits with the
+/// constant 0 for `Equal` or `NotEqual`. The caller has rejected operands that may not be read, which the contract does not require. The
+/// result has the edges, and what holds on only one of them; `edges_of` adds `f`, the facts before the jump. For any `f` the edges with
+/// their facts, or the error, are those of the definition `branch_edges` (`ok`, `refused`). The jump changes no stack slot (`stack`):
+/// `KeepsStack` takes the facts before and the facts after, and both are `f`.
 #[inline(always)]
 pub(crate) fn branch(
     wide: bool,

@@ -23,8 +23,10 @@ pub(crate) struct ShapedMap {
     shape: MapShape,
 }
 
-/// The descriptor and the shape of the map that a helper gets as its first argument, a register of this kind. The error `HelperArgument`, a
-/// reason to reject the call, if the kind is not that of a map (`MapRef`), or if its descriptor names no map in `named`.
+/// The map that is the first argument of a helper: its descriptor, and the shape that `named`, a list of descriptors and their objects, has
+/// for this descriptor. `kind` is the kind of the argument's register, which has to be that of a map (`MapRef`). The error is
+/// `HelperArgument`, a reason to reject the call, if the kind is another, or if the descriptor names no map in `named`. In the contract
+/// `shapes_named` gives the shapes of the maps in `named`, by their descriptors.
 fn argument_map(named: &[Named], kind: Kind) -> Result<ShapedMap, Reason>
     ensures { result ≡ argument_map (shapes_named named.now) kind }
 {
@@ -98,9 +100,10 @@ fn check_input(named: &[Named], facts: &Facts, count: u32, kind: Kind) -> Result
 
 /// Updates the facts for a helper's write of `length.lo` to `length.hi` bytes at an address of this kind. In the stack the first
 /// `length.lo` bytes count as written, and a spill that the first `length.hi` bytes touch is lost; in the value of a map no fact changes.
-/// `check_length` has bounded the length, so it fits in 32 bits. The errors, after which no fact has changed (`stays`): `OutsideStack` or
-/// `OutsideValue` if `length.hi` bytes don't all lie in the stack or in the value, or `named`, the open descriptors, has no map for the
-/// value's descriptor (`check_in_value`); `MaybeNull` for the result of a look-up that may be null; `HelperArgument` for any other kind.
+/// The write begins at the address itself, 0 bytes from it (the 0 of `check_in_value`). `check_length` has bounded the length, so it fits
+/// in 32 bits. The errors, after which no fact has changed (`stays`): `OutsideStack` or `OutsideValue` if `length.hi` bytes don't all lie
+/// in the stack or in the value, or `named`, the open descriptors, has no map for the value's descriptor (`check_in_value`); `MaybeNull`
+/// for the result of a look-up that may be null; `HelperArgument` for any other kind.
 fn output(facts: &mut Facts, named: &[Named], length: Range, kind: Kind) -> Result<(), Reason>
     requires { length.hi < lengths_end }
     ensures ok { OnOk result (output_facts (shapes_named named.now) facts.old length kind
@@ -118,7 +121,8 @@ fn output(facts: &mut Facts, named: &[Named], length: Range, kind: Kind) -> Resu
 }
 
 /// Checks that an argument of this kind is a number: the flags of an update, or the offset of a load of bytes. `HelperArgument` if it is
-/// none. The result is the number's range only because the definition `number_range` has it: any number is allowed, so `call` ignores it.
+/// none. `call` ignores the range of the number in `Ok`, since any number is allowed. The range is returned so that the result is that of
+/// `number_range`, by which the definition of a call's facts (`call_facts`) has this check.
 fn check_number(kind: Kind) -> Result<Range, Reason>
     ensures { result ≡ number_range kind }
 {
@@ -128,9 +132,9 @@ fn check_number(kind: Kind) -> Result<Range, Reason>
     }
 }
 
-/// The range of a length argument: how many bytes the helper `LoadBytes` writes. `LengthUnbounded` if the length may be 0, or `LENGTHS_END`
-/// or more; `HelperArgument` if the argument is no number. By `bound` each length of the range is below `LENGTHS_END`, as `output`
-/// requires, so it fits in 32 bits.
+/// The range of an argument of this kind that has to be a length: how many bytes the helper `LoadBytes` (bpf_skb_load_bytes) writes.
+/// `LengthUnbounded` if the length may be 0, or 2^29 (`LENGTHS_END`) or more; `HelperArgument` if the argument is no number. By `bound`
+/// each length of the range is below `LENGTHS_END`, and so fits in 32 bits: `output`, which updates the facts for the write, requires it.
 fn check_length(kind: Kind) -> Result<Range, Reason>
     ensures value { result ≡ length_range kind }
     ensures bound { IfOk result (λ r. r.hi < lengths_end) }
@@ -156,19 +160,22 @@ fn check_context(kind: Kind) -> Result<(), Reason>
     }
 }
 
-/// The kind of a number of which only the width is known, 64 bits (`true`): the result of each helper but a look-up.
+/// The kind of a number of which only the width is known, 64 bits (`BITS_64`): it may be any from 0 to 2^64 - 1. The result of each helper
+/// but a look-up has this kind.
 fn any_number() -> Kind
     ensures { result ≡ any_number }
 {
     Kind::Scalar(Range::full(BITS_64))
 }
 
-/// Updates the facts for a call of `helper` at `slot`; `named` lists the objects of the open descriptors. The arguments, in registers 1 to
-/// 4, are a map, a pointer to a key, and for `Update` a pointer to a value and flags; for `LoadBytes` the context, an offset in the packet,
-/// which may be any number, a pointer to room for the bytes, and their number, which is checked before the pointer. The result of a look-up
-/// has `slot` as its site; that of any other helper is any number. The error, after which the facts are unchanged, is the first that
-/// applies: `UnreadableRegister`; then for each argument `HelperArgument` for a wrong kind, `MaybeNull` for a pointer that may be null,
-/// `OutsideStack`, `PartOfSpill`, `UnwrittenStack` or `OutsideValue` for the bytes at a pointer, `LengthUnbounded` for their number.
+/// Updates the facts for a call of `helper` at `slot`, as `call_facts` defines: register 0 gets the kind of the result, and registers 1 to
+/// 5 become unreadable. The result of a look-up has `slot` as its site; that of any other helper is any number. `LoadBytes` may also change
+/// what is known of the stack bytes that it writes. `named` lists the objects of the open descriptors. The arguments, in registers 1 to 4,
+/// are a map, a pointer to a key, and for `Update` a pointer to a value and flags; for `LoadBytes` the context, an offset in the packet,
+/// which may be any number, a pointer to room for the bytes, and their number, which is checked before the pointer. The error, after which
+/// the facts are unchanged, is the first that applies: `UnreadableRegister`; then for each argument `HelperArgument` for a wrong kind,
+/// `MaybeNull` for a pointer that may be null, `OutsideStack`, `PartOfSpill`, `UnwrittenStack` or `OutsideValue` for the bytes at a
+/// pointer, `LengthUnbounded` for their number.
 pub(crate) fn call(
     facts: &mut Facts,
     named: &[Named],

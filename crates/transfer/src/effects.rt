@@ -100,11 +100,12 @@ fn stack_offset(from: i32, offset: i16) -> Result<i32, Reason>
         .ok_or(Reason::OutsideStack)
 }
 
-/// The kind of a value loaded `offset` bytes from an address of the kind `base`; a number is sign-extended (`signed`) or zero-extended.
-/// `named` lists the objects of descriptors. The error is the first that applies. In the stack: bytes not in it (`OutsideStack`), not
-/// aligned to the size (`UnalignedStack`), only some of a spill (`PartOfSpill`), or maybe unwritten (`UnwrittenStack`). In the context: not
-/// one of its four-byte words, or `signed` (`ContextAccess`). In a map's value: bytes maybe outside it (`OutsideValue`). `MaybeNull` for a
-/// look-up's result that may be null; else `NotPointer`, also if `base` is unreadable (`apply` rejects that).
+/// The kind of a value of `size` that is loaded `offset` bytes from an address of the kind `base`; a number is sign-extended (`signed`) or
+/// zero-extended. `named` lists the objects of descriptors. The error is the first that applies. In the stack: bytes not in it
+/// (`OutsideStack`), not aligned to the size (`UnalignedStack`), only some of a spill (`PartOfSpill`), or maybe unwritten
+/// (`UnwrittenStack`). In the context: not one of its four-byte words, or `signed` (`ContextAccess`). In a map's value: bytes maybe outside
+/// it (`OutsideValue`). For other kinds of `base`: `MaybeNull` for a look-up's result that may be null, `NotPointer` for a number and a
+/// map. It is `NotPointer` for an unreadable `base` too, but `apply` has rejected that before (`UnreadableRegister`).
 #[inline(always)]
 fn load(
     facts: &Facts,
@@ -132,9 +133,10 @@ fn load(
     }
 }
 
-/// Checks that a value of this kind may be stored outside the stack, in the value of a map. The error is `PointerStored` for a pointer,
-/// also one that may be null, and for a map: only the stack keeps these whole. A number passes; an unreadable value too, since the caller
-/// of `store` has rejected it before.
+/// Checks that a value of this kind may be stored in the value of a map. `store` calls this for such a store. The error is `PointerStored`
+/// for a pointer, also one that may be null, and for a map (`is_pointer`): only a stack slot keeps the kind of such a value, as a spill,
+/// and a load from a map's value gives a number. A number passes. An unreadable value passes too, but none comes here: `apply`, the only
+/// caller of `store`, has rejected it.
 fn check_stored_in_map(value: Kind) -> Result<(), Reason>
     ensures { result ≡ (if is_pointer value then Err PointerStored else Ok tt) }
 {
@@ -145,14 +147,16 @@ fn check_stored_in_map(value: Kind) -> Result<(), Reason>
     }
 }
 
-/// Updates the facts for a store of `size` of a value of the kind `value`, `offset` bytes from an address of the kind `base`, as
-/// `store_facts` defines. `apply` has found both kinds readable, which the contract does not require: if the stored value is unreadable, a
-/// store to the stack is the error `UnreadableRegister`, and one into a map is allowed. `named` lists what each open descriptor names.
-/// Returns the one stack slot that the store may change (`stack`), or `None` for a store into the value of a map, which changes no fact.
-/// The error is the first that applies, and then no fact has changed (`stays`). On the stack: the bytes are not in the stack
-/// (`OutsideStack`), they are not aligned to the size (`UnalignedStack`), or a pointer or a map is not stored by eight bytes
-/// (`PartOfSpill`). In the value of a map: the bytes may be outside (`OutsideValue`), or a pointer or a map is stored (`PointerStored`).
-/// For any other `base`: `ContextAccess` for the context, `MaybeNull` for a look-up's result that may be null, else `NotPointer`.
+/// Updates the facts for a store that writes `size` bytes of a value of the kind `value`, `offset` bytes from an address of the kind
+/// `base`. `store_facts` defines the facts afterwards (`ok`) and the error (`refused`). On the stack, a number makes the stored bytes
+/// written, and a pointer or a map is spilled. Returns the index of the stack slot of the store, 0 to 63 from the lowest, the only one that
+/// may change (`stack`); `None` for a store into the value of a map, which changes no fact. `apply` has found both kinds readable, which
+/// the contract does not require: if the stored value is unreadable, a store to the stack is the error `UnreadableRegister`, and one into a
+/// map is allowed. `named` lists what each open descriptor names. The error is the first that applies, and then no fact has changed
+/// (`stays`). On the stack: the bytes are not in the stack (`OutsideStack`), they are not aligned to the size (`UnalignedStack`), or a
+/// pointer or a map is not stored by eight bytes (`PartOfSpill`). In the value of a map: the bytes may be outside (`OutsideValue`), or a
+/// pointer or a map is stored (`PointerStored`). For any other `base`: `ContextAccess` for the context, `MaybeNull` for a look-up's result
+/// that may be null, else `NotPointer`.
 #[inline(always)]
 fn store(
     facts: &mut Facts,
@@ -200,11 +204,11 @@ fn number_or(reason: Reason, value: Kind) -> Result<(), Reason>
     }
 }
 
-/// Updates the facts for an atomic operation on `size` bytes of the stack, at `offset` from its upper end: it loads a number, and may store
-/// any number. Returns the index of its stack slot, the only one that may change (`stack`). After an error no fact has changed (`stays`).
-/// The error is the first that applies: the bytes are not in the stack (`OutsideStack`), or not aligned to the size (`UnalignedStack`);
-/// they are only some bytes of a spill, or a whole spill that is no number (`PartOfSpill`); one of them may be unwritten
-/// (`UnwrittenStack`).
+/// Updates the facts for an atomic operation on `size` bytes of the stack, at `offset` from its upper end: it loads a number, and stores
+/// one that may be any. `stack_changed` defines the facts afterwards (`ok`) and the error (`refused`). Returns the index of the stack slot
+/// with these bytes, the only one that may change (`stack`). After an error no fact has changed (`stays`). The error is the first that
+/// applies: the bytes are not in the stack (`OutsideStack`), or not aligned to the size (`UnalignedStack`); they are some or all bytes of a
+/// spill, which is a pointer or a map, and so no number (`PartOfSpill`); one of them may be unwritten (`UnwrittenStack`).
 fn change_stack(facts: &mut Facts, offset: i32, size: AccessSize) -> Result<usize, Reason>
     ensures ok { OnOk result (stack_changed facts.old offset size ≡ Ok facts.new) }
     ensures stack { IfOk result (λ slot. ChangesAtMost (Some slot) facts.old facts.new) }
@@ -293,8 +297,9 @@ fn map_of(named: &[Named], descriptor: u32) -> Result<Kind, Reason>
     }
 }
 
-/// An offset in a value, in bytes, as a signed number, since that of a pointer into a value may be negative. It is below `longest_value`,
-/// the length of the longest value (`LONGEST_VALUE`), so the cast does not change it.
+/// The offset of a byte in a value as a signed number, which is equal to it (`pos` makes a natural number an integer). A pointer into a
+/// value has a signed offset, since it may be moved to before the value. `offset` is below `longest_value`, the length in bytes of the
+/// longest value (`LONGEST_VALUE`), so the cast does not change it.
 fn signed_offset(offset: u32) -> i32
     requires { offset < longest_value }
     ensures { result ≡ pos offset }
@@ -331,10 +336,11 @@ fn assign(facts: &mut Facts, dst: Reg, kind: Kind) -> Flow
     Flow::Falls
 }
 
-/// The flow after a store or an atomic operation, which is the edges out of it and the stack slots that it may change: `WritesSlot` if it
-/// may change only the stack slot `slot`, `Falls` if it writes into a map's value and changes none (`None`). Both have only the falling
-/// edge, with the facts `f` after the instruction (`edges`). `stack`: if facts `g` after it differ from facts `f` before it at most in that
-/// stack slot (`ChangesAtMost`), the flow allows this difference (`KeepsStack`).
+/// The flow after a store or an atomic operation: which edges lead out of it, and which stack slots it may have changed. It is `WritesSlot`
+/// of `slot` if the instruction may have changed this stack slot and no other. For `None` it is `Falls`: the instruction wrote into a map's
+/// value, and changed no stack slot. `edges`: by either flow only the falling edge leads out, with the facts `f` after the instruction.
+/// `stack`: if the stack slots in the facts `g` after an instruction are those in the facts `f` before it, but for `slot` (`ChangesAtMost`;
+/// registers may differ), the flow allows that (`KeepsStack`).
 #[inline(always)]
 fn flow_after_write(slot: Option<usize>) -> Flow
     ensures edges { (f : AnyFacts) → edges_of result f ≡ edges_of Falls f }
@@ -367,10 +373,12 @@ fn operand_ranges(facts: &Facts, wide: bool, dst: Reg, src: &Operand) -> Option<
 }
 
 /// Updates the facts for an operator on the operands `dst` and `src`, of 64 bits (`wide`) or 32: `dst` gets the kind of the result, and no
-/// stack slot changes (`stack`). Then `facts` are those on the operator's only edge, to the next instruction (`ok`). The error (`refused`),
-/// after which no fact has changed (`stays`), is `UnreadableRegister` if the operator reads an operand that may not be read (a move does
-/// not read `dst`), else that of `arithmetic`: `MaybeNull`, `OffsetTooLarge` or `PointerArithmetic`. Out of line: `operate`, which is
-/// inlined, calls it only for a move of 32 bits, and for another operator with an operand that is no number.
+/// stack slot changes (`stack`). The facts on the operator's only edge, to the next instruction (`ok`), and the error (`refused`) are those
+/// of the transfer function (`operator_edges`). After an error no fact has changed (`stays`). `UnreadableRegister`: the operator reads an
+/// operand that may not be read (a move does not read `dst`). `MaybeNull`: an operand of a 64-bit sum or difference may be null.
+/// `OffsetTooLarge`: such a sum or difference may move a pointer to an offset of more than `FARTHEST_OFFSET` bytes from 0.
+/// `PointerArithmetic`: any other use of a pointer or a map that `arithmetic` does not allow. Out of line: `operate`, which is inlined,
+/// calls it only for a move of 32 bits, and for another operator with an operand that is no number.
 #[inline(never)]
 fn operate_on_any(
     facts: &mut Facts,
@@ -392,12 +400,14 @@ fn operate_on_any(
     Ok(())
 }
 
-/// Updates the facts for an operator of two operands, of 64 bits (`wide`) or 32: only the kind of `dst`, no stack slot (`stack`). The new
-/// facts, on the falling edge (`ok`), or the error (`refused`) are those of `operator_edges`; after an error no fact has changed (`stays`).
-/// It is `UnreadableRegister` if the operator reads an operand that may not be read, else that of `arithmetic`: `MaybeNull` if an operand
-/// of a 64-bit sum or difference may be null, `OffsetTooLarge` if a pointer may be moved too far, or `PointerArithmetic` if an operand is
-/// no number and the operator does not take it. Inlined are only a 64-bit move and, if both operands are numbers, any operator but a move,
-/// so that these need no call; `operate_on_any`, not inlined, does the rest.
+/// Updates the facts for an operator of two operands, of 64 bits (`wide`) or 32: `dst` gets the kind of the result, and no stack slot
+/// changes (`stack`). The new facts, on the falling edge (`ok`), or the error (`refused`) are those of `operator_edges`; after an error no
+/// fact has changed (`stays`). The error is `UnreadableRegister` if the operator reads an operand that may not be read (a move does not
+/// read `dst`), else that of `arithmetic`: `MaybeNull` if an operand of a 64-bit sum or difference may be null, `OffsetTooLarge` if a
+/// pointer's offset may become more than `FARTHEST_OFFSET` bytes from 0, or `PointerArithmetic` if the operator does not take an operand
+/// that is no number. Only a 64-bit move takes any; a 64-bit sum or difference moves a pointer into a value, or a stack pointer by one
+/// known number. Inlined are only a 64-bit move and, if both operands are numbers, any operator but a move, so that these need no call;
+/// `operate_on_any`, not inlined, does the rest.
 #[inline(always)]
 fn operate(facts: &mut Facts, wide: bool, op: AluOp, dst: Reg, src: Operand) -> Result<(), Reason>
     ensures ok { OnOk result (operator_edges wide op dst src facts.old ≡ falls facts.new) }
@@ -421,10 +431,11 @@ fn operate(facts: &mut Facts, wide: bool, op: AluOp, dst: Reg, src: Operand) -> 
     }
 }
 
-/// Updates the facts for an operator of one operand, `src`, of 64 bits (`wide`) or 32, whose result goes to `dst`: a sign extension, a
-/// negation or a conversion of byte order. After `Ok` the facts are those on the falling edge, the only one (`ok`), and no stack slot has
-/// changed (`stack`). The error is that of the definition (`refused`): `UnreadableRegister` if `src` may not be read, else
-/// `PointerArithmetic` if it is no number. Then no fact has changed (`stays`).
+/// Updates the facts for an operator of one operand, `src`, of 64 bits (`wide`) or 32: a sign extension, a negation or a conversion of byte
+/// order. `dst` gets the kind of the result, a number in the range that `op` has for the range of `src` (`of_scalar`). After `Ok` the facts
+/// are those on the falling edge, the only one (`ok`), and no stack slot has changed (`stack`). The error is that of the transfer function,
+/// `unary_edges` (`refused`): `UnreadableRegister` if `src` may not be read, else `PointerArithmetic` if it is no number. After an error no
+/// fact has changed (`stays`).
 #[inline(always)]
 fn operate_on_one(
     facts: &mut Facts,
@@ -457,9 +468,10 @@ fn exit(facts: &Facts) -> Result<(), Reason>
 }
 
 /// Applies the transfer function of `insn`, the instruction at slot `slot` of the program: `facts`, those before the instruction, become
-/// those that hold on each edge out of the instruction (`ok`). Returns these edges, with what holds on only one of them (`Flow`). In
-/// `facts` no stack slot changes but the one that `WritesSlot` names; after `Writes` any may have changed (`stack`). `named` lists the
-/// objects that descriptors name.
+/// those that hold on each edge out of the instruction. Returns a `Flow`: which edges control may take, and what holds on only one of them,
+/// for example the ranges after a comparison. By `ok` these edges with their facts (`edges_of`) are those of the definition (`effect`). Of
+/// the stack slots in `facts`, a flow `WritesSlot` names the only one that may have changed; after `Writes` any may have, after other flows
+/// none has (`stack`). `named` lists the open descriptors with their objects.
 ///
 /// # Errors
 ///

@@ -11,11 +11,12 @@ ghost use Rattle.transfer.specs.Reasons.{TransferReasons};
 ghost use Rattle.transfer.specs.Sound.{TransferIsSound, TransferKeepsWellFormed, CallsAreSound};
 
 /// A law, soundness. Take an instruction, the facts before it, well formed at its slot (`AreWellFormedAt`: ranges end below 2^64, masks of
-/// stack slots have eight bits, look-ups whose results may be null were at lower slots), and a state at this slot that they admit, with a
-/// map of each shape (`Describes`). If the transfer function allows the instruction, its step on tagged values is no fault, and the facts
-/// on the edge that it takes admit the state after it. A jump to before slot 0, which is a fault, is excluded: the transfer function does
-/// not test the target, but the rules for a program's shape do. `verifier` applies this law to each step of a run, so no run of an accepted
-/// program faults.
+/// stack slots have eight bits, look-ups whose results may be null were at lower slots), and a state at this slot. The facts describe the
+/// state (`Describes`): they admit it, its bytes are below 256, its eleven context words are below 2^32, and each descriptor for which the
+/// transfer function is given a shape has a map of this shape. If the transfer function allows the instruction, its step on tagged values
+/// is no fault: the facts on the edge that it takes admit the state after it, or the run ends with a result of 32 bits. A jump to before
+/// slot 0, which is a fault, is excluded: the transfer function does not test the target, but the rules for a program's shape do.
+/// `verifier` applies this law to each step of a run, so no run of an accepted program faults.
 pub fn transfer_is_sound()
     ensures { TransferIsSound }
 {

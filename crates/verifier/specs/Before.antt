@@ -14,10 +14,11 @@ use Rattle.transfer.specs.Branches.{Edges}
 use Rattle.transfer.specs.Effects.{effect}
 use Rattle.verifier.specs.Shape.{falls_into, jumps_into}
 
--- the facts before a slot that two sources of facts give together; a source is an edge, a group of
--- edges, or the entry of the program. The arguments are what each source gives: None if no edge of
--- the source leads to the slot and can be taken, and from the entry if the slot is not slot 0. If
--- one is None, the result is the other; if both have facts, it is their join (`facts_join`)
+-- the facts before a slot by two sources together. A source is some edges of the program, its entry
+-- (which leads only to slot 0), or both. Each argument has the facts that one source brings to the
+-- slot: None if the source has no edge that leads to the slot and can be taken, and no entry that
+-- leads there. If one is None, the result is the other; if both have facts, it is their join
+-- (`facts_join`)
 abbrev pub joined : Option Facts → Option Facts → Option Facts
 joined None g = g
 joined (Some f) None = Some f

@@ -17,10 +17,10 @@ use Rattle.verifier.specs.Verdict.{IsAccepted, IsRefused}
 
 -- the number of the cause for which slots are rejected. The reply to a rejected PROG_LOAD and the
 -- line of a refusal (`refusal_text`) have it. If the slots are no program (`Slots`), it is 100 plus
--- the number of `kind`, the fault that the codec finds (`fault_number`): the reply to a load never
--- has that of `Memory`, but the error out of memory. If they are a program that is not accepted
--- (`Verdict`), it is the number of `reason`, for which the verifier rejects it. That is below 100,
--- so a number has only one cause
+-- the number of `kind`, the fault that the codec finds (`fault_number`). If they are a program that
+-- is not accepted (`Verdict`), it is the number of `reason`, for which the verifier rejects it.
+-- That is below 100, so a number has only one cause. The reply to a load never has 108, for
+-- `Memory` of the codec: out of memory is the error NoMemory, without the number of a cause
 abbrev pub cause_number : Cause → ℕ
 cause_number (Slots kind) = 100 + fault_number kind
 cause_number (Verdict reason) = number reason

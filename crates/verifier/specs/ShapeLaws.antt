@@ -15,7 +15,9 @@ use Rattle.verifier.specs.Shape.{leads_outside, leads_backward, is_reachable, ca
 use Rattle.verifier.specs.Shape.{is_not_map, lacks_value, first_reason, shape_reason, shape_reason_at, structure_fault}
 use Rattle.verifier.specs.Verdict.{HasNoFault}
 
--- an option that has a reason is not None
+-- an option that has a reason (`Reason`, the rule that a program breaks) is not None: so e, an
+-- equation of the two, is impossible (⊥). By this `passed` excludes that the condition of a list's
+-- first item is true
 no_reason : (reason : Reason) → Some reason ≡ None → ⊥
 no_reason reason e = cc
 

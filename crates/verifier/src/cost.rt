@@ -59,8 +59,9 @@ impl Counts {
         }
     }
 
-    /// The counts with one more instruction, which names `reference`: one more call, too, if that is a helper. Neither count of `self` is
-    /// above `MAX_SLOTS`, the most instructions of a path, so 16 bits suffice.
+    /// The counts of the paths through one more instruction. `self` has the most instructions, and the most calls of helpers, on the paths
+    /// that lead to it, and `reference` is what it names. The number of instructions grows by one; that of calls grows by one only if
+    /// `reference` is a helper. Neither count of `self` is above `MAX_SLOTS`, the most instructions of a path, so both sums fit in 16 bits.
     #[inline(always)]
     pub(crate) fn with(self, reference: Reference) -> Counts
         requires instructions { self.instructions ≤ MAX_SLOTS }
@@ -131,10 +132,10 @@ impl Paths {
         }
     }
 
-    /// Whether a path from slot 0 leads to `slot`, the slot at which the pass is: `Paths` does not store it. The path to slot 0 has no
-    /// instruction; on any other, `here` counts at least one (`have_instructions`). Paths that end with a jump to `slot` are in `here`
-    /// only once `join` has been called. That the result is `is_reachable` of `slot` is no clause here, but a precondition of the caller
-    /// (`LeadTo`).
+    /// Whether a path from slot 0 leads to `slot`, the slot at which the pass over the program's slots is; `Paths` does not store its
+    /// number. `here` has the most instructions on the paths to this slot, without the instruction at it: 0 at slot 0, or if there is no
+    /// path, else at least 1 (`have_instructions`). Paths that end with a jump to `slot` are in `here` only once `join` has been called.
+    /// That the result is `is_reachable` of `slot` is no clause here, but a precondition of the caller, `check_and_count` (`LeadTo`).
     #[inline(always)]
     pub(crate) fn lead_to(&self, slot: usize) -> bool
         ensures { result ≡ (nat_lt 0 self.now.here.instructions || slot == 0) }
@@ -142,10 +143,11 @@ impl Paths {
         self.have_instructions() || slot == 0
     }
 
-    /// Whether a path with at least one instruction leads to the slot at which the pass is; the instruction at that slot is not counted. By
-    /// the clause the most instructions on a path there (`here`) are more than 0. A path that ends with a jump to this slot counts only
-    /// after the call of `join`. `false` at slot 0: the only path there has no instruction. `is_simple` takes this as the test that the
-    /// instruction can be reached, without the slot's number. Slot 0 so gets all checks, among them `lead_to`, which is true there.
+    /// Whether a path with at least one instruction leads to the slot that the pass has reached; the instruction at this slot is not
+    /// counted. `here` has the most instructions on a path to the slot: by the clause the result is whether this number is above 0. Paths
+    /// that end with a jump to the slot are in `here` only once `join` has been called. The result is `false` at slot 0: the only path
+    /// there has no instruction. `is_simple`, which is not given the slot's number, tests by it that the instruction can be reached. So the
+    /// instruction at slot 0 is not simple, and gets all checks of shape, among them `lead_to`, which is true there.
     #[inline(always)]
     pub(crate) fn have_instructions(&self) -> bool
         ensures { result ≡ nat_lt 0 self.now.here.instructions }
@@ -153,10 +155,11 @@ impl Paths {
         self.here.instructions > 0
     }
 
-    /// Adds a simple instruction, one that is no call and whose only successor is the next one, to the paths that lead to it: `here`, their
-    /// counts, has one instruction more and as many calls as before, and `ended`, the counts of the paths to the exits, is unchanged.
-    /// `add`, for any other instruction, tests more. By the precondition the paths have at most `MAX_SLOTS` instructions, so the count, of
-    /// 16 bits, does not overflow.
+    /// Adds a simple instruction, one that names no helper and no descriptor and whose only successor is the next one, to the paths from
+    /// slot 0 that lead to it. `here` has the most instructions, and the most calls of helpers, on such a path. The first becomes one more;
+    /// the second is unchanged, since a simple instruction is no call. `ended`, the most on the paths to the exits, is unchanged. `add`
+    /// takes any instruction, but tests more. By the precondition `here` has at most `MAX_SLOTS` instructions, so its count, of 16 bits,
+    /// does not overflow.
     #[inline(always)]
     pub(crate) fn add_simple(&mut self)
         requires { self.old.here.instructions ≤ MAX_SLOTS }
@@ -167,13 +170,14 @@ impl Paths {
         self.here.instructions += 1;
     }
 
-    /// Adds `insn`, the instruction at `slot`, to the paths on which control reaches this slot (`here`). The new counts have one
-    /// instruction more than `here`, and one call more if `insn` calls a helper. If it may jump, they are joined into the counts at its
-    /// target in `jumping`: of each count the greater one is kept. If it is an exit, they are joined so into the counts at the exits
-    /// (`ended`). Then `here` has the counts along the falling edge: the new ones, or `NO_COUNTS` if there is no such edge (`IsAdded`).
-    /// `row` is the profile of `insn`; only the contract needs `insn`. By `room` the number of the next slot does not overflow. By `lands`
-    /// the target is a slot of the program: the caller has found no fault in the instruction. By `few` neither count of `here` is above
-    /// `MAX_SLOTS`, so no new one overflows.
+    /// Adds `insn`, the instruction at `slot`, to the paths that lead to this slot. `here` has their counts: the most instructions, and the
+    /// most calls of helpers, on any of them. The new counts have one instruction more, and one call more if `insn` calls a helper. If
+    /// `insn` may jump, they are joined into the counts that `jumping` has for its target: of each count the greater one is kept. If it is
+    /// an exit, they are joined in the same way into the counts at the exits (`ended`). Then `here` has the counts along the falling edge:
+    /// the new ones, or `NO_COUNTS`, both 0, if there is no such edge (`IsAdded`). `row` is the profile of `insn`, its properties: what it
+    /// reads, writes and names, and its successors. Only the contract needs `insn`. By `room` the number of the next slot does not
+    /// overflow. By `lands` the target is an index of `jumping`: the caller has found no fault in the instruction. By `few` neither count
+    /// of `here` is above `MAX_SLOTS`, so no new one overflows its 16 bits.
     #[inline(always)]
     pub(crate) fn add(&mut self, jumping: &mut [Counts], insn: &Insn, row: &Profile, slot: usize)
         requires room { slot ≤ MAX_SLOTS }

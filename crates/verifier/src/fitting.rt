@@ -43,8 +43,9 @@ fn is_same(one: Option<MapShape>, other: Option<MapShape>) -> bool
 
 impl Verified {
     /// Whether `shape` is the shape that the map of descriptor `fd` had when the program was accepted (`shapes_in`). That shape is `None`
-    /// if the program loads neither a map nor an address in a map's value by `fd`. The functions `fits`, here and in `tenant`, pass the
-    /// shape of the map that `fd` names now: if the shapes of all maps of the program are those of then, it is not verified again.
+    /// if the program loads neither a map nor an address in a map's value by `fd`. `Verified::fits` and `Tenant::fits` pass the shape of
+    /// the map that `fd` names now, or `None` if it names no map. If the result is true for each descriptor of the program's maps, the
+    /// program is not verified again.
     pub fn has_shape(&self, fd: u32, shape: Option<MapShape>) -> bool
         ensures { IsTrue result ↔ shape ≡ shapes_in self.now fd }
     {

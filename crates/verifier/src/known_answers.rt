@@ -53,9 +53,11 @@ impl Watcher for Notes {
     }
 }
 
-/// The slots of an accepted program that a run may reach, each once, in order, and with the facts before its instruction: the list
-/// `reached` of the slots below the program's number of slots (`slot_count`). `named` lists what descriptors name. The error is why the
-/// program is rejected, or out of memory. This shows that the contract of `verify_watched` determines what a watcher receives.
+/// Verifies a program with the open descriptors `named`, and returns what `verify_watched` passes to a watcher if the program is accepted:
+/// each slot that a run may reach, in order, with the facts before its instruction. The contract lists them by `reached`, with the shapes
+/// of the maps that the program names (`shapes_of`), for the slots below the program's number of slots (`slot_count`). The error is why the
+/// program is rejected, or out of memory. Nothing calls this function; its proof shows that the contract of `verify_watched` determines
+/// what a watcher receives.
 fn all_notes(
     alloc: Global,
     program: &Program,

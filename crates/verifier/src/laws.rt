@@ -58,9 +58,10 @@ pub fn safety_follows_shape()
     transfer::laws::transfer_reasons();
 }
 
-/// A law: each descriptor by which an accepted program loads a map, or a value of a map, names a map, and so has a shape. By `named` the
-/// list of open descriptors with which the program was accepted gives this shape. By `kept` so does the part of that list that is kept with
-/// the program, the objects of its maps (`shapes_of`). A load (`loaded` of `tenant`) needs the law to find each of these maps.
+/// A law: each descriptor by which an accepted program loads a map, or an address in a map's first value, names a map, and so has a shape.
+/// `named`: the list of open descriptors and their objects with which the program was accepted gives this shape. `kept`: so does the list
+/// that is kept with the program, which has only the items of that list for the program's own maps (`shapes_of`). A load (`loaded` of
+/// `tenant`) needs the law to find each of these maps.
 pub fn loaded_maps_have_shapes()
     ensures { LoadedMapsHaveShapes }
 {}
@@ -90,10 +91,10 @@ pub fn step_is_sound()
     transfer::laws::transfer_keeps_well_formed();
 }
 
-/// A law: in an accepted program, if the facts before a state's slot describe the state by some witness (`IsAdmitted`), its step is no
-/// fault. Then either the run ends with a result of 32 bits, or the next state is at a later slot, and the facts before that slot describe
-/// it. So the law can be applied to step after step: by it no run of an accepted program faults. The body calls the laws from which it
-/// follows.
+/// A law, for an accepted program: if the facts before a state's slot describe the state (`IsAdmitted`), its step is no fault. Facts
+/// describe a state if they admit it by some witness, its numbers are in range, and each descriptor of the program's maps has a map of its
+/// shape. After the step either the run has ended with a result of 32 bits, or the next state is at a later slot, and the facts before that
+/// slot describe it. `accepted_programs_never_fault` applies this to one step after another. The body calls the laws from which it follows.
 pub fn steps_go_on()
     ensures { StepsGoOn }
 {
@@ -102,7 +103,10 @@ pub fn steps_go_on()
     abstraction::laws::join_admits();
 }
 
-/// A law: no run of an accepted program faults, on maps of the shapes with which it is accepted.
+/// A law: no run of an accepted program faults, that is, its outcome on tagged values is never `Fault`. The run may be on any maps of the
+/// shapes with which the program is accepted, and on any context and packet. It begins in a state that the facts before its slot describe,
+/// and by `steps_go_on` each step from such a state ends the run without a fault, or leads to another one. `Verified::never_faults` is this
+/// law for one accepted program.
 pub fn accepted_programs_never_fault()
     ensures { NeverFaults }
 {
@@ -110,8 +114,8 @@ pub fn accepted_programs_never_fault()
 }
 
 /// A law: a run of an accepted program executes a path, one instruction in each step, on maps of the shapes with which the program is
-/// accepted, and on any context and packet. The path begins at slot 0, follows edges between instructions, and ends at an exit. No path has
-/// more instructions, or more calls of helpers, than the cost of the program, so no run executes more.
+/// accepted, and on any context and packet. The path begins at slot 0, follows edges between instructions, and ends at an exit. The cost of
+/// the program is the most instructions, and the most calls of helpers, that such a path has, so no run executes more of either.
 pub fn accepted_runs_are_paths()
     ensures { AcceptedRunsArePaths }
 {

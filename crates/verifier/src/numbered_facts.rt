@@ -22,9 +22,10 @@ pub(crate) struct NumberedFacts {
 }
 
 impl NumberedFacts {
-    /// The facts at program entry, with which a pass over a program begins. Each group of eight stack slots has number 1. A group that
-    /// changes later in the pass gets a number above 1, so two groups with one index and number 1 are both unchanged since program entry,
-    /// and so equal. `includes` is 0 for each group, since no group has been joined into it.
+    /// The facts at program entry, with which a pass over a program begins. Each group of eight stack slots has number 1. Groups with one
+    /// index and one number have to be equal in all facts of a pass, so that a join that would change nothing is recognized by the numbers,
+    /// and left out. A group that changes later in the pass gets a number above 1, so groups with number 1 are unchanged since program
+    /// entry. `includes`, the number of the group that was joined last into each group, is 0, since none has been.
     pub(crate) fn at_entry() -> NumberedFacts
         ensures { result ≡ at_entry }
     {
@@ -59,12 +60,13 @@ impl NumberedFacts {
         self.includes[group] = 0;
     }
 
-    /// Gives the new number `fresh` to each group of eight stack slots into which an instruction with this flow may have written: for
-    /// `WritesSlot` the group of that stack slot, one of the 64 (`IsInStack`), for `Writes` all groups. Groups with one index and one
-    /// number have to be equal in all facts of a pass. The group's `includes`, the number of the group that was joined into it last,
-    /// becomes 0: none has been joined into it since the write. No clause requires that `fresh` is new: the only caller passes 8 * n + 3
-    /// for the instruction at slot n, which no other change of a group gives. Other flows change nothing (`writes_renumbered`); a null test
-    /// changes the stack only on its edges, for which `leave_null_test` gives new numbers.
+    /// Gives the new number `fresh` to each group of eight stack slots into which an instruction may have written. `flow` has the edges
+    /// after the instruction, and which stack slots it may have changed: for `WritesSlot` only that one, of 64 (`IsInStack`), so its group
+    /// gets the number; for `Writes` any, so all groups get it. For any other flow nothing changes (`writes_renumbered`); a null test
+    /// changes the stack only on its edges, for which `leave_null_test` gives new numbers. In all facts of a pass, groups with the same
+    /// index and the same number have to be equal. No clause requires that `fresh` is new: the only caller passes 8 * n + 3 for the
+    /// instruction at slot n, which no other change of a group gives. The group's `includes`, the number of the group that was joined into
+    /// it last, becomes 0: none has been joined into it since the write.
     #[inline(always)]
     pub(crate) fn renumber_written(&mut self, flow: &Flow, fresh: usize)
         requires { IsInStack flow.now }
@@ -83,11 +85,11 @@ impl NumberedFacts {
     }
 
     /// Joins the group of eight stack slots of index `group` in `edge`, the facts on another edge to the same instruction, into the group
-    /// of this index in `self`. If the join may change the latter, it gets the new number `fresh`: groups with one index and one number
-    /// have to be equal in all facts of a pass. In any case this group then has in `includes` the number of the group in `edge`, by which
-    /// the only caller, `join_stack_group`, leaves out a second join with that group, since it would change nothing. The caller is inlined,
-    /// and this function is not, so that the loop of `join` has only the caller's test. The contract is that of the caller, so it also
-    /// allows to leave out such a join.
+    /// of this index in `self`. The registers and the other groups in `self` are unchanged (`IsGroupJoin`). If the join may change the
+    /// group, it gets the new number `fresh`: groups with one index and one number have to be equal in all facts of a pass. In any case its
+    /// `includes` becomes the number of the group in `edge`. By `includes` the only caller, `join_stack_group`, leaves out a second join
+    /// with that group, which would change nothing. The caller is inlined, and this function is not, so that the loop of `join` contains
+    /// only the caller's test. The contract is that of the caller, so it also allows a join that is left out.
     #[inline(never)]
     fn join_other_group(&mut self, edge: &NumberedFacts, fresh: usize, group: usize)
         requires { group < stack_groups }
@@ -99,11 +101,12 @@ impl NumberedFacts {
         self.includes[group] = edge.numbers[group];
     }
 
-    /// Joins the group of eight stack slots of index `group` in `edge`, the facts on another edge, into the group of this index in `self`.
-    /// If the join changes the group in `self`, that group gets the new number `fresh`. Its `includes` is the number of the group that was
-    /// last joined into it since it was written, or 0, which is no group's number. If the group in `edge` has this number, it equals the
-    /// group that was joined then, so a second join would change nothing, and is left out. By `IsGroupJoin` the registers and the other
-    /// groups in `self` are unchanged.
+    /// Joins the group of eight stack slots of index `group` in `edge`, the facts on another edge to the same instruction, into the group
+    /// of this index in `self`. If the join changes the latter, it gets the number `fresh`, which is new in the pass: two groups with one
+    /// index and one number have to be equal in all facts of a pass. `self.includes[group]` is the number of the group that was joined last
+    /// into that of `self`, or 0 if none was since that was written; no group has number 0. If the group in `edge` has this number, it
+    /// equals the group that was joined then, so a second join would change nothing, and is left out. By `IsGroupJoin` the registers and
+    /// the other groups in `self` are unchanged.
     #[inline(always)]
     fn join_stack_group(&mut self, edge: &NumberedFacts, fresh: usize, group: usize)
         requires { group < stack_groups }
@@ -116,8 +119,9 @@ impl NumberedFacts {
 
     /// Joins `edge`, the facts on another edge to the same instruction, into these (`IsJoin`): the kind of each register, and each group of
     /// eight stack slots. Each group that the join changes gets the new number `fresh`, since groups of one index and one number have to be
-    /// equal in all facts of a pass. A group of `edge` is left out if it has the number in `includes`, that of the group that was joined
-    /// last into the one of its index here: it equals that group, and a second join with it would change nothing.
+    /// equal in all facts of a pass. For each group of these facts, `includes` has the number of the group that was joined into it last. If
+    /// the group of this index in `edge` has this number, it equals the group that was joined then. So a second join would change nothing,
+    /// and is left out.
     pub(crate) fn join(&mut self, edge: &NumberedFacts, fresh: usize)
         ensures { IsJoin fresh self.old edge.now self.new }
     {

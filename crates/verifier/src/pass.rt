@@ -45,10 +45,11 @@ pub(crate) struct Pass {
 /// Passes the facts in `hand`, those before a comparison of `dst` with `src`, along its jumping edge. `jumps` has the ranges of `dst` and
 /// of `src` on this edge; if it is `None`, the edge can't be taken, and nothing is done. Else the operands in `hand` get these ranges, and
 /// `hand` is joined into the facts that `entries` has for the slot `target` (`sent`). Each group of eight stack slots that the join changes
-/// there gets the new number `fresh`. `target` is below `MAX_SLOTS` (`lands`), as each slot of a program. `None` is a jump to below slot 0,
-/// a fault of the program's shape, which a program in the pass does not have; nothing is joined then. By the clause `hand` only the ranges
-/// of the operands have changed in `hand`: with any ranges `q` for them it is as it was with `q`. The caller then sets those of the falling
-/// edge. The error is out of memory.
+/// there gets the number `fresh`, which is new in the pass: groups with one index and one number have equal facts (`NumberedFacts`), so a
+/// later join that would change nothing is recognized. `target` is below `MAX_SLOTS` (`lands`), as each slot of a program. `None` is a jump
+/// to below slot 0, a fault of the program's shape, which a program in the pass does not have; nothing is joined then. By the clause `hand`
+/// only the ranges of the operands have changed in `hand`: once they are set to any pair `q` (`with_ranges`), the facts are the same as if
+/// `q` had been set before the call. The caller then sets those of the falling edge. The error is out of memory.
 #[inline(always)]
 fn send_compared(
     hand: &mut NumberedFacts,
@@ -81,12 +82,13 @@ struct Compared {
     src: Operand,
 }
 
-/// Passes the facts in `hand`, those before a jump that compares the operands `compared`, along the two edges of the jump. The parameters
-/// `falls` and `jumps` are for the falling and the jumping edge: `None` if the edge can't be taken, else the range of `dst` on it and then
-/// that of `src`. The facts on an edge are those before the jump with these ranges (`with_ranges`). Those on the jumping edge are joined
-/// into the facts that `entries` has for `target` (clause `sent`); nothing is joined if the edge can't be taken, or if `target` is `None`,
-/// for a jump to below slot 0. Each group of eight stack slots that the join changes gets the new number `fresh`. `target` is a slot of the
-/// program, so below `MAX_SLOTS` (`lands`). Returns whether the falling edge can be taken (clause `falls`): if so, `hand` then has the
+/// Passes the facts in `hand`, those before a jump that compares the operands `compared`, along the two edges of the jump. `falls` and
+/// `jumps` are for the falling and the jumping edge: `None` if the edge can't be taken, else the range of `dst` on it and then that of
+/// `src`. The facts on an edge are those before the jump with these ranges (`with_ranges`). Those on the jumping edge are joined into the
+/// facts that `entries` has for `target` (clause `sent`); nothing is joined if the edge can't be taken, or if `target` is `None`, for a
+/// jump to below slot 0. Each group of eight stack slots that the join changes gets the number `fresh`, which is new in the pass: two
+/// groups with one index and one number are equal, so a join that would change nothing is recognized by the numbers. `target` is a slot of
+/// the program, so below `MAX_SLOTS` (`lands`). Returns whether the falling edge can be taken (clause `falls`): if so, `hand` then has the
 /// facts on it; if not, nothing is promised of `hand`. The error is out of memory.
 #[inline(always)]
 fn leave_comparison(
@@ -121,8 +123,9 @@ fn leave_comparison(
 /// on the falling edge (`falls`). Those on the jumping edge are made in `taken`, a buffer whose old facts mean nothing, and joined into the
 /// facts that `entries` has for `target` (`sent`); for `None`, a jump to below slot 0, nothing is joined. A target is a slot of the program
 /// (`lands`), since the program's shape has no fault. A null test may change any group of eight stack slots, so all get a new number:
-/// `8 * slot + 4` on the jumping edge, `+ 5` on the falling edge. Groups that the join changes at the target get `+ 6`. The error is out of
-/// memory.
+/// `8 * slot + 4` on the jumping edge, `+ 5` on the falling edge. Groups that the join changes at the target get `+ 6`. In all facts of a
+/// pass, groups with one index and one number are equal: by this a later join that would change nothing is recognized, and left out. The
+/// error is out of memory.
 fn leave_null_test(
     hand: &mut NumberedFacts,
     entries: &mut TargetFacts,
@@ -144,13 +147,14 @@ fn leave_null_test(
     entries.send(target, taken, 8 * slot + 6)
 }
 
-/// Passes `hand`, the facts after the instruction at `slot`, along the edges of its `flow`, which adds what holds on only one edge.
-/// Afterwards `hand` has the facts on the falling edge (`falls`). Returns whether this edge can be taken: `false` after an exit, a jump
-/// that is always taken, and a comparison that always holds; `hand` means nothing then. The facts on the jumping edge are joined into those
-/// that `entries` has for `target` (`sent`); nothing is joined if `target` is `None` or this edge is never taken. `target` is a slot of the
-/// program, so below `MAX_SLOTS` (`lands`), as the program's shape has no fault. `taken` is space for the facts on the jumping edge of a
-/// null test. Groups of eight stack slots get new numbers: `8 * slot + 4` on the jumping and `+ 5` on the falling edge of a null test,
-/// `+ 6` by a join at `target`. By `room` these do not overflow. The error is out of memory.
+/// Passes `hand`, the facts after the instruction at `slot`, along its edges. `flow` says which of them control may take, and what holds on
+/// only one. Returns whether the falling edge can be taken: `false` after an exit, a jump that is always taken, and a comparison that
+/// always holds. Afterwards `hand` has the facts on this edge (`falls`), or means nothing if the result is `false`. The facts on the
+/// jumping edge are joined into those that `entries` has for `target` (`sent`); nothing is joined if `target` is `None` or this edge is
+/// never taken. `target` is a slot of the program, so below `MAX_SLOTS` (`lands`), as the program's shape has no fault. `taken` is space
+/// for the facts on the jumping edge of a null test. Groups of eight stack slots that may change get new numbers, by which a join that
+/// would change nothing is recognized (`NumberedFacts`): `8 * slot + 4` on the jumping and `+ 5` on the falling edge of a null test, `+ 6`
+/// by a join at `target`. By `room` these do not overflow. The error is out of memory.
 #[inline(always)]
 fn leave_by(
     hand: &mut NumberedFacts,
@@ -203,8 +207,9 @@ fn leave_by(
 /// only one. At the call `hand` has the facts after the instruction. Afterwards it has those on the falling edge, if the result is `true`;
 /// if `false`, this edge can't be taken, and `hand` means nothing (`falls`). The facts on the jumping edge are joined into those that
 /// `entries` has for the jump's target (`sent`), a slot of the program, as the program's shape has no fault (`lands`). `taken` is space for
-/// the facts on the jumping edge of a null test. Groups of eight stack slots get new numbers: `8 * slot + 4` on the jumping and `+ 5` on
-/// the falling edge of a null test, `+ 6` if the join at the target changes them. A flow that has only the falling edge needs no target, so
+/// the facts on the jumping edge of a null test. Each group of eight stack slots has a number that identifies what is known of it, so that
+/// a repeated join is left out (`NumberedFacts`). New numbers are `8 * slot + 4` for all groups on the jumping and `+ 5` on the falling
+/// edge of a null test, and `+ 6` for those that the join at the target changes. A flow that has only the falling edge needs no target, so
 /// none is computed. The error is out of memory.
 #[inline(always)]
 fn leave(
@@ -239,10 +244,12 @@ fn leave(
 
 /// Passes the facts before the instruction at `slot`, which are in `hand`, to the watcher, and then changes `hand`, by the transfer
 /// function (`apply`), to the facts on the falling edge. The facts on the jumping edge, if it can be taken, are joined into those that
-/// `entries` has for the jump's target, a slot of the program (`lands`). Both changes are in `past`. `taken` is space for the facts on the
-/// jumping edge of a null test, and `named` lists the objects that descriptors name. Returns whether the falling edge can be taken; if not,
-/// nothing is promised of `hand`. Without an error the instruction may be run with the facts before it (`ok`), and the watcher has received
-/// these (`seen`). The error (`refused`) is why the instruction may not be run, after the watcher has received the facts, or out of memory,
+/// `entries` has for the jump's target, a slot of the program (`lands`). Both changes are in `past`. Groups of eight stack slots into which
+/// the instruction may have written get the new number `8 * slot + 3`: groups with one index and one number have to be equal in all facts
+/// of a pass. `leave` gives further numbers on the edges. By `room` none overflows. `taken` is space for the facts on the jumping edge of a
+/// null test, and `named` lists the objects that descriptors name. Returns whether the falling edge can be taken; if not, nothing is
+/// promised of `hand`. Without an error the instruction may be run with the facts before it (`ok`), and the watcher has received these
+/// (`seen`). The error (`refused`) is why the instruction may not be run, after the watcher has received the facts, or out of memory,
 /// whether it has received them or not.
 #[inline(always)]
 fn run_past<W: Watcher>(
@@ -309,14 +316,15 @@ impl Pass {
         self.entries.clear();
     }
 
-    /// Takes the pass past `insn`, the instruction at `slot`, after `step` has joined the facts on the jumps there. At the call `falling`
-    /// has the facts before the instruction. If it has none, no run reaches the instruction, and nothing is done. Otherwise the watcher
-    /// gets them (`seen`). Then `falling` has the facts on the falling edge, or none if this edge can't be taken, and those on the jumping
-    /// edge, if there is one, are joined into those that `entries` has for the target (`past`), a slot of the program, as the shape has no
-    /// fault (`lands`). `taken` is space for the facts on the jumping edge of a null test; no clause is about it. `Ok` means that the
-    /// instruction may be run with the facts before it (`ok`). The error (`refused`) is why it may not, after the watcher got the facts
-    /// (`SeesFault`), or out of memory, before or after that (`StopsWatching`). `named` has the program's maps. By `room` the new numbers
-    /// of groups of stack slots, at most `8 * slot + 6`, don't overflow.
+    /// Takes the pass past `insn`, the instruction at `slot`. Before, `step` has joined the facts on the jumps to `slot` into `falling`, so
+    /// `falling` has those before the instruction. If it has none, no run reaches the instruction, and nothing is done. Otherwise the
+    /// watcher gets these facts (`seen`). Then `falling` has the facts on the falling edge, or none if this edge can't be taken. Those on
+    /// the jumping edge, if it can be taken, are joined into those that `entries` has for the jump's target (`past`), a slot of the
+    /// program, as its shape has no fault (`lands`). `taken` is space for the facts on the jumping edge of a null test; no clause is about
+    /// it. `Ok`: the instruction may be run with the facts before it (`ok`). The error (`refused`) is why it may not, after the watcher got
+    /// the facts (`SeesFault`), or out of memory, whether the watcher got them or not (`StopsWatching`). `named` has the program's maps.
+    /// Each group of eight stack slots that changes gets a new number, at most `8 * slot + 6`, by which a join finds equal groups. By
+    /// `room` the number does not overflow.
     #[inline(always)]
     fn run_past_if_reached<W: Watcher>(
         &mut self,
@@ -356,10 +364,12 @@ impl Pass {
     /// facts on the falling edge to `slot`. Then `run_past_if_reached` passes the joined facts (`arriving_at`) to the watcher (`seen`),
     /// leaves the facts on the falling edge out of `insn` in `falling`, and joins those on the jumping edge into the facts that `entries`
     /// has for the jump's target, a slot of the program (`lands`); those of no other later slot change (`sent`). Without joined facts no
-    /// run reaches `insn`, and nothing is done. If there is no error, `insn` may be run with the joined facts (`ok`). The error is why it
-    /// may not, or out of memory; by `refused` the watcher has the joined facts then too, but perhaps not if out of memory. `named` has the
-    /// program's maps. The proof needs `absorb` and `numbered`, which holds again for the next slot: by them, a join of `NumberedFacts`
-    /// leaves out only joins of stack slots that would change nothing.
+    /// run reaches `insn`, and nothing is done. If there is no error, `insn` may be run with the joined facts (`ok`). The error (`refused`)
+    /// is why it may not, after the watcher got the joined facts, or out of memory, before or after that. `named` has the program's maps.
+    /// By `numbered`, groups of eight stack slots with one index and one number are equal in all these facts (`NumberedFacts`), and all
+    /// numbers are below `8 * slot + 2`. So the numbers that this step gives, from that one on, are new. They are below the bound of the
+    /// next slot, for which the clause holds again. By the numbers, a join leaves out a group if it was the last one joined; by `absorb` a
+    /// second join with it would change nothing.
     fn step<W: Watcher>(
         &mut self,
         named: &[Named],
@@ -392,11 +402,13 @@ impl Pass {
     }
 }
 
-/// Finds the first instruction that may not be run with the facts before it, in one pass over the slots; `Ok` if there is none (`sound`).
-/// The error is its slot and why, or out of memory. `named` has the program's maps, and `pass` is memory for the facts. Nothing is done at
-/// the second slot of a wide instruction. The watcher receives, in addition to what it had (`W.seen`), the facts before instructions that a
-/// run may reach: before all of them if the result is `Ok` (`seen`), else before those up to and with the one that the error names or, if
-/// out of memory, before those below some slot (`refused`). No jump leads past the end (`JumpsLand`), as the caller has checked the shape.
+/// Finds the first instruction that may not be run with the facts before it, in one pass over the slots. `Ok` if there is none, so no slot
+/// has a fault of safety (`sound`). The error is the slot of this instruction with the reason, or out of memory, at slot 0. `named` has the
+/// objects that the descriptors of the program's maps name, and `pass` is memory for the facts. No instruction begins at the second slot of
+/// a wide one, so nothing is done there. The watcher receives the facts before each instruction that a run may reach, by slot, in addition
+/// to what it had (`W.seen`). After `Ok` it has received all of them (`seen`); after a fault those up to the slot of the fault, with this
+/// one; if out of memory, those below some slot (`refused`). No jump leads past the end (`JumpsLand`): the caller has checked the shape.
+/// The three laws do nothing when they run; the proof needs them.
 pub(crate) fn check_safety<W: Watcher>(
     program: &Program,
     named: &[Named],

@@ -59,8 +59,8 @@ impl From<VerifyFault> for Refusal {
 
     ghost from_gives = { λ fault refusal. refusal ≡ refusal_of_program fault };
 
-    /// The refusal of slots that are a program which breaks a rule. It has the slot of the verifier's fault; its cause is the fault's
-    /// reason (`Verdict`).
+    /// The refusal of slots that decode to a program, if this program breaks a rule of the verifier. Its slot is that of the verifier's
+    /// fault, and its cause is the fault's reason (`Verdict`).
     fn from(fault: VerifyFault) -> Refusal {
         Refusal {
             slot: fault.slot,
@@ -75,9 +75,10 @@ impl fmt::Display for Refusal {
 
     ghost output = { λ refusal. Some (refusal_text refusal) };
 
-    /// Writes the line that `verify` and the log write for a rejection, without its line feed. `slot` is the first slot of the instruction
-    /// at fault (the field `slot` also has the cases without one). `number` is the number of the cause: below 100 for a rule that the
-    /// program breaks, and above 100 for slots that are no program.
+    /// Writes the line that `verify` and the verifier's log write for a rejection, without its line feed. `slot` is the first slot of the
+    /// instruction at fault. If there is no slot, it is 0; if the bytes end within a slot, the number of whole slots; if there are too many
+    /// slots, `MAX_SLOTS`. `number` is the number of the cause. If a program breaks a rule, it is that of the reason, below 100. If the
+    /// slots are no program, it is 100 plus that of the codec's fault.
     fn fmt<W: fmt::Write>(&self, f: &mut fmt::Formatter<W>) -> fmt::Result {
         let (slot, number) = (self.slot, self.cause.number());
         write!(f, "refused: slot {slot} reason {number}")

@@ -110,10 +110,12 @@ fn jump_reason(
     }
 }
 
-/// Whether an instruction is simple, and so has no fault of shape: a path with at least one instruction leads to it (`paths`), so it can be
-/// reached; its only successor is the next instruction, at slot `next`, which is one of the program's `slots` slots; it names no helper and
-/// no descriptor, and does not write the frame pointer. `row` has its properties. Only `true` promises something (`IsSimple`): after
-/// `false`, as always at slot 0, the caller makes all checks, which may find no fault either.
+/// Whether an instruction is simple, which excludes all faults of shape, so that `check_and_add` makes no other check of it. `row` is its
+/// profile, `next` the slot after it, and `slots` the number of the program's slots. `paths` has the most instructions on a path to it,
+/// without itself. It is simple if this number is not 0, so that it can be reached; if its only successor is the next instruction, and
+/// `next` is a slot of the program; if it names no helper and no descriptor; and if it does not write the frame pointer. Only `true`
+/// promises something (`IsSimple`): after `false`, as always at slot 0, to which the only path has no instruction, the caller makes all
+/// checks, which may find no fault either.
 #[inline(always)]
 fn is_simple(row: &Profile, next: usize, slots: usize, paths: &Paths) -> bool
     ensures { IsTrue result → IsSimple row.now next slots paths.now }
@@ -126,10 +128,12 @@ fn is_simple(row: &Profile, next: usize, slots: usize, paths: &Paths) -> bool
     }
 }
 
-/// The first fault of shape of `insn`, the instruction at `slot`, in this order; else `None`. `JumpOutside`: no instruction begins at its
-/// target. `JumpBackward`: the target is no later slot. `FallsOff`: it can fall past the program's end. `Unreachable`: no path leads to it
-/// (`is_reached`). `UnknownHelper`: no helper has its number. `FramePointerWritten`: it writes register 10. By `named`, its descriptor is
-/// not open or no map's, or its map lacks the value that it loads (`descriptor_reason`). `row` is its profile. By `room` no sum overflows.
+/// The first fault of shape of `insn`, the instruction at `slot`, in this order; `None` if it has none. `JumpOutside`: no instruction
+/// begins at the target of its jump. `JumpBackward`: the target is no later slot. `FallsOff`: it can fall past the program's end.
+/// `Unreachable`: no path leads to it (`is_reached` is false). `UnknownHelper`: it calls a helper by a number that none has.
+/// `FramePointerWritten`: it writes register 10. `DescriptorNotOpen`, `DescriptorNotMap`: its descriptor is not open, or names a program.
+/// `NoDirectValue`: it loads the address of a value's byte, and the map is no array of one element or its value has no such byte. `named`
+/// has the open descriptors with their objects, `row` the properties of `insn` (`profile`). By `room` no sum overflows.
 #[inline(always)]
 fn shape_fault_of(
     program: &Program,
@@ -159,12 +163,14 @@ fn shape_fault_of(
     }
 }
 
-/// Checks the instruction at `slot` by all rules of shape; `check_and_add` calls this if the instruction is not simple (`is_simple`).
-/// `named` has the open descriptors with their objects. The error is the first fault (`refused`). Without a fault (`fine`) the instruction
-/// is added (`added`) to the counts in `paths`, the most instructions and calls on the paths that lead to `slot`. If it may jump, the new
-/// counts are joined into those of its target in `jumping`, which has, for each slot of the program (`long`), the counts on the paths that
-/// end with a jump there; if it is an exit, into those at the exits. Then `paths` has the counts along the falling edge, `NO_COUNTS` if
-/// there is none. By `reached`, `paths` shows whether `slot` can be reached; by `room` and `few`, no sum overflows.
+/// Checks the instruction at `slot` by all rules of shape. `check_and_add` calls this unless a shorter test (`is_simple`) has found that
+/// the instruction has no fault. `named` has the open descriptors with their objects. The error is the first fault (`refused`). `paths` has
+/// the most instructions and calls on the paths to `slot`, neither above `MAX_SLOTS` (`few`), so no count overflows, and by `room` no
+/// number of a slot; `slot` is reachable exactly if it is 0 or these paths have an instruction (`reached`). `jumping` has, for each slot of
+/// the program (`long`), the most on the paths that end with a jump there. Without a fault (`fine`) the instruction is added to these
+/// counts (`added`). If it may jump, the new counts are joined into those of its target in `jumping`; if it is an exit, into those at the
+/// exits, which `paths` has too. Of each count the greater is kept. Then `paths` has the counts along the falling edge, or 0 for both
+/// (`NO_COUNTS`) if there is none.
 #[inline(always)]
 fn check_and_count(
     program: &Program,
@@ -197,10 +203,11 @@ fn check_and_count(
 /// Checks the shape of `insn`, the instruction at `slot` (at most `MAX_SLOTS`: `room`), whose profile is `row`. `named` has the open
 /// descriptors with their objects. The error is the first fault of shape (`refused`). `paths` has the most instructions and calls on the
 /// paths to `slot`, neither above `MAX_SLOTS` (`few`); `slot` is reachable exactly if it is 0 or these paths have an instruction
-/// (`reached`). `jumping` has, for each slot (`long`), the most on the paths that end with a jump there. Without a fault (`fine`) the
-/// counts with the instruction are passed on (`added`): `paths` gets those on the falling edge or at an exit, and those on a jump are
-/// joined into its target's in `jumping`. A simple instruction (`is_simple`) can be reached, has only the next slot of the program as its
-/// successor, names nothing and does not write `FRAME_POINTER`; so it has no fault, and is added unchecked.
+/// (`reached`). `jumping` has, for each slot (`long`), the most on the paths that end with a jump there. Without a fault (`fine`) `insn` is
+/// added to the paths to `slot` (`added`): `paths` then has the counts on the falling edge, both 0 if there is no such edge, and those at
+/// the exits; `jumping` has those of a jump for its target. Of the counts of several paths the greater one is kept. A simple instruction
+/// (`is_simple`) can be reached, has only the next slot of the program as its successor, names no helper and no descriptor and does not
+/// write `FRAME_POINTER`; so it has no fault, and is added unchecked.
 #[inline(always)]
 fn check_and_add(
     program: &Program,

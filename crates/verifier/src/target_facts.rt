@@ -78,9 +78,10 @@ fn join_entry(
     Ok(())
 }
 
-/// Appends empty entries (`None`) to `facts`, an entry for each slot from 0 on, until it has at least `slots` entries (`within`). A longer
-/// list is unchanged. The entry of each slot `i` is as before (`entries`): one past the end of the list counts as `None` (`entry_of`). In
-/// the contract, `map (option_map box_value)` takes the facts of each entry out of its box. The error is out of memory.
+/// Appends empty entries (`None`) to `facts` until it has at least `slots` entries (`within`); a longer list is unchanged. The entry at
+/// index `i` is that of slot `i` of the program: the facts on the jumps to this slot, `None` if the list has none. A slot past the end of
+/// the list counts as one with `None` (`entry_of`), so no slot's entry changes (`entries`). In the contract, `map (option_map box_value)`
+/// takes the facts of each entry out of its box. The error is out of memory.
 fn append_empty(facts: &mut Vec<Option<Box<NumberedFacts>>>, slots: usize) -> Result<(), AllocError>
     ensures within { OnOk result (slots ≤ length (map (option_map box_value) facts.new.items)) }
     ensures entries { OnOk result ((i : ℕ) → entry_of i (map (option_map box_value) facts.new.items)
@@ -92,8 +93,10 @@ fn append_empty(facts: &mut Vec<Option<Box<NumberedFacts>>>, slots: usize) -> Re
     Ok(())
 }
 
-/// Empties the entries of all slots in `facts`, and moves their boxes to `spare`, for reuse. If `spare` cannot grow for a box, since memory
-/// is refused, this box is freed, which is no error: it only costs an allocation later.
+/// Removes the facts from `facts`, which has an entry for each slot up to the last one that a jump has led to: the facts on the jumps to
+/// this slot, in a box, or `None`. Afterwards each entry is `None`, and `keep` has appended the boxes to `spare`, from which later facts
+/// get theirs. If `spare` cannot grow for a box, since memory is refused, this box is freed, which is no error: it only costs an allocation
+/// later.
 fn keep_all(facts: &mut [Option<Box<NumberedFacts>>], spare: &mut Vec<Box<NumberedFacts>>) {
     for entry in facts {
         if let Some(entry) = entry.take() {
@@ -103,8 +106,9 @@ fn keep_all(facts: &mut [Option<Box<NumberedFacts>>], spare: &mut Vec<Box<Number
 }
 
 impl TargetFacts {
-    /// A list without entries: no jump has led to a slot yet. There is no spare box either, the memory of an earlier entry that a new one
-    /// can reuse. Allocates nothing; the first `put` does.
+    /// No facts for any slot, since no jump has led to one yet: the list, which will have an entry with the facts on the jumps to each
+    /// slot, is empty. So is `spare`, the list of the boxes of earlier entries, for reuse. Allocates nothing; the first `put` of facts
+    /// does.
     pub(crate) fn new(alloc: Global) -> TargetFacts
         ensures { result ≡ [] }
     {
@@ -123,11 +127,12 @@ impl TargetFacts {
         self.facts.clear();
     }
 
-    /// Joins the facts on the jumps to `slot`, its entry, into `known`, the facts on the falling edge to `slot`. If `known` has no facts,
-    /// it gets those of the entry. Nothing is done if there is no entry, or an empty one. Each group of eight stack slots that the join
-    /// changes gets the new number `fresh`, since groups of one index and one number have equal facts (`NumberedFacts`). Then the entry is
-    /// empty, and its box is kept for reuse. The entries of later slots are unchanged (`IsTaken`); the pass does not read those of earlier
-    /// slots again. The error is out of memory for the list of spare boxes.
+    /// Joins the facts on the jumps to `slot`, its entry, into `known`, the facts on the falling edge to `slot` (`IsTaken`). If `known` has
+    /// no facts, it gets those of the entry. Nothing is done if there is no entry, or an empty one. Each group of eight stack slots that
+    /// the join changes gets the number `fresh`, which the caller has given for no earlier change: in all facts of a pass, two groups with
+    /// the same index and the same number have to be equal (`NumberedFacts`). Then the entry is empty, and its box is kept for reuse. The
+    /// entries of later slots are unchanged; the pass does not read those of earlier slots again. The error is out of memory for the list
+    /// of spare boxes; nothing is promised then.
     pub(crate) fn join_at(
         &mut self,
         slot: usize,
@@ -159,10 +164,11 @@ impl TargetFacts {
     }
 
     /// Joins `facts`, those on a jump to the slot `target`, into the facts on the earlier jumps to this slot, or copies them if there are
-    /// none. `target` is a slot of the program, so below `MAX_SLOTS`, since the program's shape has no fault. `None` is a target below slot
-    /// 0, which would be such a fault; nothing is done then. Each group of eight stack slots that the join changes gets the number `fresh`,
-    /// which is new in the pass: groups with one index and one number must be equal in all its facts, so that a join that would change
-    /// nothing is recognized by the numbers (`NumberedFacts`). The error is out of memory.
+    /// none; those of other slots are unchanged (`IsSent`). `target` is a slot of the program, so below `MAX_SLOTS`, since the program's
+    /// shape has no fault. `None` is a target below slot 0, which would be such a fault; nothing is done then. Facts have a number for each
+    /// group of eight stack slots (`NumberedFacts`). In all facts of a pass, groups of the same stack slots with the same number are equal,
+    /// so a join that would change nothing is recognized by the numbers. Each group that this join changes therefore gets the number
+    /// `fresh`, which is new in the pass. The error is out of memory.
     pub(crate) fn send(
         &mut self,
         target: Option<usize>,
@@ -179,9 +185,10 @@ impl TargetFacts {
     }
 
     /// Joins `facts`, those on a jump to `slot`, into the entry of this slot, which has the join of the facts on the jumps there so far; an
-    /// empty entry gets a copy of them. `slot` is a slot of a program, so less than `MAX_SLOTS`; the list grows until it has an entry for
-    /// it. No other slot's entry changes (`IsPut`). Each group of eight stack slots that the join changes gets the number `fresh`, which is
-    /// new in the pass: groups with one index and one number are the same in all facts (`NumberedFacts`). The error is out of memory.
+    /// empty entry gets a copy of `facts`. No other slot's entry changes (`IsPut`). `slot` is a slot of a program, so less than
+    /// `MAX_SLOTS`; the list grows until it has an entry for it. Each group of eight stack slots that the join changes gets the number
+    /// `fresh`, which is new in the pass. So groups with the same index and the same number are equal in all facts of the pass, and a join
+    /// with a group that has the number of the group joined last is left out (`NumberedFacts`). The error is out of memory.
     pub(crate) fn put(
         &mut self,
         slot: usize,
@@ -195,11 +202,12 @@ impl TargetFacts {
         self.put_within(slot, facts, fresh)
     }
 
-    /// Joins `facts`, those on a jump to `slot`, into the entry of this slot: the facts on the earlier jumps to it. If there are none
-    /// (`None`), the entry gets a copy of `facts`, in the box of an earlier entry (`spare`) or else in a new one. The caller `put` has
-    /// lengthened the list, so that it has an entry for the slot. Each group of eight stack slots that the join changes gets the new number
-    /// `fresh`: groups with one index and one number are the same in all facts (`NumberedFacts`). Entries of other slots are unchanged
-    /// (`IsPut`). The error is out of memory for a new box.
+    /// Joins `facts`, those on a jump to `slot`, into the entry of this slot: the join of the facts on the earlier jumps to it. If there
+    /// are none (`None`), the entry gets a copy of `facts`, in a box that an earlier entry no longer needs (`spare`) or else in a new one.
+    /// The caller `put` has lengthened the list, so that it has an entry for the slot. Each group of eight stack slots that the join
+    /// changes gets the number `fresh`, which is new in the pass: if two facts of a pass have one number for the group of the same index,
+    /// the group has to be equal in both (`NumberedFacts`). Entries of other slots are unchanged (`IsPut`). The error is out of memory for
+    /// a new box.
     fn put_within(
         &mut self,
         slot: usize,

@@ -114,16 +114,17 @@ impl Verified {
     }
 }
 
-/// Verifies a program that the caller keeps: if it is accepted, the result has a copy of the program, and of `named` the objects of its
-/// maps (`accepted`). `named` lists the open descriptors and the objects that they name; if it has a descriptor twice, the first object
-/// counts. A load calls `verify_slots`, which reads the program from slots and does not copy it. The log calls `verify_watched`, which
-/// returns no `Verified`.
+/// Verifies a program that the caller keeps, as worked cases do. If it is accepted, the result has a copy of the program, and of `named`
+/// the objects of its maps (`accepted`). `named` lists the open descriptors and the objects that they name; if it has a descriptor twice,
+/// the first object counts. A load calls `verify_slots`, which reads the program from slots and does not copy it. The log calls
+/// `verify_watched`, which returns no `Verified`.
 ///
 /// # Errors
 ///
-/// `refused`: the slot and the reason of the first fault of the program's shape; if there is none, of the first instruction that may not be
-/// run with the facts before it. If several reasons apply at that slot, it is the first. `Memory` at slot 0 if out of memory for the
-/// verdict, for the lists of the program's maps or for the copy.
+/// `refused`: the slot and the reason of the first fault of the program's shape, in the order of slots; if there is none, of the first
+/// instruction that may not be run with the facts before it. If the instruction at that slot breaks several rules, the reason is that of
+/// the first of them, in the order of the definitions (`shape_reason` for the shape, else `effect`). `Memory` at slot 0 if out of memory
+/// for the verdict, for the lists of the program's maps or for the copy.
 pub fn verify(alloc: Global, program: &Program, named: &[Named]) -> Result<Verified, VerifyFault>
     ensures accepted { IfOk result (IsAcceptedAs program.now named.now) }
     ensures refused { IfErr result (IsFaultOf program.now named.now) }
@@ -135,10 +136,10 @@ pub fn verify(alloc: Global, program: &Program, named: &[Named]) -> Result<Verif
 }
 
 /// Verifies the program that the bytes `slots`, eight for each slot, spell. `named` lists the open descriptors and the objects that they
-/// name. The result is the accepted program, without a copy (`accepted`), or else a `Refusal`: why, and because of which slot, the slots
-/// are rejected (`refused`). Either they are no program, or it breaks a rule. By `objects` the program has the entries that `named` has for
-/// the descriptors of its maps. `working` is memory to work in, which the next call can use again; its contents mean nothing. Not inlined,
-/// as the library calls it from two functions.
+/// name. The result is the accepted program (`accepted`), or else a `Refusal`: why, and because of which slot, the slots are rejected
+/// (`refused`). Either they are no program, or it breaks a rule. The program that is read from the slots is moved into the result and not
+/// copied. With it the result has those items of `named` that are for the descriptors of the program's maps (`objects`). `working` is
+/// memory to work in, which the next call can use again; its contents mean nothing. Not inlined: the library calls it from two functions.
 ///
 /// # Errors
 ///
@@ -175,15 +176,17 @@ pub fn verify_slots(
     }
 }
 
-/// Verifies a program like `verify`, and passes the facts before each instruction that a run may reach to `watcher`, once for each slot at
-/// which one begins, in order (`seen`): so the log learns them. Keeps nothing of the program, and returns only its cost (`cost`). If the
-/// program is rejected for its safety, the last slot that is passed is that of the fault; if for its shape, none is passed
-/// (`seen_refused`). `W.seen` is the list of the slots and facts that a watcher has received, or `None` if it does not say which.
+/// Verifies a program for the log. `named` lists the open descriptors and the objects that they name. For each instruction that a run may
+/// reach, `watcher` receives the slot and the facts before the instruction, once and in the order of the slots (`seen`). `W.seen` is the
+/// list of the slots and facts that a watcher has received, or `None` if it does not say which. The result is only the program's cost
+/// (`cost`); unlike `verify`, the function copies nothing of the program. If the program is rejected for its safety, the last slot that is
+/// passed to `watcher` is that of the fault; if for its shape, none is passed (`seen_refused`).
 ///
 /// # Errors
 ///
-/// Those of `verify`: the first fault of the shape, else of the safety, with its slot and its first reason (`refused`). `Memory` at slot 0
-/// if out of memory, also if the watcher is. Then the watcher has received the facts before the slots below some slot.
+/// `refused`: the slot and the reason of the first fault of the program's shape; if there is none, of its safety: of the first instruction
+/// that may not be run with the facts before it. If several reasons apply at that slot, it is the first. `Memory` at slot 0 if out of
+/// memory, also if the watcher is. Then the watcher has received the facts before the instructions below some slot, and no others.
 pub fn verify_watched<W: Watcher>(
     alloc: Global,
     program: &Program,

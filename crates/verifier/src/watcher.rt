@@ -30,8 +30,9 @@ pub trait Watcher {
 pub(crate) struct Unwatched;
 
 impl Watcher for Unwatched {
-    /// Ignores the facts, and never fails: `verify` and `verify_slots` use this watcher, since they return no facts. Its `seen` is
-    /// always `None`, so it meets the contract although it stores nothing.
+    /// Ignores the facts, and never fails: `verify` and `verify_slots` use this watcher, since they return no facts. In contracts, `seen`
+    /// is the list of the slots and facts that a watcher has received, or `None` if it keeps no such list, as here. The contract of
+    /// `before` in the trait `Watcher` appends the slot and the facts to this list; of `None` it requires only that it is still `None`.
     #[inline(always)]
     fn before(&mut self, _slot: usize, _facts: &Facts) -> Result<(), AllocError> {
         Ok(())

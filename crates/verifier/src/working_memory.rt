@@ -20,8 +20,9 @@ pub struct WorkingMemory {
 }
 
 impl WorkingMemory {
-    /// Memory for verifications, of which nothing is allocated yet: no entry of `jumping`, and no facts of a pass (`None`). Each
-    /// verification requests from `alloc` what is missing.
+    /// Memory for verifications, of which nothing is allocated yet: `jumping`, for the most instructions and calls, by slot, on the paths
+    /// that end with a jump there, is empty, and `pass`, for the facts of a pass over a program, is `None`. Each verification requests from
+    /// `alloc` what is missing.
     pub fn new(alloc: Global) -> WorkingMemory {
         WorkingMemory {
             jumping: Vec::new(alloc),

@@ -6,8 +6,10 @@ use log_text::run_log_words;
 use std::process::ExitCode;
 use std::{env, io};
 
-/// Runs the program on its arguments, those after its name, and returns its exit status (`run_log_words`). An error means that the
-/// arguments could not be read, for instance since one is not UTF-8 or memory ran out.
+/// Runs the program on its arguments, those after its name, and returns its exit status (`run_log_words`): 0 if the eBPF program in the
+/// input is accepted, or if help or the version is asked for; 1 if the input or its program is rejected, 2 if arguments are wrong, 3 if
+/// input or output failed, 4 if out of memory. An error means that the arguments could not be read, for instance since one is not UTF-8 or
+/// memory ran out.
 fn run(rt: &HostRuntime) -> io::Result<u8> {
     let alloc = rt.alloc();
     let given: Vec<String> = env::args(rt)?.skip(1).collect(alloc)?;

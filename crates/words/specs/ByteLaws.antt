@@ -114,10 +114,10 @@ bytes_written bytes new offset h =
     (drop-append_seam (take offset bytes) (new ++ drop (offset + length new) bytes))
     ∙ take-append_seam new (drop (offset + length new) bytes)
 
--- bytes before an offset are unchanged if other bytes (`rest`), of any number, replace all bytes of
--- the list from the offset on: the n bytes at `from`, which end at the offset or below. The offset
--- is at most the list's length, so `rest` begins at the offset. `bytes_stay` needs this for bytes
--- before a write
+-- the n bytes at `from` in a list (`bytes_at`) are unchanged if they end at `offset` or below it,
+-- and other bytes (`rest`), of any number, replace all bytes of the list from `offset` on. `offset`
+-- is at most the list's length, so `rest` begins at `offset`. `bytes_stay` needs this for bytes
+-- before a write; there `rest` is the bytes written and those after them
 before : (bytes rest : List ℕ) (offset from n : ℕ)
     → from + n ≤ offset
     → offset ≤ length bytes
@@ -360,8 +360,9 @@ number_below (b ∷ bytes) small =
     below_more : (b n x : ℕ) → b < 256 → x < 256 ^ n → b + 256 * x < 256 ^ suc n
     below_more b n x h g = omega arith
 
--- a list of bytes, each below 256, can be recovered from the number that it represents: as many low
--- bytes of `number_of bytes` as the list is long are the list. In both the lowest byte is the first
+-- the number that a list of bytes represents (`number_of`), each byte below 256, determines the
+-- list: its low bytes (`low_bytes`), as many as the list has, are the list. The lowest byte is the
+-- first of the list
 pub low_bytes_of_number : (bytes : List ℕ)
     → ((i : ℕ) → i < length bytes → get_or bytes i 0 < 256)
     → low_bytes (length bytes) (number_of bytes) ≡ bytes

@@ -13,7 +13,9 @@ use Rattle.words.specs.declared.stack.AccessSize.{AccessSize}
 use Rattle.words.specs.declared.stack.AccessSize.TheVariants.{Byte, Half, Word, Double}
 use Rattle.words.specs.Stack.{stack_slots, any_slot, bytes_of, is_in_stack, byte_index}
 
--- the number at index i of the list of the slots' numbers is i
+-- in the list of the numbers of the stack's 64 slots, 0 to 63 (`range_with_len 0 64`), the item at
+-- index i is i. The last argument of `get_or` would be the result past the end of the list.
+-- `any_slot` tests the items of this list, so `slot_passes` and `no_slot_passes` need this
 number_at : (i : ℕ) → i < stack_slots → get_or (range_with_len 0 64) i 0 ≡ i
 number_at i lt = let same : 0 + i ≡ i = omega arith in get_or-range_with_len 0 64 i 0 lt ∙ same
 

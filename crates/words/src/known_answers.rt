@@ -4,8 +4,9 @@ use crate::{
     AccessSize, AluOp, ByteOrder, Condition, ExtendedBits, KeptBits, Operator, words32, words64,
 };
 
-/// On 64 bits: 7 divided by 0 has the quotient 0 and the remainder 7; 0 less 1 is 2^64 - 1; the low two bytes of 287454020 (0x11223344) are
-/// 17459 (0x4433) in big-endian order, which reverses them; and 0 is above 2^64 - 1, which is -1, if both are signed.
+/// A test of the contracts of `words64`, never called: each `prove!` has to follow from the contract of the call before it. 7 divided by 0
+/// has the quotient 0 and the remainder 7; 0 less 1 is 2^64 - 1; the low two bytes of 287454020 (0x11223344) are 17459 (0x4433) in
+/// big-endian order, which reverses them; and 0 is above 2^64 - 1, which is -1, if both are signed.
 fn words_of_64_bits() {
     let quotient = words64::operate(Operator::Binary(AluOp::Div), 7, 0);
     prove!(quotient == 0);
@@ -32,7 +33,8 @@ fn words_of_32_bits() {
     prove!(equal);
 }
 
-/// A half word has two bytes, and a word is no double word.
+/// On the sizes of a load or a store (`AccessSize`): a half word has two bytes, and a word, of four bytes, is no double word, of eight.
+/// Both are proved from the contracts of the methods that are called.
 fn sizes_of_accesses() {
     let bytes = AccessSize::Half.bytes();
     prove!(bytes == 2);

@@ -63,8 +63,8 @@ pub fn remainder(a: u64, b: u64) -> u64
     }
 }
 
-/// The signed quotient of the low half of `a` by that of `b`, rounded toward zero; 0 if the divisor is 0. -2^31 divided by -1 is -2^31:
-/// 2^31 wraps, as it is no signed number of 32 bits.
+/// The signed quotient of the low half of `a` by that of `b`, rounded toward zero, in two's complement of 32 bits; 0 if the low half of `b`
+/// is 0. -2^31 divided by -1 is -2^31: 2^31 wraps, as it is no signed number of 32 bits. The upper half of the result is 0.
 #[inline(always)]
 pub fn signed_divide(a: u64, b: u64) -> u64
     ensures { result ≡ signed_divide 32 (low 32 a) (low 32 b) }
@@ -141,7 +141,8 @@ pub fn shift_right(a: u64, b: u64) -> u64
     u64::from(low_word(a) >> (low_word(b) % 32))
 }
 
-/// The low half of `a`, as a signed number, shifted right by `b % 32` bits, with copies of its sign bit (bit 31) from the left.
+/// The low half of `a`, its low 32 bits, as a signed number, shifted right by `b % 32` bits, with copies of its sign bit (bit 31) from the
+/// left. The upper half of the result is zero, also for a negative number.
 #[inline(always)]
 pub fn signed_shift_right(a: u64, b: u64) -> u64
     ensures { result ≡ signed_shift_right 32 (low 32 a) (low 32 b) }
@@ -165,7 +166,8 @@ pub fn negate(a: u64) -> u64
     u64::from(0u32.wrapping_sub(low_word(a)))
 }
 
-/// The low 8, 16 or 32 bits of `a`, as many as `from` has, sign-extended to 32 bits. All 32 bits are the low half, unchanged.
+/// The low 8, 16 or 32 bits of `a`, as many as `from` has, sign-extended to 32 bits; the upper half of the result is zero. If `from` has 32
+/// bits, nothing is extended: the result is the low half of `a`.
 #[inline(always)]
 pub fn sign_extend(from: ExtendedBits, a: u64) -> u64
     ensures { result ≡ sign_extend 32 (extended_bits from) (low 32 a) }
@@ -291,8 +293,8 @@ pub fn alu(op: AluOp, a: u64, b: u64) -> u64
 }
 
 /// The result of any operator, of two operands (`alu`) or of one, on the low halves of two words: `a` has the destination's value, `b` the
-/// source's. A negation reads only `a`, a sign extension only `b`. A byte-order conversion also reads only `a`, and not only the low half:
-/// its operand and its result have 64 bits, whatever the width.
+/// source's. The upper half of the result is zero. A negation reads only `a`, a sign extension only `b`. A byte-order conversion also reads
+/// only `a`; but its operand and its result have 64 bits, as in `words64`. In the contract, 32 is the number of bits of the operation.
 #[inline(always)]
 pub fn operate(op: Operator, a: u64, b: u64) -> u64
     ensures { result ≡ operate 32 op a b }
@@ -305,7 +307,9 @@ pub fn operate(op: Operator, a: u64, b: u64) -> u64
     }
 }
 
-/// Whether a condition holds for the low halves of `a` and `b`, in this order: for `Above`, whether that of `a` is above that of `b`.
+/// Whether a condition holds for the low halves of two words: `a` has the destination's value, `b` the source's, so `Above` means that the
+/// low half of `a` is above that of `b`. The conditions with `Signed` in their names compare in two's complement of 32 bits, the other
+/// comparisons are unsigned. `CommonBit` means that the bitwise and of the low halves is not 0.
 #[inline(always)]
 pub fn compares(condition: Condition, a: u64, b: u64) -> bool
     ensures { result ≡ compares 32 condition a b }

@@ -37,9 +37,10 @@ FindsLabels lines labels n =
 
 -- ---- a line's fault and instruction, given the definitions that are kept
 
--- the index, from 0, of the line of a label's definition, given what `Labels` has for the label. If
--- it has no definition (None), the result is `line`, the index of the line that `label_fault`
--- checks: the label is defined twice if the result is less than `line`, so this is no fault
+-- the index, from 0, of the line of the definition that the assembler keeps for a label, the first
+-- in the text. If it keeps none (None), the result is `line`. `label_fault` passes as `line` the
+-- index of a line that defines the label: if the result is less than `line`, the label is defined
+-- twice (`LabelTwice`). So a label without a kept definition has no fault
 abbrev pub kept_line : Option LineStart → ℕ → ℕ
 kept_line None line = line
 kept_line (Some definition) line = definition.line

@@ -13,9 +13,11 @@ use Rattle.host.specs.declared.program.failure.Failure.{Failure}
 use Rattle.host.specs.declared.program.failure.Failure.TheVariants.{WrongArguments, MapArgument, Truncated}
 use Rattle.host.specs.declared.program.failure.Failure.TheVariants.{TooManyFrames, TooLong, Line, Slot, Read, Write, Seed, Memory}
 
--- The exit status of the program, by the failure with which it ends; the numbers in the failure are
--- only for its fault line. 1: the input is rejected. That of `serve` ends inside a frame
--- (`Truncated`) or has too many frames, another input is too long, or a line or a slot has a fault.
+-- The exit status of the program, by the failure with which it ends. What a failure has besides its
+-- name is only for its fault line: a count of frames, the number of a line, a slot or a map
+-- argument, and `kind`, the number of a fault. 1: the input is rejected. The input of `serve` ends
+-- inside a frame (`Truncated`) or has a byte after the most frames that are served
+-- (`TooManyFrames`), the input of another subcommand is too long, or a line or a slot has a fault.
 -- 2: arguments are wrong. 3: a call to read the input or to write the output failed, or `serve` has
 -- no random seed for its hash maps (`Seed`). 4: out of memory.
 abbrev pub exit_status : Failure → ℕ

@@ -104,9 +104,11 @@ fn tenants_given(serve: &ArgMatches<'_>) -> Option<usize>
     tenant_count(serve.get_str("tenants")?)
 }
 
-/// The task of the subcommand `name` with these options, which clap has parsed: the one that `asked_with` defines (`asked`). `None` if the
-/// `--tenants` of `serve` is no decimal number from 1 to `MOST_TENANTS`, so a task to serve has such a number (`tenants`). `None` too if
-/// `--tenants` is missing or `name` is no subcommand: clap rejects both before. The map arguments of `verify` are not parsed here.
+/// The task of the subcommand `name`; `options` is what clap has found for the options and arguments of this subcommand (`rows_of`).
+/// `asked`: the result, with the task as the definitions have it (`asked_by`), is what they give for this name and these options
+/// (`asked_with`). `None` if the `--tenants` of `serve` is no decimal number from 1 to `MOST_TENANTS`, so a task to serve has such a number
+/// (`tenants`). `None` too if `--tenants` is missing or `name` is no subcommand: clap rejects both before. The map arguments of `verify`
+/// are not parsed here.
 fn task_named<'m, 'a>(name: &str, options: &'m ArgMatches<'a>) -> Option<Task<'m, 'a>>
     ensures tenants { IfSome result HasTenants }
     ensures asked { option_map asked_by result
@@ -128,10 +130,11 @@ fn task_named<'m, 'a>(name: &str, options: &'m ArgMatches<'a>) -> Option<Task<'m
     }
 }
 
-/// The task of the subcommand that `matches` has, clap's result for the arguments. `None` if the number of tenants for `serve` is no
-/// decimal number from 1 to `MOST_TENANTS`, so the task of `serve` has one of these (`tenants`). Also `None` if `matches` has no
-/// subcommand, or `--tenants` is missing, but clap has rejected that before. `asked`: the result, with the task as the definitions have it
-/// (`asked_by`), is what they give for the subcommand and its options (`asked_of`).
+/// The task of the subcommand in `matches`, clap's result for the arguments. `None` if the number of tenants for `serve` is no decimal
+/// number from 1 to `MOST_TENANTS`, so a task to serve has such a number (`tenants`). Also `None` if `matches` has no subcommand, or
+/// `--tenants` is missing, but clap has rejected that before. `asked`: for the subcommand's name and what clap has found for its options
+/// (`subcommand_rows_of`), the definition `asked_of` gives the same task, or none if the result is `None`. `asked_by` is the code's task in
+/// the type of that definition.
 fn chosen_task<'m, 'a>(matches: &'m ArgMatches<'a>) -> Option<Task<'m, 'a>>
     ensures tenants { IfSome result HasTenants }
     ensures asked { option_map asked_by result ≡ asked_of (subcommand_rows_of matches.now) }
@@ -141,9 +144,11 @@ fn chosen_task<'m, 'a>(matches: &'m ArgMatches<'a>) -> Option<Task<'m, 'a>>
 }
 
 /// Serves the frames of `input` on a new host of `tenants` tenants, from 1 (`some`) to `MOST_TENANTS` (`few`), and writes the replies to
-/// `output`. Fails with `Seed` if `seed` is `None`, before anything is read, with `Memory` if out of memory, or as `serve_frames` fails. No
-/// failure has exit status 2, that of wrong arguments. The function consumes both streams, so its contract can't describe them afterwards:
-/// only the contract of `serve_frames` states what is read and written, and which fault occurs.
+/// `output`. The host hashes the keys of hash maps with `seed`. The failure is `Seed` if `seed` is `None`, before anything is read;
+/// `Memory` if out of memory; `Read` or `Write` if a call of that stream failed; `Truncated` if the input ends inside a frame;
+/// `TooManyFrames` if another byte follows `MOST_FRAMES` frames. None has exit status 2, that of wrong arguments. The function consumes
+/// both streams, so its contract can't describe them afterwards: only that of `serve_frames` states what is read and written, and which
+/// failure is returned.
 fn serve_streams<I: Read + Drop, O: Write + Drop>(
     alloc: Global,
     seed: Option<HashSeed>,
@@ -167,9 +172,10 @@ fn serve_streams<I: Read + Drop, O: Write + Drop>(
 }
 
 /// Runs `asm` or `dis`, as `task` selects: reads the whole input, and writes the program's hex lines or its text. The failures are those of
-/// `rewrite`: `TooLong`, `Line` or `Slot` if the input is rejected, `Read` or `Write` if a call of a stream failed, `Memory` if out of
-/// memory. None has status 2, that of wrong arguments. The function consumes the streams, so only the contract of `rewrite` says what is
-/// read and written, and which failure is returned.
+/// `rewrite`. `TooLong`: the input has more than `LONGEST_INPUT` bytes. `Line`: it is not UTF-8, a line of it has a fault, or it has no
+/// instruction (`asm`) or no slot (`dis`). `Slot`: the slots that `dis` reads are no program. `Read` or `Write`: a call of a stream failed.
+/// `Memory`: out of memory. None has exit status 2, that of wrong arguments. The function consumes the streams, so its contract can't
+/// describe them afterwards: only that of `rewrite` states what is read and written, and which failure is returned.
 fn rewrite_streams<I: Read + Drop, O: Write + Drop>(
     alloc: Global,
     task: TextTask,
@@ -197,11 +203,13 @@ fn maps_given(alloc: Global, arguments: Option<&[&str]>) -> Result<Vec<Named>, F
 }
 
 /// Reads the map arguments (`None`: no argument) and the input, and writes the verdict on the input's program. Returns the exit status: 0
-/// if the program is accepted with these maps, else 1. `accepted`: after status 0 the input has a program that is accepted with the maps of
-/// the arguments; nothing is claimed of a reader whose bytes contracts do not know. The function fails like `maps_given` or `judge`. If a
-/// map argument names no map, or the descriptor of an earlier one, the failure has status 2 or is `Memory` (`refused`); no other failure
-/// has status 2 (`wrong`). The function consumes both streams, so its contract can't express their states after the call: only that of
-/// `judge` states what is read and written, and how `judge` fails.
+/// if the program is accepted with these maps, else 1 (`status`). `accepted`: after status 0 the input has a program that is accepted with
+/// the maps of the arguments; nothing is claimed of an input whose bytes contracts do not know (`AcceptsIfKnown`). If a map argument names
+/// no map, or the descriptor of an earlier one, the failure is `MapArgument`, of exit status 2, or `Memory` (`refused`); no other failure
+/// has status 2 (`wrong`). Those that `judge` adds: `TooLong` if the input has more than `LONGEST_INPUT` bytes, `Read` or `Write` if a call
+/// of a stream failed, `Line` if the input is not UTF-8, a line has a fault or no line has a slot. `Memory` if out of memory at any step.
+/// The function consumes both streams, so its contract can't express their states after the call: only that of `judge` states what is read
+/// and written.
 fn judge_streams<I: Read + Drop, O: Write + Drop>(
     alloc: Global,
     arguments: Option<&[&str]>,
@@ -223,12 +231,13 @@ fn judge_streams<I: Read + Drop, O: Write + Drop>(
     Ok(verdict_status(refusal))
 }
 
-/// Runs the subcommand that the arguments name, those after the name of the program, and returns the exit status: 1 if `verify` rejects a
-/// program, else 0 (`status`). Every other end is a `Failure`. Only `serve` needs a seed: it fails with `Seed` if `seed` is `None`.
-/// Arguments are wrong (`AreWrongArguments`) if they name no task, since clap rejects them or `serve` has no number of tenants from 1 to
-/// `MOST_TENANTS`, or if a map argument is wrong. Then the function fails, with a failure of exit status 2 or with `Memory` (`refused`); no
-/// other failure has status 2 (`wrong`). `accepted`: after status 0 for `verify`, the input has a program that is accepted with the maps of
-/// the arguments; nothing is promised of an input whose bytes contracts do not know.
+/// Runs the subcommand that the arguments name, those after the program's name `bpfhost`, and returns the exit status (`status`): 1 if
+/// `verify` rejects a program, 0 if it accepts one or another subcommand did its task. Every other end is a `Failure`. Only `serve` needs a
+/// seed: it fails with `Seed` if `seed` is `None`. Arguments are wrong (`AreWrongArguments`) if clap rejects them, if `serve` has no number
+/// of tenants from 1 to `MOST_TENANTS`, or if an argument of `verify` names no map, or the descriptor of an earlier one. Then the function
+/// fails, with a failure of exit status 2 or with `Memory` (`refused`); no other failure has status 2 (`wrong`). `accepted`: after status 0
+/// for `verify`, the input has a program that is accepted with the maps of the arguments. Nothing is promised of a reader whose bytes are
+/// not known to contracts (`remaining` is `None`).
 fn run<I: Read + Drop, O: Write + Drop>(
     alloc: Global,
     seed: Option<HashSeed>,
@@ -262,9 +271,10 @@ fn run<I: Read + Drop, O: Write + Drop>(
 /// arguments are wrong, 3 if a call of the input or the output failed, or if there is no seed for the maps of `serve`, 4 if out of memory,
 /// else 0. Arguments are wrong (`AreWrongArguments`) if clap rejects them, `serve` has no number of tenants from 1 to `MOST_TENANTS`, or an
 /// argument of `verify` names no map, or the descriptor of an earlier one. Status 2 is only for these (`wrong`), and they end with 2, or
-/// with 4 if out of memory (`refused`). A fault, which a verdict of `verify` is not, is one line on `faults`; if that line can't be
-/// written, the status is still the fault's. `seed` is `None` if none could be drawn; only `serve` needs it. `accepted`: after status 0 for
-/// `verify`, the input has a program that is accepted with the maps of the arguments, if contracts know the bytes of the reader.
+/// with 4 if out of memory (`refused`). A failure is one line on `faults`, and a rejection by `verify` a line of the output; if the line on
+/// `faults` can't be written, the status is still the failure's. `seed` is `None` if none could be drawn; only `serve` needs it. `accepted`
+/// (`AcceptsAsked`): after status 0 for `verify`, the input has a program that is accepted with the maps of the arguments. Nothing is
+/// promised of a reader whose bytes are unknown in contracts (`remaining` is `None`).
 pub fn run_words<I: Read + Drop, O: Write + Drop, F: Write + Drop>(
     alloc: Global,
     seed: Option<HashSeed>,

@@ -126,8 +126,9 @@ impl From<ServeFault> for Failure {
 
     ghost from_gives = { λ fault failure. failure ≡ stream_failure fault };
 
-    /// The failure for the fault with which `serve` ended. For each kind of fault there is a failure of its name (`stream_failure`). How
-    /// many frames got their replies (`frames`) is only in `Truncated`, whose fault line prints this number; the other fault lines don't.
+    /// The failure for the fault with which `serve` ended. By the clause `from_gives` it is the failure with the name of the fault's kind
+    /// (`stream_failure`). `frames`, how many frames got replies, is kept only in `Truncated`, since no other of these fault lines prints
+    /// it.
     fn from(fault: ServeFault) -> Failure {
         match fault.kind {
             ServeFaultKind::Read => Failure::Read,
@@ -165,8 +166,9 @@ impl From<CodecFault> for Failure {
 
     ghost from_gives = { λ fault failure. failure ≡ codec_failure fault };
 
-    /// Converts `fault`, why slots are no program, for the `?` after `read_program`: to `Memory` if out of memory, else to `Slot` with the
-    /// slot of the fault and the number of its kind in `insn_codec`. `from_gives`: the failure is the one that `codec_failure` defines.
+    /// The failure for `fault`, why slots are no program: `Memory` if out of memory, else `Slot` with the slot of the fault and the number
+    /// of its kind in `insn_codec`. The `?` after `read_program` calls this. The contract is `from_gives` of this impl: the failure is the
+    /// one that `codec_failure` defines.
     fn from(fault: CodecFault) -> Failure {
         match fault.kind {
             FaultKind::Memory => Failure::Memory,

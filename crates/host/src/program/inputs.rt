@@ -16,12 +16,13 @@ use std::alloc::Global;
 use std::io::Read;
 use tagged_model::Named;
 
-/// Reads an input to its end, as `asm`, `dis` and `verify` do, for the program of the verifier's log. Unlike `read_input`, it consumes the
-/// input, so no contract says what was read.
+/// Reads an input to its end, and returns its bytes. By this call `verifier_log` reads the program of which it writes the log, as hex lines
+/// or as text. `read_input`, which this function calls, reads the inputs of `asm`, `dis` and `verify`; its contract compares the input
+/// before and after the call. Here no contract says what was read, since the input is consumed.
 ///
 /// # Errors
 ///
-/// `TooLong` if it has more than `LONGEST_INPUT` bytes, `Read` if a call failed, `Memory` if out of memory.
+/// `TooLong` if it has more than `LONGEST_INPUT` bytes, `Read` if a call of the input failed, `Memory` if out of memory.
 pub fn whole_input<I: Read + Drop>(alloc: Global, input: I) -> Result<Vec<u8>, Failure> {
     let mut reader = Counted::new(input);
     read_input(alloc, &mut reader)

@@ -22,8 +22,9 @@ use verifier::{Refusal, WorkingMemory, laws, verify_slots};
 
 /// Returns why the slots on the input's hex lines are rejected, if the descriptors of `maps` are open; `None` if their program is accepted.
 /// Fails with `Line` if the input is not UTF-8, a line has a fault or no line has a slot (`IsUnreadable`); with `Memory` if out of memory.
-/// The result is the judgement of the input (`judged`); if the input has one, it is returned (`only`). A failure is one of this input
-/// (`fault`); if the input has one, the call fails with it (`faulty`). The last three allow `Memory` instead.
+/// The result is the verdict on the input's slots, as defined by `IsJudgement` (`judged`). If the input has a verdict, the call returns it
+/// (`only`, `Gives`). If the call fails, the failure is that of this input (`fault`). If the input has a failure, the call fails with it
+/// (`faulty`). By the last three clauses the call may fail with `Memory` instead.
 fn refusal_of_input(alloc: Global, maps: &[Named], input: &[u8]) -> Result<Option<Refusal>, Failure>
     ensures judged { IfOk result (λ refusal. IsJudgement maps.now input.now refusal) }
     ensures only { (refusal : Option AnyRefusal) → IsJudgement maps.now input.now refusal
@@ -42,7 +43,9 @@ fn refusal_of_input(alloc: Global, maps: &[Named], input: &[u8]) -> Result<Optio
 }
 
 /// The line that `verify` writes for a verdict: `accepted` if there is no refusal (`None`), else the refusal's text, `refused: slot S
-/// reason R`. It ends with a line feed, the byte 10, which `judgement_text` leaves out. `AllocError`: out of memory.
+/// reason R`. S is the first slot of the instruction at fault, if there is one (`slot` of `Refusal`). R is the number of its cause: below
+/// 100 for a rule that the program breaks, above 100 for slots that are no program. The line ends with a line feed, the byte 10;
+/// `judgement_text` is the line without it. `AllocError`: out of memory.
 fn verdict_line(alloc: Global, refusal: Option<Refusal>) -> Result<String, AllocError>
     ensures { IfOk result (λ line. string_bytes line ≡ judgement_text refusal ++ 10 ∷ []) }
 {
@@ -64,10 +67,12 @@ pub(crate) fn verdict_status(refusal: Option<Refusal>) -> u8
 
 /// Reads the input, verifies the slots on its hex lines, and writes a line with the verdict. `maps` are the descriptors that count as open,
 /// with their maps. Returns why the slots are rejected; `None` if their program is accepted. `done`: the input was read to its end, the
-/// line of this verdict is written whole, and no call failed; `streams` is what contracts see of reader and writer. `fault` has the
-/// failures. `TooLong` if the input has more than `LONGEST_INPUT` bytes, `Read` if a call of the reader failed, `Line` if the input is not
-/// UTF-8, a line has a fault or no line has a slot, `Memory` if out of memory; then nothing is written. `Write` if a call of the writer
-/// failed; then a front of the line of a verdict on this input (`IsLineOfAnyVerdict`) may be written.
+/// line of this verdict is written whole, and no call failed. `streams` has the bytes left to read and those written, if they are known,
+/// and how many calls of the reader and of the writer have failed. Fewer than 2^64 - 1 calls of each have failed before (`reads`,
+/// `writes`), so that the count does not overflow. `fault` has the failures. `TooLong` if the input has more than `LONGEST_INPUT` bytes,
+/// `Read` if a call of the reader failed, `Line` if the input is not UTF-8, a line has a fault or no line has a slot (`IsUnreadable`),
+/// `Memory` if out of memory; then nothing is written. `Write` if a call of the writer failed; then a prefix of the line of a verdict on
+/// this input (`IsLineOfAnyVerdict`) may be written.
 pub(crate) fn judge<S: Source, O: Sink>(
     alloc: Global,
     maps: &[Named],

@@ -47,7 +47,9 @@ pub(crate) fn text_in(bytes: &[u8]) -> Result<&str, Failure>
 }
 
 /// The output of `asm`: the hex lines of the program whose text is the input. `Line` if the input is not UTF-8, a line has a fault or there
-/// is no instruction; `Memory` if out of memory.
+/// is no instruction; `Memory` if out of memory. Lines that are returned are those of the input's program (`made`); if the input is the
+/// text of a program, its lines are returned (`only`), unless out of memory (`Gives`). A failure other than `Memory` is the one for which
+/// `asm` rejects this input (`fault`); if `asm` rejects the input, the call fails, with that failure or with `Memory` (`faulty`).
 fn assembled(alloc: Global, input: &[u8]) -> Result<String, Failure>
     ensures made { IfOk result (λ lines. IsAssembly input.now (string_bytes lines)) }
     ensures only { (output : List ℕ) → IsAssembly input.now output
@@ -61,10 +63,11 @@ fn assembled(alloc: Global, input: &[u8]) -> Result<String, Failure>
     Ok(lines)
 }
 
-/// The bytes of the slots on the hex lines of the input, in order, eight for each slot. There is at least one slot; whether the slots are a
-/// program is not checked here. `dis`, `verify` and `verifier_log` read hex lines by this function. If the input is rejected
-/// (`IsUnreadable`), the failure is `Line`, with the line and its fault: a line has a fault, or, at line 0, the input is not UTF-8 or no
-/// line has a slot. `Memory` if out of memory.
+/// The bytes of the slots on the hex lines of the input, in order, eight for each slot. There is at least one; whether the slots are a
+/// program is not checked. `dis`, `verify` and `verifier_log` read hex lines by this function. If the input is rejected (`IsUnreadable`),
+/// the failure is `Line`, with the line and its fault: a line has a fault, or, at line 0, the input is not UTF-8 or no line has a slot.
+/// `Memory` if out of memory. Returned slots are those of the input (`read`), any failure but `Memory` is that of the input (`fault`). If
+/// the input has slots, they are returned (`only`); if it is rejected, the call fails with `Line` (`faulty`), unless out of memory.
 pub(crate) fn slots_on(alloc: Global, input: &[u8]) -> Result<Vec<u8>, Failure>
     ensures read { IfOk result (λ slots. IsSlotText input.now slots.items) }
     ensures only { (slots : List ℕ) → IsSlotText input.now slots
@@ -94,8 +97,10 @@ pub(crate) fn program_on(alloc: Global, input: &[u8]) -> Result<Program, Failure
     Ok(program)
 }
 
-/// The text of the program whose hex lines are the input. `Line` if the input is not UTF-8, a line has a fault or no line has a slot;
-/// `Slot` if the slots are no program; `Memory` if out of memory.
+/// The output of `dis`: the text of the program whose hex lines are the input. A returned text is this one (`made`); if the input has one,
+/// it is returned, unless out of memory (`only`). The failures: `Line` if the input is not UTF-8, a line has a fault or no line has a slot;
+/// `Slot` if the slots are no program; `Memory` if out of memory. A failure other than `Memory` is that of this input (`fault`); if the
+/// input has one, the call fails with it or with `Memory` (`faulty`).
 fn disassembled(alloc: Global, input: &[u8]) -> Result<String, Failure>
     ensures made { IfOk result (λ text. IsDisassembly input.now (string_bytes text)) }
     ensures only { (output : List ℕ) → IsDisassembly input.now output
@@ -111,8 +116,9 @@ fn disassembled(alloc: Global, input: &[u8]) -> Result<String, Failure>
 
 /// The output of `asm` (`Assemble`), a program's hex lines from its text, or of `dis` (`Disassemble`), its text from its hex lines. `Line`
 /// if the input is not UTF-8, a line has a fault, or there is no instruction (`asm`) or slot (`dis`); `Slot` if the slots (`dis`) are no
-/// program; `Memory` if out of memory. A returned text is the input's output (`made`), and if the input has one it is returned (`only`); so
-/// it is with failures (`fault`, `faulty`). Any call may fail with `Memory` instead.
+/// program; `Memory` if out of memory. A returned text is the output that `IsRewritten` gives this input (`made`); if it gives one, the
+/// call returns it (`only`). A failure is one that `IsInputRefused` gives this input (`fault`); if it gives one, the call fails with it
+/// (`faulty`). The last three clauses allow `Memory` instead.
 fn rewritten(alloc: Global, task: TextTask, input: &[u8]) -> Result<String, Failure>
     ensures made { IfOk result (λ output. IsRewritten task input.now (string_bytes output)) }
     ensures only { (output : List ℕ) → IsRewritten task input.now output
@@ -137,7 +143,9 @@ fn buffer(alloc: Global, size: usize) -> Result<Vec<u8>, AllocError>
 
 /// Reads the whole input, at most `LONGEST_INPUT` bytes (`input`); then no call of the reader has failed (`sound`). Otherwise the failure
 /// is one of three (`fault`): `TooLong` if the input has more bytes, of which `LONGEST_INPUT + 1` are then read; `Read` if a call of the
-/// reader failed, after at most `LONGEST_INPUT` bytes; `Memory` if out of memory, before anything is read.
+/// reader failed, after at most `LONGEST_INPUT` bytes; `Memory` if out of memory, before anything is read. `remaining` has the bytes that
+/// are still to be read, if they are known, and `failures` is how many calls of the reader have failed: fewer than 2^64 - 1 before, since
+/// they are counted in 64 bits.
 pub(crate) fn read_input<S: Source>(alloc: Global, reader: &mut S) -> Result<Vec<u8>, Failure>
     requires { S.failures reader.old < 2 ^ 64 - 1 }
     ensures input { IfOk result (λ input.
@@ -160,10 +168,11 @@ pub(crate) fn read_input<S: Source>(alloc: Global, reader: &mut S) -> Result<Vec
     Ok(input)
 }
 
-/// Reads the input, and writes the output that `asm` (`Assemble`) or `dis` (`Disassemble`) makes of it. The failures (`fault`): `TooLong`
-/// if the input has more than `LONGEST_INPUT` bytes, `Read` if a call of the reader failed, `Line` or `Slot` if the task rejects the input,
-/// `Memory` if out of memory, and then nothing is written; `Write` if a call of the writer failed, and then a front of the output may be
-/// written. Else the whole output is written (`done`). `streams` has the bytes of both streams, and how many calls of each failed.
+/// Reads the input, and writes the whole output (`done`) that `asm` (`Assemble`) or `dis` (`Disassemble`) makes of it (`IsRewritten`). The
+/// failures (`fault`): `TooLong` if the input has more than `LONGEST_INPUT` bytes; `Read` if a call of the reader failed; `Line`, or for
+/// `dis` also `Slot`, if the input is rejected (`IsInputRefused`); `Memory` if out of memory. After each of these, nothing is written.
+/// `Write` if a call of the writer failed: then a prefix of the output may be written. `streams` has the bytes of both streams, and the
+/// number of failed calls of each. `Counted` counts these in 64 bits, so fewer than 2^64 - 1 may have failed before (`reads`, `writes`).
 pub(crate) fn rewrite<S: Source, O: Sink>(
     alloc: Global,
     task: TextTask,

@@ -43,9 +43,11 @@ fault_in_form f s rest =
 abbrev pub IsFaultOf : OpcodeForm → SlotFields → FaultKind → Type 0
 IsFaultOf f s kind = (rest : List ℕ) → fault_in_form f s rest ≡ Some kind
 
--- the fault of an instruction's first slot s, if its opcode has this form and the bytes `rest`
--- follow the slot: Opcode if the opcode has no form (None), else the first of Reserved, Register
--- and SecondSlot that applies. The result is None if an instruction begins at s
+-- the fault of an instruction's first slot s. The first argument is the form of its opcode, and
+-- `rest` has the bytes after s. The fault is Opcode if the opcode has no form (None), else the
+-- first of these that applies: Reserved (a field has a value that the form does not allow),
+-- Register (a register is above 10), SecondSlot (the second slot of a wide instruction is missing,
+-- or a field of it is not allowed). The result is None if an instruction begins at s
 abbrev pub fault_by_form : Option OpcodeForm → SlotFields → List ℕ → Option FaultKind
 fault_by_form None s rest = Some Opcode
 fault_by_form (Some f) s rest = fault_in_form f s rest

@@ -136,8 +136,10 @@ pub(crate) fn touched(kind: Kind, offset: i64, bytes: i64) -> (i64, i64) {
     (first, last)
 }
 
-/// Writes which bytes the instruction reads, writes or changes (`verb`), those from `first` to `last`, both included: as
-/// `it reads bytes -8 to -1`, or as `it reads byte -1` if the two are equal.
+/// Writes which bytes the instruction, or the helper that it calls, reads, writes or changes: as `it reads bytes -8 to -1`, or as `it reads
+/// byte -1` if `first` and `last` are equal. `verb` is the word after `it`. `first` and `last` are the first and the last of the bytes,
+/// both included, as offsets from the stack's upper end or from the start of a value; the caller then writes of which of the two.
+/// `AllocError`: out of memory.
 fn write_touched(text: &mut String, verb: &str, first: i64, last: i64) -> Result<(), AllocError> {
     write!(text, "it {verb} ")?;
     write_byte_range(text, first, last)
@@ -188,8 +190,9 @@ pub(crate) fn write_unwritten(
     write_way(text, refusal, Wanted::Stack { first, last })
 }
 
-/// The lowest spill, a pointer or a map that is whole in eight bytes of the stack, that overlaps the stack bytes from `first` to `last`:
-/// the offset of its lowest byte, from the stack's upper end, and its kind. `None` if no spill overlaps these bytes.
+/// The lowest spill in `facts`, a pointer or a map that is whole in eight bytes of the stack, that overlaps the stack bytes from `first` to
+/// `last`. Both are offsets from the stack's upper end, and included. Returns the offset of the spill's lowest byte, and its kind; `None`
+/// if no spill overlaps these bytes. The text on an access that is rejected for `PartOfSpill` names this spill.
 fn spill_among(facts: &Facts, first: i64, last: i64) -> Option<(i64, Kind)> {
     for index in 0..STACK_SLOTS {
         let lowest = 8 * index as i64 - 8 * STACK_SLOTS as i64;
@@ -215,10 +218,11 @@ fn write_spill(text: &mut String, lowest: i64, kind: Kind) -> Result<(), AllocEr
     text.push_str("), which a load of these 8 bytes alone reads")
 }
 
-/// Writes which stack bytes the instruction, or the helper that it calls, reads or changes (`verb`): those from offset `first` to offset
-/// `last`. Then writes which spill of `facts`, those before the instruction, overlaps them, of several the lowest (`spill_among`), and that
-/// only a load of all its eight bytes reads it. The text says `spilled pointer` of a spilled map, too. Some spill overlaps the bytes, since
-/// the reason of the rejection is `PartOfSpill`; the arm `None` can't occur.
+/// Writes which stack bytes the instruction, or the helper that it calls, `reads` or `changes` (`verb`): those from `first` to `last`, both
+/// included, by their offsets from the stack's upper end. Then writes which spill of `facts`, those before the instruction, overlaps these
+/// bytes, the lowest if several do (`spill_among`), and that only a load of all eight bytes of the spill reads it. A spill is a pointer or
+/// a map that is whole in a stack slot; the text says `spilled pointer` of a map, too. Some spill overlaps the bytes, since the reason of
+/// the rejection is `PartOfSpill`; so the arm `None` can't occur.
 pub(crate) fn write_part_of_spill(
     text: &mut String,
     facts: &Facts,
@@ -312,9 +316,10 @@ fn write_given(
 }
 
 /// Writes why the offset of `access`, an atomic operation in a map's value, is rejected. `pointer` is what is known of the operation's base
-/// register: the map, and the least and the greatest offset in bytes from the start of a value. The instruction's own offset is added to
-/// both. The sum has to be one known number, a multiple of the operation's size. If both sums are equal, the offset is known, so it is no
-/// multiple, and this is written. Else the range of the offset is written, and that one offset has to be known.
+/// register: the descriptor of the map, which is written too, and the least and the greatest offset in bytes from the start of a value. The
+/// instruction's own offset is added to both. The sum has to be one known number, a multiple of the operation's size. If both sums are
+/// equal, the offset is known, and the text is that it is no multiple. Else the text has the range of the offset, and that one offset has
+/// to be known.
 fn write_unaligned_atomic(
     text: &mut String,
     access: Access,
@@ -363,10 +368,11 @@ fn write_stack_need(
     }
 }
 
-/// Writes, by the reason of the refusal, what is known of `access`, the access of the rejected instruction, and what the broken rule
-/// requires. The reasons `UnalignedAtomic` and `OutsideValue` are only those of accesses to a map's value, so the base register then points
-/// into a value. The last arm has the four reasons of an access to the stack: `OutsideStack`, `UnalignedStack`, `UnwrittenStack` and
-/// `PartOfSpill`.
+/// Appends to `text`, by the reason of the refusal, what is known of `access`, the access of the rejected instruction, and what the broken
+/// rule requires. `first` and `last` are the first and the last byte that it may touch, as offsets. `access.given` is the register whose
+/// value a store writes, or with which an atomic operation computes. The reasons `UnalignedAtomic` and `OutsideValue` are only those of
+/// accesses to a map's value, so the base register then points into a value. The last arm has the four reasons of an access to the stack:
+/// `OutsideStack`, `UnalignedStack`, `UnwrittenStack` and `PartOfSpill`. `AllocError`: out of memory for the text.
 fn write_access_need(
     text: &mut String,
     refusal: &RefusedProgram<'_>,
@@ -415,10 +421,10 @@ fn write_access_need(
     }
 }
 
-/// Writes what is known of the memory access of the rejected instruction `insn`, and what the access needs. The caller, `write_need` of
-/// `needs.rt`, writes faults of the shape and unreadable registers itself, and has an arm for most instructions; this function is for all
-/// others. These are loads, stores and atomic operations: unconditional jumps and wide loads have no arm there either, but can only have
-/// faults of the shape. So `insn` always accesses memory, and the arm `None`, which writes nothing, can't occur.
+/// Writes what is known of the memory access of the rejected instruction `insn`, and what the access needs. `write_need` of `needs.rt`
+/// calls this function in the last arm of its `match`, after its tests for faults of the shape and for unreadable registers. Loads, stores
+/// and atomic operations reach that arm. Unconditional jumps and wide loads would too, but they are rejected only for faults of the shape.
+/// So `insn` always accesses memory, and the arm `None`, which writes nothing, can't occur.
 pub(crate) fn write_need(
     text: &mut String,
     refusal: &RefusedProgram<'_>,

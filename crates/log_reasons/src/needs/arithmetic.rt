@@ -8,9 +8,10 @@ use std::alloc::AllocError;
 use std::fmt::Write;
 use tagged_model::FARTHEST_OFFSET;
 
-/// Writes the kind of the register `dst`, and the kind of the register or the constant `src`, as the beginning of a sentence whose rest the
-/// caller writes, as `r2 is stack - 8 and the constant is 4`. For a move (`op`) it writes only what is known of `src`, as `dst` is not
-/// read. `refusal` has the facts before the instruction.
+/// Appends to `text` what is known of the operands of a rejected arithmetic instruction, as `r2 is stack - 8 and the constant is 4`: the
+/// kind of the register `dst`, and for `src` the kind of the register or the value of the constant. For a move (`op`) it is only what is
+/// known of `src`, as a move does not read `dst`. It begins a sentence that the caller ends with the rule that the operands break.
+/// `refusal` has the facts before the instruction. `AllocError`: out of memory for the text.
 fn write_operands(
     text: &mut String,
     refusal: &RefusedProgram<'_>,
@@ -83,8 +84,9 @@ pub(crate) fn write_need(
     }
 }
 
-/// Writes what is known of `register`, the only operand of a negation, a byte-order conversion or a move with sign extension, and that this
-/// operator takes only numbers.
+/// Writes why a negation, a byte-order conversion or a move with sign extension is rejected: what is known of its only operand, as
+/// `r1 is context`, and that this operator takes only numbers. `register` is the number of the operand, 0 to 10, and `refusal` has the
+/// facts before the instruction. `AllocError`: out of memory for the text.
 pub(crate) fn write_number_needed(
     text: &mut String,
     refusal: &RefusedProgram<'_>,

@@ -129,11 +129,13 @@ fn is_outside_stack(first: i64, last: i64) -> bool {
     first < -(STACK_SIZE as i64) || last > -1
 }
 
-/// Why a helper may not read the bytes to which an argument of `kind` points, or not write them if `role` is `Room`; `None` if it may.
-/// `role` is `Key`, `Value` or `Room`, and `byte_count` says how many bytes. `facts` are those before the call; `named` has what each open
-/// descriptor names. In the stack the reason is `OutsideStack` if not all bytes lie in it; else, for a read, `PartOfSpill` if they touch a
-/// spill, else `UnwrittenStack` if one may be unwritten, while `Room` may overwrite spills and unwritten bytes. `OutsideValue` if some may
-/// lie outside a value, `MaybeNull` for a look-up's result that may be null, `HelperArgument` for any other kind.
+/// Why a helper may not read the bytes to which an argument of `kind` points, or, if `role` is `Room`, not write them; `None` if it may.
+/// `role` is `Key`, `Value` or `Room`. `facts` are those before the call; `named` has what each open descriptor names. The helper begins 0
+/// bytes from the pointer, and reads or writes at most `count` bytes (`byte_count`): `first` is the first byte, `last` the last one, as
+/// offsets from the stack's upper end or from the start of a value (`touched`). For a pointer into the stack the reason is `OutsideStack`
+/// if not all of them lie in it. For a read it is otherwise `PartOfSpill` if they touch a spill, else `UnwrittenStack` if one may be
+/// unwritten; a write may overwrite both. `OutsideValue` if some may lie outside a value, `MaybeNull` for a look-up's result that may be
+/// null, `HelperArgument` for any other kind.
 fn bytes_reason(named: &[Named], facts: &Facts, role: Role, kind: Kind) -> Option<Reason> {
     let count = byte_count(named, facts, role);
     let (first, last) = touched(kind, 0, i64::from(count));
@@ -155,10 +157,12 @@ fn bytes_reason(named: &[Named], facts: &Facts, role: Role, kind: Kind) -> Optio
     }
 }
 
-/// Why `argument`, a register and its role in a call of a helper, is rejected; `None` if it is allowed. `facts` are those before the call,
-/// and `named` has what each open descriptor names. `HelperArgument` if the register has not the kind that its role needs: a map, the
-/// context or a number; or, for `Key`, `Value` and `Room`, the roles of the last arm, a pointer to bytes, which `bytes_reason` may also
-/// reject for other reasons. `LengthUnbounded` if a length may be 0, or `LENGTHS_END` or more.
+/// Why `argument`, a register and its role in a call of a helper, is rejected; `None` if it is allowed. By this `refused_argument` finds
+/// the argument of a rejected call about which the log writes. `facts` are those before the call, and `named` has what each open descriptor
+/// names. `HelperArgument` if the register has not the kind that its role needs: a map for `Map`, the context for `Context`, a number for
+/// `Number` and `Length`, a pointer to bytes for `Key` and `Value`, which the helper reads, and for `Room`, to which it writes.
+/// `bytes_reason` tests such a pointer, and has other reasons too. `LengthUnbounded` if a number for `Length` may be 0, or `LENGTHS_END`
+/// (2^29) or more.
 fn argument_reason(named: &[Named], facts: &Facts, argument: Argument) -> Option<Reason> {
     let kind = kind_of(facts, argument.register);
     match (argument.role, kind) {
@@ -176,8 +180,9 @@ fn argument_reason(named: &[Named], facts: &Facts, argument: Argument) -> Option
     }
 }
 
-/// The first rejected argument of the helper, on which the log then writes what is known and needed; `None` if all arguments are allowed.
-/// The order is that in which the verifier checks them (`arguments_of`): a length before the bytes that it counts.
+/// The first rejected argument of a rejected call of `helper`, on which the log then writes what is known and needed; `None` if all
+/// arguments are allowed. `refusal` has what each open descriptor names, and the facts before the call. The order is that in which the
+/// verifier checks the arguments (`arguments_of`): a length before the bytes that it counts.
 fn refused_argument(refusal: &RefusedProgram<'_>, helper: Helper) -> Option<Argument> {
     for argument in arguments_of(helper) {
         if argument_reason(refusal.named, refusal.facts, *argument).is_some() {
@@ -213,11 +218,12 @@ fn write_length(text: &mut String, kind: Kind) -> Result<(), AllocError> {
     write!(text, ", and a length is from 1 to {greatest}")
 }
 
-/// Writes, by the reason of the fault, what is known of the rejected argument and what the helper needs in its role (`Role`), for example
-/// a map or a length. `first` and `last` are the first and the last byte that the helper may read through a pointer into the stack or into
-/// a value, or write if the role is `Room`, as offsets from the stack's upper end or from the start of the value. The helper begins at the
-/// byte to which the argument points, so `touched` gets the offset 0. Only the arms for such a pointer use `first` and `last`. In the last
-/// arm the reason is `HelperArgument`: an argument of this role may not have this kind.
+/// Writes, by the reason of the fault, what is known of the rejected argument and what the helper needs in its role (`Role`), for example a
+/// map or a length. `refusal` has the fault of the rejected call, and the facts before it. If the argument points into the stack or into a
+/// value, `first` and `last` are the first and the last byte that the helper may read, or write if the role is `Room`: offsets from the
+/// stack's upper end, or from the start of the value. The helper begins at the byte to which the argument points, so `touched` gets the
+/// offset 0. For any other kind `first` and `last` are not used. In the last arm the reason is `HelperArgument`: an argument of this role
+/// may not have this kind. `AllocError`: out of memory.
 fn write_argument(
     text: &mut String,
     refusal: &RefusedProgram<'_>,
@@ -248,9 +254,10 @@ fn write_argument(
     }
 }
 
-/// Writes what is known of the rejected argument in a call of the helper with the number `id`, and what is required. The caller has handled
-/// faults of the shape and unreadable registers before. So the helper is known, its arguments are readable, and one of them breaks another
-/// rule: `refused_argument` finds the first one that does. If the helper were unknown, or no argument rejected, nothing would be written.
+/// Appends to `text` what is known of the rejected argument in a call of the helper with the number `id`, and what is required of it.
+/// `refusal` has the rejected program, and the facts before the call. The caller has handled faults of the shape and unreadable registers
+/// before. So the helper is known, its arguments are readable, and one of them breaks another rule: `refused_argument` finds the first one
+/// that does. If the helper were unknown, or no argument rejected, nothing would be written. `AllocError`: out of memory for the text.
 pub(crate) fn write_need(
     text: &mut String,
     refusal: &RefusedProgram<'_>,

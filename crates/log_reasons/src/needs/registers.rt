@@ -21,7 +21,8 @@ pub(crate) fn kind_of(facts: &Facts, register: u8) -> Kind {
     }
 }
 
-/// Writes a register and its kind, as `r1 is context`.
+/// Appends a register and its kind to `text`, as `r1 is context`, for the text on a rejected instruction. `register` is the number of the
+/// register, 0 to 10; `facts` are those before the instruction. `AllocError`: out of memory for the text.
 pub(crate) fn write_register(
     text: &mut String,
     facts: &Facts,
@@ -37,7 +38,8 @@ pub(crate) fn write_maybe_null(text: &mut String, register: u8) -> Result<(), Al
     write!(text, "r{register} may be null: test it first")
 }
 
-/// The number of the register that is the second operand of a comparison, or that a store writes; `None` if `src` is a constant.
+/// The number of the register `src`: the second operand of a comparison, or the source of a store, whose value goes to memory. `None` if
+/// `src` is a constant. The text on why the instruction is rejected may name this register.
 pub(crate) fn register_of(src: Operand) -> Option<u8> {
     match src {
         Operand::Reg(reg) => Some(reg.number()),

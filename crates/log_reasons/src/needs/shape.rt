@@ -56,8 +56,8 @@ fn fd_of(insn: &Insn) -> u32 {
     insn.profile().reference.descriptor().unwrap_or(0)
 }
 
-/// Writes that the descriptor by which `insn` loads a map, or a value of one, names no map. `what` is what it names: `nothing` if it is not
-/// open, else `a program`.
+/// Writes that a map is needed: `insn` loads a map, or the address of a byte in a map's value, and its descriptor names no map. `what` is
+/// what this descriptor names: `nothing` if it is not open, else `a program`.
 fn write_no_map(text: &mut String, insn: &Insn, what: &str) -> Result<(), AllocError> {
     let fd = fd_of(insn);
     write!(text, "descriptor {fd} names {what}, and a map is needed")
@@ -87,9 +87,10 @@ fn write_unknown_helper(text: &mut String, insn: &Insn) -> Result<(), AllocError
     }
 }
 
-/// Writes why `insn` can't load the address of a value directly (`NoDirectValue`): its map is a hash map, has not exactly one element, or
-/// the offset is not in its value. The `else` of the `let` can't occur: only a load of such an address, a `Reference::Value`, has this
-/// reason, and a descriptor that names no map is rejected for another reason first.
+/// Writes why `insn` can't load the address of a byte in a map's value directly, that is, without a call (`NoDirectValue`): the map is a
+/// hash map, has not exactly one element, or the offset is not in its value. `named` has the open descriptors, each with the object that it
+/// names. The `else` of the `let` can't occur: only a load of such an address, a `Reference::Value`, has this reason, and a descriptor that
+/// names no map is rejected for another reason first.
 fn write_no_value(text: &mut String, named: &[Named], insn: &Insn) -> Result<(), AllocError> {
     let fd = fd_of(insn);
     let reference = insn.profile().reference;
@@ -115,8 +116,9 @@ fn write_no_value(text: &mut String, named: &[Named], insn: &Insn) -> Result<(),
     }
 }
 
-/// Writes what is wrong with the rejected instruction `insn`, for example to which slot its jump leads. In the log this comes after the
-/// reason in words: that of `Unreachable` is about paths, so `none` in its arm is no path. The reason of `refusal` is one of the nine of a
+/// Writes what is wrong with the rejected instruction `insn`, for example to which slot its jump leads. The log has this text after the
+/// reason in words (`reason_words`). For `Unreachable` these are `no path leads to the instruction`, so `none` in its arm means no path.
+/// The third argument of `write_no_map` is what the descriptor names instead of a map. The reason of `refusal` is one of the nine of a
 /// program's shape: the eight that have arms of their own, and `NoDirectValue`, which is the arm `_`. None of them depends on what the
 /// registers hold. The only caller, `write_need`, has tested the reason (`is_of_shape`); any other would get the text for `NoDirectValue`.
 pub(crate) fn write_shape_fault(

@@ -22,9 +22,11 @@ abbrev pub entries_after : {K : Type 0} → ℕ → List (K × ℕ) → List (K 
 entries_after p [] = []
 entries_after p (e ∷ es) = if nat_eq p e.1 then es else entries_after p es
 
--- the entries that a save has yet to put: all entries if none was put (None); else those after the
--- entry of element p, which was put last (Some p), and none if no entry has that element. The first
--- component of an entry, of type K, has its key and value, the second is the number of its element
+-- the entries of a map that a save has not written yet. For each entry, in the order of es, a save
+-- writes a command that puts its key and its value into the restored map. If none is written
+-- (None), the result is all entries; else those after the entry of element p, which was written
+-- last (Some p), and none if no entry has that element. The first component of an entry, of type K,
+-- has its key and value, the second is the number of its element
 abbrev pub rest_after : {K : Type 0} → Option ℕ → List (K × ℕ) → List (K × ℕ)
 rest_after None es = es
 rest_after (Some p) es = entries_after p es

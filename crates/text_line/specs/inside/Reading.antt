@@ -39,8 +39,9 @@ infixl 10 ◌>>=◌
 abbrev pub ◌>>=◌ : {A B : Type 0} → Option A → (A → Option B) → Option B
 o >>= f = option_and_then f o
 
--- a choice by an option: x if it has no value (None), else f applied to its value. So a reader that
--- has tried one form reads another (x) if the tokens do not have the first
+-- a choice by an option: x if it has no value (None), else f applied to its value. By it a parser
+-- tries two alternatives: the option is what the first makes of the tokens, and f makes the result
+-- from that; if the tokens do not fit the first (None), the result is x, that of the second
 abbrev pub match_option : {A B : Type 0} → Option A → B → (A → B) → B
 match_option None x f = x
 match_option (Some y) x f = f y

@@ -193,14 +193,15 @@ falls_settled site jumps_on_null n x = settled site (not jumps_on_null) (8 * n +
 abbrev pub jumps_settled : ℕ → Bool → ℕ → NumberedFacts → NumberedFacts
 jumps_settled site jumps_on_null n x = settled site jumps_on_null (8 * n + 4) x
 
--- the facts on the falling edge out of an instruction, from x, those after it that hold on each of
--- its edges, and its flow, which has what the transfer function adds on only one edge. None if
--- control never takes this edge: the run ends (`Ends`), control only jumps (`Jumps`), or a
--- comparison always jumps (`falls` is None). Any other comparison (`Compares`) gives the registers
--- among its operands the ranges `falls`, that of dst first. A null test (`Settles`) of the look-up
--- at slot `site` falls if the result is not null (`jumps_on_null` is true) or if it is null
--- (false), and so adds that; it gives all groups of eight stack slots the new number `fresh`. After
--- any other flow the edge has x: what `WritesSlot` and `Writes` change has its new number in x
+-- the facts on the falling edge out of an instruction, the one to the next instruction; None if
+-- control never takes this edge. x has the facts after the instruction that hold on each of its
+-- edges. The flow, from the transfer function, adds what holds on only one. `Ends` has no edge, and
+-- `Jumps` only the jumping edge. `Falls`, `WritesSlot`, `Writes` and `Either` keep x, in which
+-- groups of stack slots that the instruction has changed have new numbers already. After a
+-- comparison (`Compares`) the operands have the ranges `falls`, that of dst first (`jumps` is for
+-- the other edge); None if `falls` is None, since the comparison always holds. After a null test
+-- (`Settles`) the result of the look-up at slot `site` is not null if the test jumps on null
+-- (`jumps_on_null`), else null, and all groups of eight stack slots have the new number `fresh`
 abbrev pub on_falling_edge : Flow → ℕ → NumberedFacts → Option NumberedFacts
 on_falling_edge Ends fresh x = None
 on_falling_edge Falls fresh x = Some x
@@ -216,10 +217,11 @@ on_falling_edge (Settles site jumps_on_null) fresh x =
 -- control never takes this edge. x has the facts after the instruction that hold on each of its
 -- edges. The flow, from the transfer function, adds what holds on only one. `Ends` has no edge;
 -- `Falls`, `WritesSlot` and `Writes` have only the falling edge. `Jumps` and `Either` keep x. After
--- a comparison (`Compares`) the operands have the ranges `jumps`, that of dst first (`falls` is for
--- the other edge); None if `jumps` is None, since the comparison can't hold. After a null test
--- (`Settles`) the result of the look-up at `site` is null if the test jumps on null
--- (`jumps_on_null`), else not null, and all groups of eight stack slots have the new number `fresh`
+-- a comparison (`Compares`) the registers among the operands have the ranges `jumps`, that of dst
+-- first; None if `jumps` is None, since the comparison can't hold. After a null test (`Settles`)
+-- the result of the look-up at `site` is null if the test jumps on null (`jumps_on_null`), else not
+-- null. This may change any stack slot, so all groups of eight get `fresh`, a new number, since the
+-- number of a group identifies what is known of it
 abbrev pub on_jumping_edge : Flow → ℕ → NumberedFacts → Option NumberedFacts
 on_jumping_edge Ends fresh x = None
 on_jumping_edge Falls fresh x = None
@@ -230,18 +232,19 @@ on_jumping_edge Either fresh x = Some x
 on_jumping_edge (Compares dst src falls jumps) fresh x = option_map (with_ranges x dst src) jumps
 on_jumping_edge (Settles site jumps_on_null) fresh x = Some (settled site jumps_on_null fresh x)
 
--- the stack slot i that `WritesSlot i` names, the only one that the instruction may have changed,
--- is a slot of the stack (i is below `stack_slots`), so it has a group, whose number can be
--- replaced. Nothing is required of any other flow, which names no stack slot
+-- if the flow of an instruction is `WritesSlot i`, so that the only stack slot that it may have
+-- changed is i, then i is a slot of the stack (below `stack_slots`). So i is in a group of eight
+-- stack slots, whose number, which identifies what is known of it, `writes_renumbered` can replace.
+-- Nothing is required of any other flow, which names no stack slot
 abbrev pub IsInStack : Flow → Type 0
 IsInStack (WritesSlot i) = i < stack_slots
 IsInStack flow = Unit {0}
 
--- x, the facts after an instruction with this flow, with the new number `fresh` for each group of
--- eight stack slots that the instruction may have changed: after `WritesSlot i` the group that has
--- stack slot i, after `Writes` all groups, since it may have changed any slot. After any other flow
--- the result is x. A null test changes the stack only on its edges, so its new numbers are given
--- there
+-- x, the facts after an instruction, with the new number `fresh` for each group of eight stack
+-- slots that the instruction may have changed, since a number identifies what is known of a group.
+-- The flow, the first argument, names these groups: `WritesSlot i` that of stack slot i, `Writes`
+-- all, since any slot may have changed. After any other flow the result is x. Of these only a null
+-- test changes the stack, and only on its edges, which get the new number there
 abbrev pub writes_renumbered : Flow → ℕ → NumberedFacts → NumberedFacts
 writes_renumbered (WritesSlot i) fresh x = group_renumbered x i fresh
 writes_renumbered Writes fresh x = renumbered x fresh

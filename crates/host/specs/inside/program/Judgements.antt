@@ -6,8 +6,10 @@ use Rattle.verifier.specs.Judgement.{refusal_text}
 use Rattle.verifier.specs.declared.refusal.Refusal.{Refusal}
 use Rattle.host.specs.program.Judging.{IsJudgement}
 
--- the line that `verify` writes for a verdict, without its line feed: `accepted` without a refusal
--- (None), else `refused: slot S reason N`, with the slot S and the number N of its cause
+-- the line that `verify` writes for a verdict, without its line feed. If the program is accepted,
+-- there is no refusal (None), and the line is `accepted`. For a refusal it is `refused: slot S
+-- reason N`, in decimal (`refusal_text`): S is the slot of the refusal, and N the number of its
+-- cause (`cause_number`): that of the verifier's reason, or 100 plus that of the codec's fault
 abbrev pub judgement_text : Option Refusal → Text
 judgement_text None = codes "accepted"
 judgement_text (Some refusal) = refusal_text refusal

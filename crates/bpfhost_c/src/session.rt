@@ -200,8 +200,8 @@ impl Session {
     /// weight of a run and rounded down, but at least 1, and at most `packets` (`few`). The weight is the most instructions that a run
     /// executes, plus 128 (`CALL_WEIGHT` of the crate `tenant`) for each of the most calls that a run makes. The result is `packets` if
     /// `bound` is 0, and also if the batch is rejected as a whole: if `fd` names no program, or `tenant` is not served, or if the batch has
-    /// neither one context nor one for each packet (`whole`; `are_contexts` is then false). Then no packet may be left out: with as many
-    /// packets as contexts the batch would be run.
+    /// neither one context nor one for each packet (`whole`; `are_contexts` is then false). In this last case no packet may be left out:
+    /// with as many packets as contexts the batch could be run.
     fn allowed_packets(
         &self,
         tenant: usize,

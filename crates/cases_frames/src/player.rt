@@ -207,8 +207,9 @@ impl HostPlayer {
 
     /// The reply to PROG_LOAD, as hex digits, for the words of a line: a tenant, and the bytes of the program's slots as hex digits in the
     /// notation of cases (`bytes_of`). Unlike `load`, which assembles a text, it can also load bytes that are no program. `Number` if the
-    /// tenant is no number of 16 bits; else, of the digits, `Notation` if an escape or a repetition is wrong, `NoText` if they are not
-    /// UTF-8, and `Digits` if a character is neither a blank nor a hex digit, or the number of digits is odd; `Memory` if out of memory.
+    /// tenant is no number of 16 bits; else, of the digits, `Notation` if a repetition is wrong or a `\x` is cut off, `NoText` if they are
+    /// not UTF-8, and `Digits` if a character, but for spaces, or one after a `\x` is no hex digit, or the number of digits is odd. Out of
+    /// memory is `Digits` in the decoder of the digits, else `Memory`.
     fn load_digits(&mut self, rest: &str) -> Result<String, CaseError> {
         let (tenant, digits) = first_word(rest);
         let tenant = tenant.parse()?;
@@ -218,10 +219,10 @@ impl HostPlayer {
 
     /// The reply to PROG_TEST_RUN, as hex digits, for a line `run`. `rest` has the words after `run`: a tenant and the descriptor of a
     /// program, in decimal digits, and the hex digits of a packet in the notation of cases (`bytes_of`). In the frame the packet follows
-    /// the bytes of the context words: those that the last line `words` gave, or zeros if there was none. Of the packet, `Notation` if an
-    /// escape or a repetition is wrong, `NoText` if the bytes that the notation gives are not UTF-8, `Digits` if a character is neither a
-    /// space nor a hex digit, or the number of digits is odd. Then `Number` if the tenant is no number of 16 bits, or the descriptor none
-    /// of 32 bits. Out of memory is `Digits` in the decoder of the digits, else `Memory`.
+    /// the bytes of the context words: those that the last line `words` gave, or zeros if there was none. Of the packet, `Notation` if a
+    /// repetition is wrong or a `\x` is cut off, `NoText` if the bytes that the notation gives are not UTF-8, `Digits` if a character, but
+    /// for spaces, or one after a `\x` is no hex digit, or the number of digits is odd. Then `Number` if the tenant is no number of 16
+    /// bits, or the descriptor none of 32 bits. Out of memory is `Digits` in the decoder of the digits, else `Memory`.
     fn run(&mut self, rest: &str) -> Result<String, CaseError> {
         let (tenant, rest) = first_word(rest);
         let (descriptor, packet) = first_word(rest);
@@ -233,9 +234,9 @@ impl HostPlayer {
     /// repeats. `word` is its first word, `rest` the text after it: for `frame` the frame in hex digits, for any other word the tenant and
     /// the fields of a command. A program is loaded by `load` from its text, by `slots` from its slots in hex digits. `UnknownWord` if a
     /// line with this first word asks for no frame; else `Number` if a decimal number is missing or wrong. For hex digits and a program's
-    /// text: `Notation` if an escape `\xHH` or a repetition `{COUNT*PART}` is wrong, `NoText` if what they give is not UTF-8, `Digits` if a
-    /// hex digit is wrong or the number of digits is odd, `Text` if the text does not assemble. Out of memory is `Digits` in the decoder of
-    /// the digits, `Text` in the assembler, else `Memory`.
+    /// text: `Notation` if a `\x` is cut off or a repetition `{COUNT*PART}` is wrong, `NoText` if what they give is not UTF-8, `Digits` if
+    /// a hex digit, also after a `\x`, is wrong or the number of digits is odd, `Text` if the text does not assemble. Out of memory is
+    /// `Digits` in the decoder of the digits, `Text` in the assembler, else `Memory`.
     fn reply_to_line(&mut self, word: &str, rest: &str) -> Result<String, CaseError> {
         match word {
             "frame" => self.reply_to_digits(rest),

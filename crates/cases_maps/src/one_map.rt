@@ -63,12 +63,14 @@ fn remove<M: ValueMap>(
     Ok(done(alloc, map.remove(&key), "removed")?)
 }
 
-/// Returns the key that follows a key in the map, as hex digits in groups of `GROUP` (4) bytes; if no key follows, or the map has no key,
-/// the name of the map's fault, `NoEntry`. `digits` is the key that it follows, as hex digits in the notation of cases (`bytes_of`), which
-/// blanks may separate. If it gives no byte, or the map does not have this key, the result is the first key. `size` is the size of the
-/// map's keys in bytes, by the precondition. `Notation` if a repetition is wrong or a `\x` is cut off; `NoText` if the bytes that `digits`
-/// gives are not UTF-8; `Digits` if a character, also after a `\x`, is no hex digit, or the number of digits is odd; `Size` if the key is
-/// not empty and has more or fewer bytes than `size`. If out of memory, `Memory`, or `Digits` from the decoder of the digits.
+/// Returns the key that follows a key in the map, as hex digits, with a blank between groups of `GROUP` (4) bytes; if no key follows, or
+/// the map has no key, the name of the map's fault, `NoEntry`. `digits` is the key that it follows, as hex digits in the notation of cases:
+/// blanks may separate them, `{COUNT*PART}` gives the digits PART COUNT times, and `\xHH` the byte with these two hex digits, as `\x61` the
+/// digit `a`. If it gives no byte, or the map does not have this key, the result is the first key. `size` is the size of the map's keys in
+/// bytes, by the precondition. `Notation` if a repetition lacks its `*` or `}`, or its COUNT is no number or too large, or if a `\x` is cut
+/// off; `NoText` if the bytes that `digits` gives are not UTF-8; `Digits` if a character, also after a `\x`, is no hex digit, or the number
+/// of digits is odd; `Size` if the key is not empty and has more or fewer bytes than `size`. If out of memory, `Memory`, or `Digits` from
+/// the decoder of the digits.
 fn next<M: ValueMap>(alloc: Global, map: &M, size: u32, digits: &str) -> Result<String, CaseError>
     requires { size ≡ (M.keys map.now).shape.key_size }
 {

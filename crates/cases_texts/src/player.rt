@@ -21,11 +21,13 @@ impl TextPlayer {
 
 impl Player for TextPlayer {
     /// Plays a line: the first word selects the function that makes the line's outcome from the text after this word. `codec` decodes an
-    /// instruction and encodes it again. `dis` disassembles a program, given in hex digits; the next arm lists the instructions of such a
-    /// program by slot. `exits` makes a program of a number of exits. `opcodes` counts the opcodes that instructions have, and reads no
-    /// text. `asm` assembles a program's text; `round` also disassembles the program, and assembles that text again. `hex` reads hex lines,
-    /// `program` runs the command line of `host`, and `map` reads an argument for a map. `UnknownWord` for any other word; the other errors
-    /// are those of the function.
+    /// instruction and encodes it again, and shows it with the number of its slots and its bytes. `dis` disassembles a program, given in
+    /// hex digits. The third word of the `match` shows for each slot of such a program, and for the slot after its last one, the
+    /// instruction that begins there, or `none`. `exits` makes a program of a number of exits. `opcodes` counts the opcodes that
+    /// instructions have, and reads no text. `asm` assembles a program's text to hex lines, each with the sixteen hex digits of a slot.
+    /// `round` also disassembles the program, and assembles that text again. `hex` reads hex lines, and shows the bytes of their slots.
+    /// `program` runs the command line of `host`, and shows the exit status, the output and the fault line. `map` reads an argument for a
+    /// map, and shows the descriptor and the shape. `UnknownWord` for any other word; the other errors are those of the function.
     fn play(&mut self, line: &str) -> Result<String, CaseError> {
         let (word, rest) = first_word(line);
         match word {

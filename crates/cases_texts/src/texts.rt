@@ -7,9 +7,11 @@ use insn_codec::{Program, write_program};
 use std::alloc::Global;
 
 /// Assembles the program whose text `text` represents in the notation of cases (`written`), in which `;` is a line feed, `\xHH` a byte and
-/// `{COUNT*PART}` a repetition. `Notation` if a repetition is wrong, or `text` can't be split two bytes after a `\x`; `Digits` if these two
-/// bytes are no hex digits; `NoText` if the bytes of the program's text are not UTF-8. `Text` if the text does not assemble, also if memory
-/// runs out while it is assembled; `Memory` if memory runs out before.
+/// `{COUNT*PART}` a repetition. `Notation` if the `*` or the `}` of a repetition is missing, if its COUNT is no number or above
+/// `MOST_TIMES` of `cases`, or if two bytes can't be split off after a `\x`: fewer come before the next `\x`, the next brace of a
+/// repetition or the end, or they end within a character. `Digits` if the two bytes are no hex digits; `NoText` if the bytes of the
+/// program's text are not UTF-8. `Text` if the text does not assemble, also if memory runs out while it is assembled; `Memory` if memory
+/// runs out before.
 fn program_of(alloc: Global, text: &str) -> Result<Program, CaseError> {
     let text = written(alloc, text)?;
     let program = assemble(alloc, text_of(&text)?)?;

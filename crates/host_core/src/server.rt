@@ -176,13 +176,15 @@ pub fn serve<R: Source, W: Sink>(
 /// `MOST_FRAMES`, got replies; then frees the host. Returns the number of these frames. The keys of the host's hash maps are hashed with
 /// `seed`. Fewer than 2^64 - 1 calls of the reader, and of the writer, have failed before: they are counted in 64 bits. `ServesStream` has
 /// which frames were read, which bytes were written, and, unless a call of the writer failed, that each tenant to which no memory was
-/// refused got the replies of its own machine, from the state of a new tenant on. The states after the call are only some `states`, since
-/// the host is freed.
+/// refused got the replies of its own machine, from the state of a new tenant on. A `stream_state` has the states of the tenants, and what
+/// contracts see of the reader (by `R.Source`) and of the writer (by `W.Sink`). The states after the call are only some `states`, since the
+/// host is freed.
 ///
 /// # Errors
 ///
-/// `Read` or `Write` if a call of the reader or writer failed, `Truncated` if the input ends in a frame, `TooManyFrames` if another byte,
-/// which is read, follows the last frame allowed, `Memory` if out of memory for host or buffers: then nothing was read or written.
+/// `frames` of the `ServeFault` counts the replies that were written whole and flushed. `kind`: `Read` or `Write` if a call of the reader
+/// or the writer failed, `Truncated` if the input ends in a frame, `TooManyFrames` if another byte, which is read, follows the last frame
+/// allowed, `Memory` if out of memory for host or buffers: then nothing was read or written, and `frames` is 0.
 pub fn serve_new_host<R: Source, W: Sink>(
     alloc: Global,
     tenants: usize,

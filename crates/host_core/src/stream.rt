@@ -146,7 +146,9 @@ impl<W: Write> Sink for Counted<W> {
         outcome
     }
 
-    /// Flushes the writer of std and returns its outcome. After a success the output counts as flushed; an error counts as a failed call.
+    /// Flushes the writer of std and returns its outcome. After a success the output counts as flushed (`is_flushed`). Only contracts read
+    /// this: by it `serve` promises flushed replies, unless a call of the writer failed. An error counts as a failed call. The count does
+    /// not overflow, since the trait `Sink` requires that fewer than 2^64 - 1 calls have failed before.
     fn flush(&mut self) -> io::Result<()> {
         let outcome = self.inner.flush();
         match outcome {

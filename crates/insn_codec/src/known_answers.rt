@@ -59,8 +59,10 @@ fn fault_kind_at_front(bytes: &[u8]) -> Option<FaultKind>
     }
 }
 
-/// The fault of an exit with an immediate other than 0 is `Reserved`, that of a move to register 11 is `Register`, and that of the first
-/// slot of a wide load with no slot after it is `SecondSlot`.
+/// A test of the contract of `decode`, never called: each `prove!` has to follow from that of `fault_kind_at_front`, which returns the kind
+/// of the fault for which `decode` rejects the bytes. The front is the first one or two slots, which should spell an instruction. The fault
+/// of an exit with an immediate other than 0 is `Reserved`, that of a move to register 11 is `Register`, and that of the first slot of a
+/// wide load with no slot after it is `SecondSlot`.
 fn faults_at_front() {
     let number_in_exit = fault_kind_at_front(&[0x95, 0, 0, 0, 1, 0, 0, 0]);
     let is_reserved = number_in_exit == Some(FaultKind::Reserved);

@@ -12,7 +12,7 @@
 //! - `encode` writes the spelling and leaves the bytes after it unchanged: `length`, `room`, `bytes` of `encode`.
 //! - No two instructions have the same spelling, and no spelling is a prefix of another: `encoding_is_prefix_free`.
 //! - A program is read exactly if the bytes spell it, unless memory is refused: `found`, `only` of `read_program`. Otherwise
-//!   the fault is that of the length, or that of the lowest slot at which no instruction begins: `fault`, `faulty` of
+//!   the fault is that of the length, or that of the first instruction that can't be decoded: `fault`, `faulty` of
 //!   `read_program`, `at_most_one_fault`.
 //! - `write_program` writes the program's bytes, so they are read as the same program: `bytes`, `program` of `write_program`,
 //!   `only` of `read_program`.

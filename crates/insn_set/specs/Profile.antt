@@ -66,17 +66,21 @@ loaded_register (loads size signed dst) = Some dst
 loaded_register (stores size src) = None
 loaded_register (changes size op src) = None
 
--- the row of an instruction, by its group (`View`). `row` gets the registers that it reads as its
--- first and its second operand, the register that it writes, its successors, what it names, and the
--- number of its slots. None is no register. An operator of two operands (`binary`) reads its
--- destination dst as the first, but a move does not read it. A conditional jump (`branch`) also
--- reads dst as the first. Each of the two reads src as the second, unless it is a constant
--- (`register_of`). The distance `off` of a jump is in slots from the next instruction. An operator
--- of one operand (`unary`) reads its source as the first. An access reads its base register as the
--- first operand, and as the second the register that a store or an atomic operation has as its
--- source. Of accesses only a load writes a register: an `Insn` has no atomic operation that fetches
--- the old value. The row of a call has only the helper's number, neither the registers of the
--- arguments that it reads nor those that it changes. An exit reads register 0, the result
+-- the row of an instruction, by its group (`View`). The arguments of `row` are in this order: the
+-- register that the instruction reads as its first operand, that of the second, the register that
+-- it writes, its successors, what it names, and the number of its slots. None is no register. An
+-- operator of two operands (`binary`) reads its destination dst as the first, but a move does not
+-- read it (`first_operand`). A conditional jump (`branch`) also reads dst as the first. Each of the
+-- two reads src as the second, unless it is a constant (`register_of`). The distance `off` of a
+-- jump is in slots from the next instruction. An operator of one operand (`unary`) reads its source
+-- as the first. An access reads its base register as the first, and as the second the register that
+-- is the source of a store or an atomic operation (`stored_register`). Of accesses only a load
+-- writes a register (`loaded_register`): an `Insn` has no atomic operation that fetches the old
+-- value. A wide load (`wide_load`) reads no register and has two slots. It names the map that it
+-- loads, or the map and the byte whose address it loads, and with a number nothing
+-- (`reference_of`). A call reads its helper's arguments and changes registers 0 to 5. A row has too
+-- few fields for these registers, so the row of a call has only the helper's number. An exit reads
+-- register 0, the result
 abbrev pub profile_of : View → Profile
 profile_of (binary wide op dst src) =
     row (first_operand op dst) (register_of src) (Some dst) to.Next names.Nothing 1

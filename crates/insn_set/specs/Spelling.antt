@@ -46,10 +46,11 @@ imm_field (Reg r) = 0
 -- an instruction's first slot, by the arguments of `slot`: opcode, destination, source, offset and
 -- immediate; a field that is not used is 0. `opcode` makes an opcode from a code, a source bit (0
 -- for a constant, 1 for a register) and a class (`alu_class`: ALU or ALU64; 5 is JMP, 6 is JMP32).
--- Code 11 is a move, also one with sign extension, which has its number of bits in the offset; 8 is
--- a negation or, in class 5, a call; 9 is the exit; 0 is a jump without a condition, whose distance
--- is in the offset in class 5, in the immediate in class 6. A signed division or remainder has 1 in
--- the offset (`alu_offset`). A byte-order conversion has its number of bits in the immediate.
+-- In ALU and ALU64, code 11 is a move, also one with sign extension, whose number of bits is in the
+-- offset, and 8 a negation. In JMP, 8 is a call, and 9 the exit. In JMP and JMP32, 0 is a jump
+-- without a condition, its distance in the offset (JMP) or immediate (JMP32). A signed division or
+-- remainder has 1 in the offset (`alu_offset`). A byte-order conversion has its number of bits in
+-- the immediate.
 -- `memory_opcode` makes an opcode from a mode (3 is MEM, 6 is ATOMIC; `load_mode`: MEM, or MEMSX
 -- with sign extension), a size and a class (1 is LDX; 2 is ST, of a constant; 3 is STX, of a
 -- register). An atomic operation has its operator in the immediate. A wide load (0x18) has source 0

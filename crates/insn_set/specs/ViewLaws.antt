@@ -10,8 +10,9 @@ use Rattle.insn_set.specs.Spelling.{slots, IsInsn}
 
 -- an instruction takes as many slots by its profile (what it reads, writes and names, its
 -- successors and its number of slots) as its spelling has: one, or two for a wide load. Code adds
--- the number of the profile to an instruction's slot; so the sum is the slot of the next
--- instruction
+-- the profile's `slots` to an instruction's slot; by this law the sum is the slot of the next
+-- instruction. Both numbers are computed only if the instruction's constructor is known. So the
+-- proof has an equation for one constructor, `Alu`; then `_` is each of the others, one by one
 pub profile_slots : (i : Insn) → (profile i).slots ≡ length (slots i)
 profile_slots (Alu wide op dst src) = refl
 profile_slots _ = refl

@@ -192,8 +192,8 @@ impl<'a> Graph<'a> {
 
     /// Writes the end of the basic block that is being written (`block`), in the language of Graphviz: the quote that closes its label, and
     /// its style. The block is red if it has the rejected instruction. Else it is dashed if the pass over the facts did not reach it
-    /// (`is_reached` is false), so no run does. If there was no pass, since the program's shape has a fault (`has_pass` is false), nothing
-    /// is known of what runs reach, and no block is dashed. `AllocError`: out of memory for the text.
+    /// (`is_reached` is false): no run does, or the pass has ended before it, at the rejected instruction. If there was no pass, since the
+    /// program's shape has a fault (`has_pass` is false), no block is dashed. `AllocError`: out of memory for the text.
     fn end(&self, text: &mut String) -> Result<(), AllocError> {
         text.push_str("\"")?;
         if self.block.is_refused {

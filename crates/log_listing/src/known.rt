@@ -224,9 +224,9 @@ fn write_spills(
 }
 
 /// Appends notes on what is known in the facts `new` and was not in `old`, as `r1 = any number`, and on what is not known any more, as
-/// `r1 lost`. `new` are the facts before an instruction, or on an edge of a conditional jump. `old` are those before the preceding
-/// instruction of the log, those before the jump, or facts in which nothing is known. `start` is the offset in the text at which the first
-/// note begins; each other note has a semicolon and a space before it (`separate_note`). `AllocError`: out of memory.
+/// `r1 lost`. `new` are the facts before an instruction, or on an edge of a conditional jump. `old` are those before the instruction that
+/// the pass reached before that one, those before the jump, or facts in which nothing is known. `start` is the offset in the text at which
+/// the first note begins; each other note has a semicolon and a space before it (`separate_note`). `AllocError`: out of memory.
 pub(crate) fn write_known(
     text: &mut String,
     start: usize,

@@ -36,10 +36,10 @@ impl Output {
 /// The output for an input, by the parsed arguments `matches`: the log of its program, and the exit status, 0 if the program is accepted,
 /// else 1. By the options the log has lines with what is new before each instruction, lines with all that is known, or a graph
 /// (`style_of`). The program is hex lines or text, as an option says. Without this option it is hex lines if the first line that is not
-/// blank has only hex digits, else text (`form_of`). If the slots on hex lines are no program, the log says why. The failures:
-/// `MapArgument` for a wrong map argument; then `TooLong` if the input has more than `LONGEST_INPUT` bytes, or `Read` if a call that reads
-/// it failed; then `Line` if the input is not UTF-8, a line has a fault, or no line has a slot or an instruction. `Memory` at any of these
-/// steps if out of memory.
+/// blank has only hex digits, if all lines are blank, or if the input is not UTF-8, else text (`form_of`). If the slots on hex lines are no
+/// program, the log says why. The failures: `MapArgument` for a wrong map argument; then `TooLong` if the input has more than
+/// `LONGEST_INPUT` bytes, or `Read` if a call that reads it failed; then `Line` if the input is not UTF-8, a line has a fault, or no line
+/// has a slot or an instruction. `Memory` at any of these steps if out of memory.
 fn log_output<I: Read + Drop>(
     alloc: Global,
     matches: &ArgMatches<'_>,

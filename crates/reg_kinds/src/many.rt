@@ -149,10 +149,11 @@ pub fn check_read(facts: &Facts, offset: i32, count: u32) -> Result<(), Reason>
 }
 
 /// Changes the facts to those after a helper's write at `offset` from the stack's upper end. Its length is a register's number, of which
-/// only a range is known: at least `least` and at most `most` bytes. The first `least` bytes count as written. A spill that has one of the
-/// first `most` bytes is lost: its bytes that are not among the first `least` count as unwritten. What is known of all other bytes is
-/// unchanged. `OutsideStack`, and nothing changes, if `most` bytes don't all lie in the stack. If `least` is above `most`, no write has
-/// such a length, and the facts describe no run.
+/// only a range is known: at least `least` and at most `most` bytes. The first `least` bytes count as written. A spill is a stack slot that
+/// holds a pointer or a map whole; a stored number is no spill, only written bytes. A spill that has one of the first `most` bytes is lost:
+/// its bytes that are not among the first `least` count as unwritten. With `most` 0, a spill is lost too if `offset` is one of its bytes
+/// but the first. What is known of all other bytes is unchanged. `OutsideStack`, and nothing changes, if `most` bytes don't all lie in the
+/// stack. If `least` is above `most`, no write has such a length, and the facts describe no run.
 pub fn fill_stack(facts: &mut Facts, offset: i32, least: u32, most: u32) -> Result<(), Reason>
     ensures { MatchResult (stack_filled facts.old offset least most)
         (λ after. (result ≡ Ok tt) × (facts.new ≡ after))

@@ -188,9 +188,9 @@ impl FrameWriter {
 
     /// Appends the frame that closes descriptor `fd`, if `fd` is not open in `tenant`, the saved tenant; appends nothing if it is. In
     /// `written`, `named` is the object that `fd` names in the saved tenant, `closing` has the command of the frame, or none, and
-    /// `frames_of` makes the frame, with its length before it. Until the last part of a save, all descriptors are open in the tenant that
-    /// is restored; these closes leave open only those of the saved tenant. `number`, the number of the tenant to which the frames go, is
-    /// unchanged. `AllocError`: out of memory.
+    /// `frames_of` makes the frame, with its length before it. When the last part of a save begins, all descriptors are open in the tenant
+    /// that is restored; these closes leave open only those of the saved tenant. `number`, the number of the tenant to which the frames go,
+    /// is unchanged. `AllocError`: out of memory.
     fn append_close_unless_open(&mut self, tenant: &Tenant, fd: u32) -> Result<(), AllocError>
         ensures written { OnOk result (self.new.frames.items
             ≡ self.old.frames.items ++ frames_of self.old.number

@@ -115,12 +115,13 @@ impl SavableTenant {
         self.tenant.allowed_packets(fd, bound, packets)
     }
 
-    /// Runs the program at descriptor `fd` on the packets of a batch, as test runs in their order (`runs`), and writes the results to the
-    /// front of `results`, whose rest is unchanged. `batch` has the bytes of all packets, the offset in them at which each packet ends, and
-    /// the ten context words after the packet's length, in one array for all packets or in one for each; `inputs_of` gives each packet its
-    /// words. `tenant` is the number of this tenant's part of `arena`, a part of `PART` bytes; the other parts are unchanged (`others`),
-    /// and so are the number (`parts`) and the size (`part`) of all parts. A run creates no map and loads no program, so no birth is
-    /// recorded (`births`).
+    /// Runs the program at descriptor `fd` on the packets of a batch, as test runs in their order (`runs`). Writes the result of each run,
+    /// the low 32 bits of register 0 at its exit, to the front of `results`, in the order of the packets; the rest of `results` is
+    /// unchanged. `batch` has the bytes of all packets, the offset in them at which each packet ends, and the ten context words after the
+    /// packet's length, in one array for all packets or in one for each; `inputs_of` gives each packet its words. `tenant` is the number of
+    /// this tenant's part of `arena`, a part of `PART` bytes; the other parts are unchanged (`others`), and so are the number (`parts`) and
+    /// the size (`part`) of all parts. A run creates no map and loads no program, so no birth is recorded (`births`). In contracts, `kept`
+    /// of `self` is the `Tenant` that it wraps.
     ///
     /// # Errors
     ///
@@ -153,7 +154,8 @@ impl SavableTenant {
         ensures others { (other : ℕ) → other ≢ tenant
             → part_bytes arena.new other ≡ part_bytes arena.old other }
     {
-        // For the proof of the invariant: laws, which do nothing. A run creates no map and loads no program, so it records no birth.
+        // For the proof of the invariant `IsRecorded`: laws, which do nothing. The invariant: exactly the maps that open objects name are
+        // live, and the births are those of the state. A run creates no map and loads no program, so it records no birth.
         maps_are_held();
         births_are_kept();
         self.tenant.run_packets(fd, batch, results, tenant, arena)

@@ -87,7 +87,7 @@ impl Tenant {
     /// `Ok`, with the reply or the error of a load of its slots; after an error the program is dropped. The reply is `Opened`, with the new
     /// descriptor. By `loaded` this result and the change of the tenant are those of such a load (`Loads`), whatever bytes the tenant's
     /// part has (`part`); `refused` is whether memory is refused to the load. The result can be written as a reply to a frame (`writable`).
-    /// That reply has no payload (`no_payload`): only the reply to a load that the verifier rejects has one.
+    /// That reply has no payload (`no_payload`): the reply to a load has one only if the verifier rejects the load.
     ///
     /// # Errors
     ///

@@ -326,8 +326,8 @@ impl Tenant {
     /// CLOSE: closes a descriptor. If the descriptor names a map, this drops the descriptor's reference to the map; if it names a program,
     /// this drops all references of the program to maps. A map without references is freed, and the areas after its own move down in
     /// `part`, the tenant's part of `PART` bytes, which keeps its length (`length`). By `answer` the reply and the state after it are those
-    /// of the machine (`closed`), for the object that the descriptor names, or for none if it is not open (`named`). The reply can be
-    /// written (`writable`).
+    /// of the machine (`closed`), for the object that the descriptor names, or for none if it is not open (`named`). `writable`: the reply
+    /// has no payload, and no error is `BadAddress`, the error of a run that faults; so `write_command_reply` may write the result.
     ///
     /// # Errors
     ///

@@ -81,8 +81,9 @@ impl SourceOperand {
         }
     }
 
-    /// The second operand of an instruction: the register, or the constant as a signed 32-bit number, with -0 as 0 (`normal_source`).
-    /// `None` if it is a constant that is no such number (`source_fits`).
+    /// The second operand of an instruction, or the value that a store writes, from `self`, the operand as a line of text has it: the
+    /// register, or the constant as a signed 32-bit number. `found`: written in a line (`source_of`) the result is `self`, with -0 as 0
+    /// (`normal_source`). `None` exactly if `self` is a constant that is no such number (`source_fits` is false).
     fn operand(self) -> Option<Operand>
         ensures found { IfSome result (λ src. source_of src ≡ normal_source self) }
         ensures fits { IfSome result (λ _. source_fits self ≡ true) }

@@ -158,8 +158,8 @@ pub(crate) fn operand<'t, 'a>(
     }
 }
 
-/// Whether `tokens` is empty. If they are the tokens after a part of a line that was parsed, the line then ends after this part (`at_end`).
-/// If they are all tokens of a line, the line is blank, or has only a comment (`line_of`).
+/// Whether `tokens` is empty. For the tokens after a part of a line that was parsed, `true` means that the line ends after this part
+/// (`at_end`); for all tokens of a line, that the line is blank, or has only a comment (`line_of`).
 pub(crate) fn ended(tokens: &[Token<'_>]) -> bool
     ensures { result ≡ is_ended (shown_tokens tokens.now) }
 {

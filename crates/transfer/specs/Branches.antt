@@ -32,9 +32,9 @@ falling_of (Err reason) = None
 falling_of (Ok edges) = edges.falling
 
 -- the facts on the jumping edge out of an instruction, which leads to the target of a jump, from
--- the result of the transfer function (`effect`). None if that is a reason for which the
--- instruction may not be run (Err). If it may be run (Ok), None for an instruction that is no jump,
--- and for a conditional jump that is never taken if the facts before it hold
+-- the result of the transfer function (`effect`). None means one of three things: the result is the
+-- reason why the instruction may not be run (Err); the instruction is no jump; or it is a
+-- conditional jump that is never taken if the facts before it hold
 abbrev pub jumping_of : Result Edges Reason → Option Facts
 jumping_of (Err reason) = None
 jumping_of (Ok edges) = edges.jumping

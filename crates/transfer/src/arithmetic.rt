@@ -239,8 +239,8 @@ fn is_maybe_value(kind: Kind) -> bool
 /// found both readable, which is not required: a 64-bit move would copy an unreadable kind, and the other operators reject it. Allowed are
 /// a 64-bit move of any value, each operator on two numbers, and 64-bit sums and differences that move a pointer into a value by a number,
 /// or a stack pointer by a number whose range has one member. `MaybeNull` if an operand of a 64-bit sum or difference is a look-up's result
-/// that may be null; `OffsetTooLarge` if the offset of the moved pointer may be more than `FARTHEST_OFFSET`, 2^29 bytes, from 0, or if the
-/// number, read as signed, may have either sign; `PointerArithmetic` for all other operands.
+/// that may be null; `OffsetTooLarge` if such a move may lead to an offset of more than `FARTHEST_OFFSET`, 2^29 bytes, from 0, or if the
+/// number that moves a pointer into a value, read as signed, may have either sign; `PointerArithmetic` for all other operands.
 pub(crate) fn arithmetic(wide: bool, op: AluOp, a: Kind, b: Kind) -> Result<Kind, Reason>
     ensures { result ≡ arithmetic_kind wide op a b }
 {

@@ -28,7 +28,7 @@ pub(crate) struct Findings {
 }
 
 /// Verifies a program: first its shape, then in one pass its safety. `named` lists the open descriptors and their objects; `check_safety`
-/// receives only those of the program's maps. `working` is memory that each verification reuses. Returns the descriptors of the maps that
+/// receives only those of the program's maps. `working` is memory that verifications can reuse. Returns the descriptors of the maps that
 /// an accepted program loads (`maps`), their objects (`objects`) and the program's cost. The error is the first fault, or out of memory
 /// (`refused`). In the pass `watcher` receives, by slot, the facts before each instruction that a run may reach; `W.seen` has what it has
 /// received, if that is known. If the program is accepted, these are all such facts (`seen`). Otherwise (`seen_refused`) they are none if

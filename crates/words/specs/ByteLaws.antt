@@ -360,9 +360,9 @@ number_below (b ∷ bytes) small =
     below_more : (b n x : ℕ) → b < 256 → x < 256 ^ n → b + 256 * x < 256 ^ suc n
     below_more b n x h g = omega arith
 
--- the number that a list of bytes represents (`number_of`), each byte below 256, determines the
--- list: its low bytes (`low_bytes`), as many as the list has, are the list. The lowest byte is the
--- first of the list
+-- if each byte of a list is below 256, the number that the list represents (`number_of`) and the
+-- length of the list determine it: the low bytes of the number (`low_bytes`), as many as the list
+-- has, are the list. The lowest byte is the first of the list
 pub low_bytes_of_number : (bytes : List ℕ)
     → ((i : ℕ) → i < length bytes → get_or bytes i 0 < 256)
     → low_bytes (length bytes) (number_of bytes) ≡ bytes

@@ -293,8 +293,8 @@ pub fn alu(op: AluOp, a: u64, b: u64) -> u64
 }
 
 /// The result of any operator, of two operands (`alu`) or of one, on the low halves of two words: `a` has the destination's value, `b` the
-/// source's. The upper half of the result is zero. A negation reads only `a`, a sign extension only `b`. A byte-order conversion also reads
-/// only `a`; but its operand and its result have 64 bits, as in `words64`. In the contract, 32 is the number of bits of the operation.
+/// source's. A negation reads only `a`, a sign extension only `b`. The upper half of the result is zero. But a byte-order conversion, which
+/// also reads only `a`, has an operand and a result of 64 bits (`words64`). In the contract, 32 is the number of bits of the operation.
 #[inline(always)]
 pub fn operate(op: Operator, a: u64, b: u64) -> u64
     ensures { result ≡ operate 32 op a b }

@@ -192,7 +192,7 @@ pub(crate) fn write_unwritten(
 
 /// The lowest spill in `facts`, a pointer or a map that is whole in eight bytes of the stack, that overlaps the stack bytes from `first` to
 /// `last`. Both are offsets from the stack's upper end, and included. Returns the offset of the spill's lowest byte, and its kind; `None`
-/// if no spill overlaps these bytes. The text on an access that is rejected for `PartOfSpill` names this spill.
+/// if no spill overlaps these bytes. The text on a read that is rejected for `PartOfSpill` names this spill.
 fn spill_among(facts: &Facts, first: i64, last: i64) -> Option<(i64, Kind)> {
     for index in 0..STACK_SLOTS {
         let lowest = 8 * index as i64 - 8 * STACK_SLOTS as i64;

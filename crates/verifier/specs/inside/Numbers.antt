@@ -244,7 +244,7 @@ IsInStack flow = Unit {0}
 -- slots that the instruction may have changed, since a number identifies what is known of a group.
 -- The flow, the first argument, names these groups: `WritesSlot i` that of stack slot i, `Writes`
 -- all, since any slot may have changed. After any other flow the result is x. Of these only a null
--- test changes the stack, and only on its edges, which get the new number there
+-- test changes the stack, and only on its edges, whose groups get other new numbers there
 abbrev pub writes_renumbered : Flow → ℕ → NumberedFacts → NumberedFacts
 writes_renumbered (WritesSlot i) fresh x = group_renumbered x i fresh
 writes_renumbered Writes fresh x = renumbered x fresh

@@ -22,7 +22,7 @@ impl TextPlayer {
 impl Player for TextPlayer {
     /// Plays a line: the first word selects the function that makes the line's outcome from the text after this word. `codec` decodes an
     /// instruction and encodes it again, and shows it with the number of its slots and its bytes. `dis` disassembles a program, given in
-    /// hex digits. The third word of the `match` shows for each slot of such a program, and for the slot after its last one, the
+    /// hex digits. The word `places` shows for each slot of such a program, and for the slot after its last one, the
     /// instruction that begins there, or `none`. `exits` makes a program of a number of exits. `opcodes` counts the opcodes that
     /// instructions have, and reads no text. `asm` assembles a program's text to hex lines, each with the sixteen hex digits of a slot.
     /// `round` also disassembles the program, and assembles that text again. `hex` reads hex lines, and shows the bytes of their slots.

@@ -24,7 +24,7 @@ use insn_set::{
     AtomicOp, AtomicSize, Insn, Load, Movsx, RawSlot, Reg, alu_by_number, condition_by_number,
     load_by_opcode,
 };
-use words::{AluOp, ByteOrder, Condition, ExtendedBits, KeptBits};
+use words::{AluOp, BITS_32, BITS_64, ByteOrder, Condition, ExtendedBits, KeptBits};
 
 /// Checks the fields of a first slot. The caller has computed `is_listed`: whether each field has a value that the form of the opcode
 /// allows (`fields_allowed`). `Ok` if this is true (`listed`) and both register numbers are at most 10 (`dst`, `src`). The fault is
@@ -176,9 +176,9 @@ fn read_one_operand(
 {
     match (slot.opcode / 16, wide, SourceBit::of(slot.opcode)) {
         (8, _, SourceBit::Imm) => read_negation(wide, entry, slot),
-        (13, false, SourceBit::Imm) => read_byte_order(ByteOrder::Little, entry, slot),
-        (13, false, SourceBit::Reg) => read_byte_order(ByteOrder::Big, entry, slot),
-        (13, true, SourceBit::Imm) => read_byte_order(ByteOrder::Swap, entry, slot),
+        (13, BITS_32, SourceBit::Imm) => read_byte_order(ByteOrder::Little, entry, slot),
+        (13, BITS_32, SourceBit::Reg) => read_byte_order(ByteOrder::Big, entry, slot),
+        (13, BITS_64, SourceBit::Imm) => read_byte_order(ByteOrder::Swap, entry, slot),
         _ => Err(FaultKind::Opcode),
     }
 }
@@ -329,10 +329,10 @@ fn read_unconditional(
         (jump_at wide (source_at slot.now.opcode) (slot.now.opcode / 16)) (fields slot.now)) }
 {
     match (slot.opcode / 16, wide, SourceBit::of(slot.opcode)) {
-        (0, true, SourceBit::Imm) => read_goto(entry, slot),
-        (0, false, SourceBit::Imm) => read_goto_far(entry, slot),
-        (8, true, SourceBit::Imm) => read_call(entry, slot),
-        (9, true, SourceBit::Imm) => read_exit(entry, slot),
+        (0, BITS_64, SourceBit::Imm) => read_goto(entry, slot),
+        (0, BITS_32, SourceBit::Imm) => read_goto_far(entry, slot),
+        (8, BITS_64, SourceBit::Imm) => read_call(entry, slot),
+        (9, BITS_64, SourceBit::Imm) => read_exit(entry, slot),
         _ => Err(FaultKind::Opcode),
     }
 }

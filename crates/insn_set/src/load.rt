@@ -6,18 +6,18 @@ ghost use Rattle.insn_set.specs.Load.{load_opcode, size_name};
 ghost use Rattle.insn_set.specs.LoadRows.{load_by_opcode, load_by_name};
 
 use crate::table::{by_number, by_symbol};
-use words::AccessSize;
+use words::{AccessSize, SIGNED, UNSIGNED};
 
 /// A row for each load: whether it extends the sign, and its size; its opcode (RFC 9669, sections 5.1 and 5.2); and the name that a line of
 /// text has for its size. No load of a double word extends the sign.
 const LOADS: [((bool, AccessSize), u32, &str); 7] = [
-    ((false, AccessSize::Byte), 0x71, "u8"),
-    ((false, AccessSize::Half), 0x69, "u16"),
-    ((false, AccessSize::Word), 0x61, "u32"),
-    ((false, AccessSize::Double), 0x79, "u64"),
-    ((true, AccessSize::Byte), 0x91, "s8"),
-    ((true, AccessSize::Half), 0x89, "s16"),
-    ((true, AccessSize::Word), 0x81, "s32"),
+    ((UNSIGNED, AccessSize::Byte), 0x71, "u8"),
+    ((UNSIGNED, AccessSize::Half), 0x69, "u16"),
+    ((UNSIGNED, AccessSize::Word), 0x61, "u32"),
+    ((UNSIGNED, AccessSize::Double), 0x79, "u64"),
+    ((SIGNED, AccessSize::Byte), 0x91, "s8"),
+    ((SIGNED, AccessSize::Half), 0x89, "s16"),
+    ((SIGNED, AccessSize::Word), 0x81, "s32"),
 ];
 
 /// The load with this opcode, found in the table `LOADS` (`value`): whether it extends the sign, and then its size; `None` if no load has
@@ -47,13 +47,13 @@ pub fn size_name(signed: bool, size: AccessSize) -> &'static str
     ensures { result.now ≡ size_name signed size }
 {
     match (signed, size) {
-        (false, AccessSize::Byte) => "u8",
-        (false, AccessSize::Half) => "u16",
-        (false, AccessSize::Word) => "u32",
-        (false, AccessSize::Double) => "u64",
-        (true, AccessSize::Byte) => "s8",
-        (true, AccessSize::Half) => "s16",
-        (true, AccessSize::Word) => "s32",
-        (true, AccessSize::Double) => "s64",
+        (UNSIGNED, AccessSize::Byte) => "u8",
+        (UNSIGNED, AccessSize::Half) => "u16",
+        (UNSIGNED, AccessSize::Word) => "u32",
+        (UNSIGNED, AccessSize::Double) => "u64",
+        (SIGNED, AccessSize::Byte) => "s8",
+        (SIGNED, AccessSize::Half) => "s16",
+        (SIGNED, AccessSize::Word) => "s32",
+        (SIGNED, AccessSize::Double) => "s64",
     }
 }

@@ -246,7 +246,7 @@ impl Successors {
         ensures { result ≡ target_by self slot }
     {
         if self.jumps() {
-            (slot + 1).checked_add_signed(self.offset() as isize)
+            usize::try_from(slot as isize + 1 + self.offset() as isize).ok()
         } else {
             None
         }

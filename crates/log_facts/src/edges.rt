@@ -6,6 +6,18 @@ use reg_kinds::{Facts, settle};
 use tagged_model::Named;
 use transfer::{Flow, apply, set_ranges};
 
+/// Whether a run may take the falling edge out of an instruction, and whether it may take the jumping edge: neither.
+const NO_EDGE: (bool, bool) = (false, false);
+
+/// A run may take the falling edge out of an instruction, and not the jumping edge.
+const FALLING_EDGE: (bool, bool) = (true, false);
+
+/// A run may take the jumping edge out of an instruction, and not the falling edge.
+const JUMPING_EDGE: (bool, bool) = (false, true);
+
+/// A run may take either edge out of an instruction.
+const BOTH_EDGES: (bool, bool) = (true, true);
+
 /// The facts on the edges out of an instruction. Facts are large, so they are stored in place, and flags say whether they are valid.
 #[derive(Drop)]
 pub struct Edges {
@@ -49,10 +61,10 @@ impl Edges {
     /// `site`: its result is null on one edge, the jumping one if `jumps_on_null`, and not on the other.
     fn take(&mut self, flow: &Flow) {
         (self.falls, self.jumps) = match *flow {
-            Flow::Ends => (false, false),
-            Flow::Falls | Flow::WritesSlot(_) | Flow::Writes => (true, false),
-            Flow::Jumps => (false, true),
-            Flow::Either => (true, true),
+            Flow::Ends => NO_EDGE,
+            Flow::Falls | Flow::WritesSlot(_) | Flow::Writes => FALLING_EDGE,
+            Flow::Jumps => JUMPING_EDGE,
+            Flow::Either => BOTH_EDGES,
             Flow::Compares {
                 dst,
                 src,
@@ -68,7 +80,7 @@ impl Edges {
             } => {
                 settle(&mut self.falling, site, !jumps_on_null);
                 settle(&mut self.jumping, site, jumps_on_null);
-                (true, true)
+                BOTH_EDGES
             }
         };
     }

@@ -11,6 +11,12 @@ use std::alloc::AllocError;
 use std::fmt::Write;
 use words::{REGISTERS, STACK_SLOTS};
 
+/// The notes of `write_stack_bytes` are on bytes that are written in the new facts and were not in the old ones.
+const WRITTEN: bool = false;
+
+/// The notes of `write_stack_bytes` are on bytes that were readable in the old facts and are not in the new ones.
+const LOST: bool = true;
+
 /// Separates the note that the caller writes next from the notes before it, by a semicolon and a space. Writes nothing before the first
 /// note, that is, if the text ends at the offset `start`, at which notes begin.
 pub(crate) fn separate_note(text: &mut String, start: usize) -> Result<(), AllocError> {
@@ -239,7 +245,6 @@ pub(crate) fn write_known(
         return Ok(());
     }
     write_spills(text, start, old, new)?;
-    // First the stack bytes that are newly written (`false`), then those that are lost (`true`).
-    write_stack_bytes(text, start, old, new, false)?;
-    write_stack_bytes(text, start, old, new, true)
+    write_stack_bytes(text, start, old, new, WRITTEN)?;
+    write_stack_bytes(text, start, old, new, LOST)
 }

@@ -1,7 +1,7 @@
 -- Tests of all slots, and bits that represent bytes.
-use Rattle.std.proofs.Common.{◌≡◌, ℕ, zero, suc, ◌+◌, ◌-◌, ◌*◌, ◌%◌, ◌^◌, ◌<◌, ◌≤◌, Bool, true, false, refl, sym, ap, subst, ◌∙◌, ⊎_elim, inl, inr, arith}
+use Rattle.std.proofs.Common.{◌≡◌, ℕ, ◌+◌, ◌-◌, ◌*◌, ◌%◌, ◌^◌, ◌<◌, ◌≤◌, Bool, false, refl, sym, ap, subst, ◌∙◌, inl, inr, arith}
 use Rattle.std.specs.Prelude.{if◌then◌else◌, not, nat_lt, min, ◌&&◌, ◌==◌, ◌⊎◌, ℤ, Result, Ok, Err, Some, None}
-use Rattle.std.proofs.lemmas.Bool.{cases_lt, le-ltb, or_from, or_left, or_right}
+use Rattle.std.proofs.lemmas.Bool.{le-ltb}
 use Rattle.std.proofs.Math.Bool.{and-false}
 use Rattle.std.specs.Int.Bits.{and_zero_r}
 use Rattle.std.proofs.Math.Nat.{mod-eq_of_lt, pow-le-pow_right}

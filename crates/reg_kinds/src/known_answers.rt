@@ -5,7 +5,7 @@ use crate::{Facts, Kind, Reason, Slot, join, read_stack, settle, write_stack};
 use insn_set::Reg;
 use interval::Range;
 use std::mem::size_of;
-use words::AccessSize;
+use words::{AccessSize, UNSIGNED};
 
 /// Facts take at most 3,072 bytes, a bound with some room: they are copied for the first jump to a target and for a null test.
 const _: () = prove!(size_of::<Facts>() <= 3072);
@@ -38,25 +38,25 @@ fn joins() {
 }
 
 /// A pointer, here `Stack(0)`, to the stack's upper end, can be stored whole, with its eight bytes, into the highest stack slot (offset -8
-/// from this end). A load of only some of its bytes, here two from offset -6, without sign extension (`false`), is then rejected:
-/// `PartOfSpill`.
+/// from this end). A load of only some of its bytes, here two from offset -6, without sign extension, is then rejected: `PartOfSpill`.
 fn a_pointer_is_spilled_whole() {
     let mut facts = Facts::at_entry();
     let stored = write_stack(&mut facts, -8, AccessSize::Double, Kind::Stack(0));
     let is_stored = stored.is_ok();
     prove!(is_stored);
-    let part = read_stack(&facts, -6, AccessSize::Half, false);
+    let part = read_stack(&facts, -6, AccessSize::Half, UNSIGNED);
     let is_refused = matches!(part, Err(Reason::PartOfSpill));
     prove!(is_refused);
 }
 
-/// If a null test has found that the result of the look-up at slot 5, in the map of descriptor 3, is not null (`false` in the call of
-/// `settle`), a register with this result, here register 6, is known to be a pointer into a value.
+/// If a null test has found that the result of the look-up at slot 5, in the map of descriptor 3, is not null, a register with this result,
+/// here register 6, is known to be a pointer into a value.
 #[tactic(auto, unfolding(crate::specs::Kinds::tabulate))]
 fn a_null_test_settles() {
     let mut facts = Facts::at_entry();
     facts.set_kind(Reg::new(6), Kind::MaybeValue { map: 3, site: 5 });
-    settle(&mut facts, 5, false);
+    let is_null = false;
+    settle(&mut facts, 5, is_null);
     let settled = facts.kind(Reg::new(6));
     let is_value = matches!(settled, Kind::Value(_));
     prove!(is_value);

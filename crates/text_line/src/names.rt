@@ -5,6 +5,7 @@ ghost use Rattle.insn_set.specs.Table.{named};
 ghost use Rattle.text_line.specs.inside.Reading.{atomic_size_of, registers};
 
 use insn_set::{AccessSize, AtomicSize, Reg, named};
+use words::{BITS_32, BITS_64, UNSIGNED};
 
 /// The size of an atomic operation whose memory operand has the size `size`; `signed` if this is written as signed, as in `*(s32 *)`. An
 /// atomic operation is on 4 or 8 bytes (RFC 9669, section 5.3), which are not signed: `None` for any other operand.
@@ -12,8 +13,8 @@ pub(crate) fn atomic_size(signed: bool, size: AccessSize) -> Option<AtomicSize>
     ensures { result ≡ atomic_size_of signed size }
 {
     match (signed, size) {
-        (false, AccessSize::Word) => Some(AtomicSize::Word),
-        (false, AccessSize::Double) => Some(AtomicSize::Double),
+        (UNSIGNED, AccessSize::Word) => Some(AtomicSize::Word),
+        (UNSIGNED, AccessSize::Double) => Some(AtomicSize::Double),
         _ => None,
     }
 }
@@ -26,28 +27,28 @@ pub(crate) fn register_named(name: &str) -> Option<(bool, Reg)>
 {
     let (wide, number) = named(
         &[
-            ("r0", (true, 0)),
-            ("r1", (true, 1)),
-            ("r2", (true, 2)),
-            ("r3", (true, 3)),
-            ("r4", (true, 4)),
-            ("r5", (true, 5)),
-            ("r6", (true, 6)),
-            ("r7", (true, 7)),
-            ("r8", (true, 8)),
-            ("r9", (true, 9)),
-            ("r10", (true, 10)),
-            ("w0", (false, 0)),
-            ("w1", (false, 1)),
-            ("w2", (false, 2)),
-            ("w3", (false, 3)),
-            ("w4", (false, 4)),
-            ("w5", (false, 5)),
-            ("w6", (false, 6)),
-            ("w7", (false, 7)),
-            ("w8", (false, 8)),
-            ("w9", (false, 9)),
-            ("w10", (false, 10)),
+            ("r0", (BITS_64, 0)),
+            ("r1", (BITS_64, 1)),
+            ("r2", (BITS_64, 2)),
+            ("r3", (BITS_64, 3)),
+            ("r4", (BITS_64, 4)),
+            ("r5", (BITS_64, 5)),
+            ("r6", (BITS_64, 6)),
+            ("r7", (BITS_64, 7)),
+            ("r8", (BITS_64, 8)),
+            ("r9", (BITS_64, 9)),
+            ("r10", (BITS_64, 10)),
+            ("w0", (BITS_32, 0)),
+            ("w1", (BITS_32, 1)),
+            ("w2", (BITS_32, 2)),
+            ("w3", (BITS_32, 3)),
+            ("w4", (BITS_32, 4)),
+            ("w5", (BITS_32, 5)),
+            ("w6", (BITS_32, 6)),
+            ("w7", (BITS_32, 7)),
+            ("w8", (BITS_32, 8)),
+            ("w9", (BITS_32, 9)),
+            ("w10", (BITS_32, 10)),
         ],
         name,
     )?;

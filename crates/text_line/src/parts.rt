@@ -14,6 +14,12 @@ use crate::token::Token;
 use insn_set::{AccessSize, Reg, load_by_name};
 use words::BITS_64;
 
+/// The number has a minus before it.
+const NEGATIVE: bool = true;
+
+/// The number has a plus before it, or no sign.
+const NOT_NEGATIVE: bool = false;
+
 // ---- one token, and the tokens after it
 
 /// The text of the first token, if it is a symbol (one of `SYMBOLS`, as `+=` or `(`), and the tokens after it; `None` if it is a name or a
@@ -120,8 +126,8 @@ pub(crate) fn constant<'t, 'a>(tokens: &'t [Token<'a>]) -> Option<(Number, &'t [
     ensures { seen_pair result ≡ leading_constant (shown_tokens tokens.now) }
 {
     match after_symbol(tokens, "-") {
-        Some(rest) => number_from(true, rest),
-        None => number_from(false, tokens),
+        Some(rest) => number_from(NEGATIVE, rest),
+        None => number_from(NOT_NEGATIVE, tokens),
     }
 }
 
@@ -133,8 +139,8 @@ pub(crate) fn signed<'t, 'a>(tokens: &'t [Token<'a>]) -> Option<(Number, &'t [To
     ensures { seen_pair result ≡ leading_signed_number (shown_tokens tokens.now) }
 {
     match after_symbol(tokens, "+") {
-        Some(rest) => number_from(false, rest),
-        None => number_from(true, after_symbol(tokens, "-")?),
+        Some(rest) => number_from(NOT_NEGATIVE, rest),
+        None => number_from(NEGATIVE, after_symbol(tokens, "-")?),
     }
 }
 

@@ -43,7 +43,7 @@ use Rattle.transfer.specs.Calls.{shaped, argument_map, check_in_value, input_kin
 use Rattle.transfer.specs.Calls.{length_range, context_kind, readable_two, readable_four, any_number, call_facts}
 use Rattle.words.specs.Stack.{bytes_of, is_double, is_in_stack, byte_index, is_aligned}
 use Rattle.reg_kinds.specs.declared.kind.ValuePointer.{ValuePointer}
-use Rattle.reg_kinds.specs.Many.{bits_in, touches_spill, has_unwritten_byte, stack_input, filled}
+use Rattle.reg_kinds.specs.Many.{touches_spill, has_unwritten_byte, stack_input, filled}
 use Rattle.tagged_model.specs.declared.helper.Helper.{Helper}
 use Rattle.tagged_model.specs.declared.helper.Helper.TheVariants.{LookUp, Update, Delete, LoadBytes}
 use Rattle.tagged_model.specs.declared.shape.MapShape.{MapShape}

@@ -245,12 +245,12 @@ pub(crate) fn arithmetic(wide: bool, op: AluOp, a: Kind, b: Kind) -> Result<Kind
     ensures { result ≡ arithmetic_kind wide op a b }
 {
     match (wide, op) {
-        (true, AluOp::Mov) => Ok(b),
-        (true, AluOp::Add | AluOp::Sub) if is_maybe_value(a) || is_maybe_value(b) => Err(
+        (BITS_64, AluOp::Mov) => Ok(b),
+        (BITS_64, AluOp::Add | AluOp::Sub) if is_maybe_value(a) || is_maybe_value(b) => Err(
             Reason::MaybeNull,
         ),
-        (true, AluOp::Add) => sum(a, b),
-        (true, AluOp::Sub) => difference(a, b),
+        (BITS_64, AluOp::Add) => sum(a, b),
+        (BITS_64, AluOp::Sub) => difference(a, b),
         _ => of_scalars(wide, Operator::Binary(op), a, b),
     }
 }

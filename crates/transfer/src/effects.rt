@@ -405,9 +405,10 @@ fn operate_on_any(
 /// fact has changed (`stays`). The error is `UnreadableRegister` if the operator reads an operand that may not be read (a move does not
 /// read `dst`), else that of `arithmetic`: `MaybeNull` if an operand of a 64-bit sum or difference may be null, `OffsetTooLarge` if a
 /// pointer's offset may become more than `FARTHEST_OFFSET` bytes from 0, or `PointerArithmetic` if the operator does not take an operand
-/// that is no number. Only a 64-bit move takes any; a 64-bit sum or difference moves a pointer into a value, or a stack pointer by one
-/// known number. Inlined are only a 64-bit move and, if both operands are numbers, any operator but a move, so that these need no call;
-/// `operate_on_any`, not inlined, does the rest.
+/// that is no number. A 64-bit move takes an operand of any kind. A 64-bit sum or difference also takes a pointer and a number, by which it
+/// moves the pointer: one into a value by any number of a range, one into the stack only by a number that is known. Inlined are only a
+/// 64-bit move and, if both operands are numbers, any operator but a move, so that these need no call; `operate_on_any`, not inlined, does
+/// the rest.
 #[inline(always)]
 fn operate(facts: &mut Facts, wide: bool, op: AluOp, dst: Reg, src: Operand) -> Result<(), Reason>
     ensures ok { OnOk result (operator_edges wide op dst src facts.old ≡ falls facts.new) }

@@ -1,7 +1,7 @@
 -- The pass of the shape check agrees with the definitions of reachable slots and of shape faults.
-use Rattle.std.proofs.Common.{◌≡◌, ℕ, ◌+◌, ◌<◌, zero, suc, Bool, true, false, ◌&&◌, ◌||◌, List, [], ◌∷◌}
+use Rattle.std.proofs.Common.{◌≡◌, ℕ, ◌+◌, ◌<◌, zero, suc, Bool, true, false, not, ◌&&◌, ◌||◌, List, [], ◌∷◌}
 use Rattle.std.proofs.Common.{get_or, Option, Some, None, refl, sym, ap, ◌∙◌, add-one, arith, inl, inr}
-use Rattle.std.specs.Prelude.{IfSome, is_some, if◌then◌else◌}
+use Rattle.std.specs.Prelude.{nat_le, IfSome, is_some, if◌then◌else◌}
 use Rattle.std.proofs.lemmas.Bool.{not-false, false≢true, cases_Bool, cond-true, cond-false}
 use Rattle.std.specs.List.{slice_get}
 use Rattle.std.proofs.lemmas.Option.{get_or_from_slice_get}
@@ -10,11 +10,14 @@ use Rattle.std.specs.Option.{IsSome}
 use Rattle.insn_set.specs.Program.{begins_at, slot_count, Adjoins}
 use Rattle.insn_set.specs.BeginLaws.{begins_within, first_begins}
 use Rattle.reg_kinds.specs.declared.reason.Reason.{Reason}
+use Rattle.reg_kinds.specs.declared.reason.Reason.TheVariants.{JumpOutside, JumpBackward, FallsOff, Unreachable, UnknownHelper}
+use Rattle.reg_kinds.specs.declared.reason.Reason.TheVariants.{FramePointerWritten, DescriptorNotOpen, DescriptorNotMap, NoDirectValue}
 use Rattle.tagged_model.specs.declared.shape.Named.{Named}
-use Rattle.insn_set.specs.Flow.{jumps_to, jumps, jump_target}
-use Rattle.verifier.specs.Shape.{leads_into, leads_outside, reached_from, first_reason, shape_reason_at, structure_fault}
+use Rattle.insn_set.specs.Flow.{falls_to, jumps_to, falls, jumps, jump_target, written_register, descriptor, is_number}
+use Rattle.verifier.specs.Shape.{leads_into, leads_outside, leads_backward, reached_from, is_reachable, calls_unknown}
+use Rattle.verifier.specs.Shape.{is_not_open, is_not_map, lacks_value, first_reason, shape_reason, shape_reason_at, structure_fault}
 use Rattle.verifier.specs.ShapeLaws.{IsFine, each_is_fine}
-use Rattle.verifier.specs.inside.Jumps.{JumpsLand}
+use Rattle.verifier.specs.inside.Jumps.{target_reason, JumpsLand}
 use Rattle.verifier.specs.Verdict.{HasNoFault}
 
 -- ---- reasons against an instruction, and the targets of an instruction without a fault
@@ -23,7 +26,7 @@ no_reason : (reason : Reason) → Some reason ≡ None → ⊥
 no_reason reason e = cc
 
 -- if the first two conditions give a reason, it is the first of all
-pub seen_early : (first second : Bool × Reason) (lines : List (Bool × Reason)) (r : Reason)
+seen_early : (first second : Bool × Reason) (lines : List (Bool × Reason)) (r : Reason)
     → Some r ≡ first_reason (first ∷ second ∷ []) → Some r ≡ first_reason (first ∷ second ∷ lines)
 seen_early first second lines r is =
     elim (cases_Bool first.0) [
@@ -47,10 +50,31 @@ seen_early first second lines r is =
           ]
     ]
 
-first_within : (code : List Insn) (n : ℕ) (o : Option Insn)
+-- a fault of the target of a jump is the first fault of the instruction
+pub target_fault_is_first : (code : List Insn) (named : List Named) (i : Insn) (at : ℕ) (r : Reason)
+    → target_reason code i at ≡ Some r → shape_reason code named i at ≡ Some r
+target_fault_is_first code named i at r is =
+    let later : List (Bool × Reason) =
+    (falls i && nat_le (slot_count code) (falls_to i at), FallsOff)
+    ∷ (not (is_reachable code at), Unreachable)
+    ∷ (calls_unknown i, UnknownHelper)
+    ∷ (is_number (written_register i) 10, FramePointerWritten)
+    ∷ (is_not_open named (descriptor i), DescriptorNotOpen)
+    ∷ (is_not_map named (descriptor i), DescriptorNotMap)
+    ∷ (lacks_value named i, NoDirectValue)
+    ∷ [] in
+    sym (seen_early (jumps i && leads_outside code (jumps_to i at), JumpOutside)
+    (jumps i && leads_backward (jumps_to i at) at, JumpBackward) later r (sym is))
+
+within_begun : (code : List Insn) (n : ℕ) (o : Option Insn)
     → begins_at code n ≡ o → is_some o ≡ true → n < slot_count code
-first_within code n None is some = absurd (false≢true some)
-first_within code n (Some i) is some = begins_within code n i is
+within_begun code n None is some = absurd (false≢true some)
+within_begun code n (Some i) is some = begins_within code n i is
+
+-- a slot at which an instruction begins is one of the program
+pub first_within : (code : List Insn) (n : ℕ)
+    → is_some (begins_at code n) ≡ true → n < slot_count code
+first_within code n = within_begun code n (begins_at code n) refl
 
 within : (code : List Insn) (b : Bool) (o : Option ℕ)
     → (b && leads_outside code o) ≡ false
@@ -58,7 +82,7 @@ within : (code : List Insn) (b : Bool) (o : Option ℕ)
 within code false o inside = tt
 within code true None inside = tt
 within code true (Some n) inside =
-    first_within code n (begins_at code n) refl (not-false (is_some (begins_at code n)) inside)
+    first_within code n (not-false (is_some (begins_at code n)) inside)
 
 -- the target of a jump is a slot of the program
 pub jump_lands : (code : List Insn) (named : List Named) (i : Insn) (at : ℕ)

@@ -1,12 +1,13 @@
 //! The cost of a program: the most instructions, and the most calls, on a path from slot 0 to an exit.
 
-ghost use Rattle.std.specs.Prelude.{◌≡◌, ◌+◌, ◌<◌, ◌≤◌, ◌||◌, ◌==◌, ℕ, max, nat_lt, length, slice_index_or, Some, IfSome, if◌then◌else◌};
-ghost use Rattle.insn_set.specs.Flow.{jump_target, is_number};
+ghost use Rattle.std.specs.Prelude.{◌≡◌, ◌+◌, ◌<◌, ◌≤◌, ◌||◌, ◌==◌, ℕ, max, nat_lt, false, List, length, slice_index_or, Some, if◌then◌else◌};
+ghost use Rattle.insn_set.specs.Flow.{jump_target, jumps};
 ghost use Rattle.insn_set.specs.Profile.{profile};
+ghost use Rattle.verifier.specs.declared.cost.Counts.{Counts as AnyCounts};
 ghost use Rattle.verifier.specs.Cost.{is_helper};
 ghost use Rattle.verifier.specs.inside.Longest.{no_counts, AreFew, IsAdded};
 
-use insn_codec::{Insn, MAX_SLOTS, Profile, Reference, Successors};
+use insn_codec::{Insn, MAX_SLOTS, Profile, Reference};
 
 /// The cost of an accepted program: the most instructions, and the most calls of helpers, on a path from slot 0 to an exit. The two may be
 /// of different paths. No run executes more.
@@ -76,23 +77,20 @@ impl Counts {
     }
 }
 
-/// Joins `counts`, those of paths that end with a jump to the slot `target`, into the counts that `jumping` has for this slot: the number
-/// of instructions (`instructions`) and that of calls (`calls`) each become the greater of the two. The counts of other slots are
-/// unchanged. `target` is an index of `jumping`, since the jump has no fault. `None`, a target below slot 0, changes nothing: its jump was
-/// rejected before.
+/// Joins `counts`, those of paths that end with a jump to the slot `to`, into the counts that `jumping` has for this slot: the number of
+/// instructions (`instructions`) and that of calls (`calls`) each become the greater of the two. The counts of other slots are unchanged.
+/// `to` is an index of `jumping`, since the jump has no fault.
 #[inline(always)]
-fn join_at_target(jumping: &mut [Counts], target: Option<usize>, counts: Counts)
-    requires { IfSome target (λ to. to < length jumping.old) }
+fn join_at(jumping: &mut [Counts], to: usize, counts: Counts)
+    requires { to < length jumping.old }
     ensures instructions { (i : ℕ) → (slice_index_or jumping.new i no_counts).instructions
         ≡ max (slice_index_or jumping.old i no_counts).instructions
-        (if is_number target i then counts.instructions else 0) }
+        (if to == i then counts.instructions else 0) }
     ensures calls { (i : ℕ) → (slice_index_or jumping.new i no_counts).calls
         ≡ max (slice_index_or jumping.old i no_counts).calls
-        (if is_number target i then counts.calls else 0) }
+        (if to == i then counts.calls else 0) }
 {
-    if let Some(to) = target {
-        jumping[to] = jumping[to].greater(counts);
-    }
+    jumping[to] = jumping[to].greater(counts);
 }
 
 /// The most instructions and calls on the paths that a pass over the slots has found, but for those that end with a jump to a later slot.
@@ -170,38 +168,58 @@ impl Paths {
         self.here.instructions += 1;
     }
 
-    /// Adds `insn`, the instruction at `slot`, to the paths that lead to this slot. `here` has their counts: the most instructions, and the
-    /// most calls of helpers, on any of them. The new counts have one instruction more, and one call more if `insn` calls a helper. If
-    /// `insn` may jump, they are joined into the counts that `jumping` has for its target: of each count the greater one is kept. If it is
-    /// an exit, they are joined in the same way into the counts at the exits (`ended`). Then `here` has the counts along the falling edge:
-    /// the new ones, or `NO_COUNTS`, both 0, if there is no such edge (`IsAdded`). `row` is the profile of `insn`, its properties: what it
-    /// reads, writes and names, and its successors. Only the contract needs `insn`. By `room` the number of the next slot does not
-    /// overflow. By `lands` the target is an index of `jumping`: the caller has found no fault in the instruction. By `few` neither count
-    /// of `here` is above `MAX_SLOTS`, so no new one overflows its 16 bits.
+    /// Adds `insn`, an instruction at `slot` that does not jump (`stays`), to the paths that lead to this slot. `here` has their counts:
+    /// the most instructions, and the most calls of helpers, on any of them. The new counts have one instruction more, and one call more if
+    /// `insn` calls a helper. If it is an exit, they are joined into the counts at the exits (`ended`): of each count the greater one is
+    /// kept. Then `here` has the counts along the falling edge: the new ones, or `NO_COUNTS`, both 0, after an exit (`IsAdded`). The counts
+    /// on jumps, `jumping` of the clause, stay as they are. `row` is the profile of `insn`, its properties: what it reads, writes and
+    /// names, and its successors. Only the contract needs `insn` and `slot`. By `few` neither count of `here` is above `MAX_SLOTS`, so no
+    /// new one overflows its 16 bits.
     #[inline(always)]
-    pub(crate) fn add(&mut self, jumping: &mut [Counts], insn: &Insn, row: &Profile, slot: usize)
-        requires room { slot ≤ MAX_SLOTS }
+    pub(crate) fn add(&mut self, insn: &Insn, row: &Profile, slot: usize)
         requires row { row.now ≡ profile insn.now }
-        requires lands { IfSome (jump_target insn.now slot) (λ to. to < length jumping.old) }
+        requires stays { jumps insn.now ≡ false }
+        requires few { AreFew self.old }
+        ensures { (jumping : List AnyCounts) →
+            IsAdded insn.now slot self.old self.new jumping jumping }
+    {
+        let counts = self.here.with(row.reference);
+        if row.successors.falls() {
+            self.here = counts;
+        } else {
+            self.ended = self.ended.greater(counts);
+            self.here = NO_COUNTS;
+        }
+    }
+
+    /// Adds `insn`, an instruction at `slot` that may jump to the slot `to` (`target`), to the paths that lead to `slot`. `here` has their
+    /// counts: the most instructions, and the most calls of helpers, on any of them. The new counts have one instruction more. They are
+    /// joined into those that `jumping` has for `to`, an index of it (`lands`), since the caller has found no fault in the jump: of each
+    /// count the greater one is kept. Then `here` has the counts along the falling edge: the new ones, or `NO_COUNTS`, both 0, if there is
+    /// no such edge (`IsAdded`). `row` is the profile of `insn`, its properties. Only the contract needs `insn` and `slot`. By `few`
+    /// neither count of `here` is above `MAX_SLOTS`, so no new one overflows its 16 bits.
+    #[inline(always)]
+    pub(crate) fn add_jump(
+        &mut self,
+        jumping: &mut [Counts],
+        insn: &Insn,
+        row: &Profile,
+        slot: usize,
+        to: usize,
+    )
+        requires row { row.now ≡ profile insn.now }
+        requires target { jump_target insn.now slot ≡ Some to }
+        requires lands { to < length jumping.old }
         requires few { AreFew self.old }
         ensures { IsAdded insn.now slot self.old self.new jumping.old jumping.new }
     {
         let counts = self.here.with(row.reference);
-        match row.successors {
-            Successors::Next => self.here = counts,
-            Successors::Jump(_) => {
-                join_at_target(jumping, row.successors.target(slot), counts);
-                self.here = NO_COUNTS;
-            }
-            Successors::NextOrJump(_) => {
-                join_at_target(jumping, row.successors.target(slot), counts);
-                self.here = counts;
-            }
-            Successors::Nothing => {
-                self.ended = self.ended.greater(counts);
-                self.here = NO_COUNTS;
-            }
-        }
+        join_at(jumping, to, counts);
+        self.here = if row.successors.falls() {
+            counts
+        } else {
+            NO_COUNTS
+        };
     }
 
     /// The cost of the program: the most instructions, and the most calls of helpers, on a path to an exit. These are the counts `ended`,

@@ -29,7 +29,7 @@ impl Model for EdgeFacts {
 impl EdgeFacts {
     /// Joins `edge`, the facts on the jumps to a slot, into these, the facts on the falling edge to the same slot. If there are none here
     /// (`is_known` is false), `edge` is copied with the numbers of its groups, and `fresh` is not used. Else each group of eight stack
-    /// slots that the join changes gets `fresh`, a number that the pass gives for no other change. So groups of one index and one number
+    /// slots that the join changes gets `fresh`, a number that the pass gives for no other change. So groups with the same index and number
     /// are equal, and by the numbers a later join that would change nothing is recognized, and left out. `IsJoinedBy` has both cases.
     pub(crate) fn join(&mut self, edge: &NumberedFacts, fresh: usize)
         ensures { IsJoinedBy fresh self.old edge.now self.new }

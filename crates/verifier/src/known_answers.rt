@@ -18,7 +18,7 @@ use tagged_model::Named;
 /// A known result of `TargetFacts::put`, which joins `facts`, those on a jump to `slot`, into the facts that `entries` has for this slot.
 /// If `entries` has facts for no other slot before (`alone`), it has facts for no other slot after, unless the call fails (`OnOk`): facts
 /// are kept once for each target, however many jumps lead to it. `slot` is less than `MAX_SLOTS` (`within`). `put` gives each group of
-/// eight stack slots that the join changes the new number `fresh`, since groups with one index and one number are equal in all facts of a
+/// eight stack slots that the join changes the new number `fresh`, since groups with the same index and number are equal in all facts of a
 /// pass (`NumberedFacts`). The error is out of memory.
 fn one_entry(
     entries: &mut TargetFacts,

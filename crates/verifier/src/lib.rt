@@ -65,16 +65,17 @@
 //!   a finished entry is reused. If the list of these boxes cannot grow, the verdict is out of memory. A join writes
 //!   only registers and slots that change; kinds that differ are joined out of line. With facts moved by value, a load of straight
 //!   arithmetic took 26 times as many machine instructions, and one of diamonds 15 times.
-//! - The stack in facts has eight groups of eight slots, each with a number (`NumberedFacts`). Groups with one index and one
-//!   number are the same. A store gives the group of its slot a new number; a call or a null test all groups; a join the
-//!   groups that it changes. Each group also has the number of the last group that was joined into it, and a second join with that
-//!   group is skipped, since it would change nothing. New numbers are computed from the slot of the instruction, so no counter is
-//!   needed. bench/FIGURES.md has the costs. With one number for the whole stack, a byte stored before each jump cost a join of
-//!   all slots (1,075 machine instructions a slot, now 700). Not used: copying and joining the stack only from its lowest written
-//!   slot on (half the cost with few slots written, 3 to 15% more with all 64).
+//! - The stack in facts has eight groups of eight slots, each with a number (`NumberedFacts`). Groups with the same index and number are
+//!   the same. A store gives the group of its slot a new number; a call or a null test all groups; a join the groups that it changes. Each
+//!   group also has the number of the last group that was joined into it, and a second join with that group is skipped, since it would
+//!   change nothing. New numbers are computed from the slot of the instruction, so no counter is needed. bench/FIGURES.md has the costs.
+//!   With one number for the whole stack, a byte stored before each jump cost a join of all slots (1,075 machine instructions a slot, now
+//!   700). Not used: copying and joining the stack only from its lowest written slot on (half the cost with few slots written, 3 to 15%
+//!   more with all 64).
 //! - What most instructions pass through is inlined by attributes (`apply` and four functions of `transfer`, `leave_by`): LLVM inlines a
 //!   large function by itself only if it has one caller, and in the library the log calls these too. Without the attributes a load there
-//!   takes a fifth to a third more machine instructions.
+//!   takes a fifth to a third more machine instructions. `check_shape` has one caller, and is kept out of it by an attribute: in one
+//!   function the two loops over the slots share too few registers, and a load takes up to 6% more.
 //! - The list of entries ends with the last target so far, so a program without jumps has none.
 //! - A caller that verifies many programs, as a host does, lends the memory for it (`WorkingMemory`), which it keeps from one program to
 //!   the next. Without it a program with 1,900 targets that wait had 1,060 page faults, and took five times as long. What a rejected

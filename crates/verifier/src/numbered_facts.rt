@@ -9,8 +9,8 @@ use reg_kinds::laws::facts_have_all_slots;
 use reg_kinds::{Facts, GROUP_SLOTS, STACK_GROUPS, StackGroup, join_group, join_registers};
 use transfer::Flow;
 
-/// Facts, with a number for what is known of each group of eight stack slots (a `StackGroup`). Groups with one index and one number are the
-/// same in all facts of a pass, so that a join that would change nothing can be recognized, and is left out.
+/// Facts, with a number for what is known of each group of eight stack slots (a `StackGroup`). Groups with the same index and number are
+/// the same in all facts of a pass, so that a join that would change nothing can be recognized, and is left out.
 #[derive(Clone, Copy, Debug, Drop)]
 pub(crate) struct NumberedFacts {
     pub(crate) facts: Facts,
@@ -22,10 +22,10 @@ pub(crate) struct NumberedFacts {
 }
 
 impl NumberedFacts {
-    /// The facts at program entry, with which a pass over a program begins. Each group of eight stack slots has number 1. Groups with one
-    /// index and one number have to be equal in all facts of a pass, so that a join that would change nothing is recognized by the numbers,
-    /// and left out. A group that changes later in the pass gets a number above 1, so groups with number 1 are unchanged since program
-    /// entry. `includes`, the number of the group that was joined last into each group, is 0, since none has been.
+    /// The facts at program entry, with which a pass over a program begins. Each group of eight stack slots has number 1. Groups with the
+    /// same index and number have to be equal in all facts of a pass, so that a join that would change nothing is recognized by the
+    /// numbers, and left out. A group that changes later in the pass gets a number above 1, so groups with number 1 are unchanged since
+    /// program entry. `includes`, the number of the group that was joined last into each group, is 0, since none has been.
     pub(crate) fn at_entry() -> NumberedFacts
         ensures { result ≡ at_entry }
     {
@@ -47,7 +47,7 @@ impl NumberedFacts {
     }
 
     /// Gives the group of eight stack slots that has stack slot `slot`, 0 to 63, the new number `fresh`, since the slot may have changed:
-    /// groups with one index and one number have to be equal in all facts of a pass. The group's `includes`, the number of the group that
+    /// groups with the same index and number have to be equal in all facts of a pass. The group's `includes`, the number of the group that
     /// was joined into it last, becomes 0: none has been joined into it since the change. No fact and no other group changes
     /// (`group_renumbered`).
     #[inline(always)]
@@ -86,10 +86,10 @@ impl NumberedFacts {
 
     /// Joins the group of eight stack slots of index `group` in `edge`, the facts on another edge to the same instruction, into the group
     /// of this index in `self`. The registers and the other groups in `self` are unchanged (`IsGroupJoin`). If the join may change the
-    /// group, it gets the new number `fresh`: groups with one index and one number have to be equal in all facts of a pass. In any case its
-    /// `includes` becomes the number of the group in `edge`. By `includes` the only caller, `join_stack_group`, leaves out a second join
-    /// with that group, which would change nothing. The caller is inlined, and this function is not, so that the loop of `join` contains
-    /// only the caller's test. The contract is that of the caller, so it also allows a join that is left out.
+    /// group, it gets the new number `fresh`: groups with the same index and number have to be equal in all facts of a pass. In any case
+    /// its `includes` becomes the number of the group in `edge`. By `includes` the only caller, `join_stack_group`, leaves out a second
+    /// join with that group, which would change nothing. The caller is inlined, and this function is not, so that the loop of `join`
+    /// contains only the caller's test. The contract is that of the caller, so it also allows a join that is left out.
     #[inline(never)]
     fn join_other_group(&mut self, edge: &NumberedFacts, fresh: usize, group: usize)
         requires { group < stack_groups }
@@ -102,9 +102,9 @@ impl NumberedFacts {
     }
 
     /// Joins the group of eight stack slots of index `group` in `edge`, the facts on another edge to the same instruction, into the group
-    /// of this index in `self`. If the join changes the latter, it gets the number `fresh`, which is new in the pass: two groups with one
-    /// index and one number have to be equal in all facts of a pass. `self.includes[group]` is the number of the group that was joined last
-    /// into that of `self`, or 0 if none was since that was written; no group has number 0. If the group in `edge` has this number, it
+    /// of this index in `self`. If the join changes the latter, it gets the number `fresh`, which is new in the pass: two groups with the
+    /// same index and number have to be equal in all facts of a pass. `self.includes[group]` is the number of the group that was joined
+    /// last into that of `self`, or 0 if none was since that was written; no group has number 0. If the group in `edge` has this number, it
     /// equals the group that was joined then, so a second join would change nothing, and is left out. By `IsGroupJoin` the registers and
     /// the other groups in `self` are unchanged.
     #[inline(always)]
@@ -118,10 +118,10 @@ impl NumberedFacts {
     }
 
     /// Joins `edge`, the facts on another edge to the same instruction, into these (`IsJoin`): the kind of each register, and each group of
-    /// eight stack slots. Each group that the join changes gets the new number `fresh`, since groups of one index and one number have to be
-    /// equal in all facts of a pass. For each group of these facts, `includes` has the number of the group that was joined into it last. If
-    /// the group of this index in `edge` has this number, it equals the group that was joined then. So a second join would change nothing,
-    /// and is left out.
+    /// eight stack slots. Each group that the join changes gets the new number `fresh`, since groups with the same index and number have to
+    /// be equal in all facts of a pass. For each group of these facts, `includes` has the number of the group that was joined into it last.
+    /// If the group of this index in `edge` has this number, it equals the group that was joined then. So a second join would change
+    /// nothing, and is left out.
     pub(crate) fn join(&mut self, edge: &NumberedFacts, fresh: usize)
         ensures { IsJoin fresh self.old edge.now self.new }
     {

@@ -45,7 +45,7 @@ pub(crate) struct Pass {
 /// Passes the facts in `hand`, those before a comparison of `dst` with `src`, along its jumping edge. `jumps` has the ranges of `dst` and
 /// of `src` on this edge; if it is `None`, the edge can't be taken, and nothing is done. Else the operands in `hand` get these ranges, and
 /// `hand` is joined into the facts that `entries` has for the slot `target` (`sent`). Each group of eight stack slots that the join changes
-/// there gets the number `fresh`, which is new in the pass: groups with one index and one number have equal facts (`NumberedFacts`), so a
+/// there gets the number `fresh`, which is new in the pass: groups with the same index and number have equal facts (`NumberedFacts`), so a
 /// later join that would change nothing is recognized. `target` is below `MAX_SLOTS` (`lands`), as each slot of a program. `None` is a jump
 /// to below slot 0, a fault of the program's shape, which a program in the pass does not have; nothing is joined then. By the clause `hand`
 /// only the ranges of the operands have changed in `hand`: once they are set to any pair `q` (`with_ranges`), the facts are the same as if
@@ -87,7 +87,7 @@ struct Compared {
 /// `src`. The facts on an edge are those before the jump with these ranges (`with_ranges`). Those on the jumping edge are joined into the
 /// facts that `entries` has for `target` (clause `sent`); nothing is joined if the edge can't be taken, or if `target` is `None`, for a
 /// jump to below slot 0. Each group of eight stack slots that the join changes gets the number `fresh`, which is new in the pass: two
-/// groups with one index and one number are equal, so a join that would change nothing is recognized by the numbers. `target` is a slot of
+/// groups with the same index and number are equal, so a join that would change nothing is recognized by the numbers. `target` is a slot of
 /// the program, so below `MAX_SLOTS` (`lands`). Returns whether the falling edge can be taken (clause `falls`): if so, `hand` then has the
 /// facts on it; if not, nothing is promised of `hand`. The error is out of memory.
 #[inline(always)]
@@ -122,10 +122,10 @@ fn leave_comparison(
 /// `jumps_on_null`, its result is null on the jumping edge and not null on the falling edge, else the opposite. Then `hand` has the facts
 /// on the falling edge (`falls`). Those on the jumping edge are made in `taken`, a buffer whose old facts mean nothing, and joined into the
 /// facts that `entries` has for `target` (`sent`); for `None`, a jump to below slot 0, nothing is joined. A target is a slot of the program
-/// (`lands`), since the program's shape has no fault. A null test may change any group of eight stack slots, so all get a new number:
-/// `8 * slot + 4` on the jumping edge, `+ 5` on the falling edge. Groups that the join changes at the target get `+ 6`. In all facts of a
-/// pass, groups with one index and one number are equal: by this a later join that would change nothing is recognized, and left out. The
-/// error is out of memory.
+/// (`lands`), since the program's shape has no fault. A null test may change any group of eight stack slots, so all get a new number: `8 *
+/// slot + 4` on the jumping edge, `+ 5` on the falling edge. Groups that the join changes at the target get `+ 6`. In all facts of a pass,
+/// groups with the same index and number are equal: by this a later join that would change nothing is recognized, and left out. The error
+/// is out of memory.
 fn leave_null_test(
     hand: &mut NumberedFacts,
     entries: &mut TargetFacts,
@@ -245,7 +245,7 @@ fn leave(
 /// Passes the facts before the instruction at `slot`, which are in `hand`, to the watcher, and then changes `hand`, by the transfer
 /// function (`apply`), to the facts on the falling edge. The facts on the jumping edge, if it can be taken, are joined into those that
 /// `entries` has for the jump's target, a slot of the program (`lands`). Both changes are in `past`. Groups of eight stack slots into which
-/// the instruction may have written get the new number `8 * slot + 3`: groups with one index and one number have to be equal in all facts
+/// the instruction may have written get the new number `8 * slot + 3`: groups with the same index and number have to be equal in all facts
 /// of a pass. `leave` gives further numbers on the edges. By `room` none overflows. `taken` is space for the facts on the jumping edge of a
 /// null test, and `named` lists the objects that descriptors name. Returns whether the falling edge can be taken; if not, nothing is
 /// promised of `hand`. Without an error the instruction may be run with the facts before it (`ok`), and the watcher has received these
@@ -366,7 +366,7 @@ impl Pass {
     /// has for the jump's target, a slot of the program (`lands`); those of no other later slot change (`sent`). Without joined facts no
     /// run reaches `insn`, and nothing is done. If there is no error, `insn` may be run with the joined facts (`ok`). The error (`refused`)
     /// is why it may not, after the watcher got the joined facts, or out of memory, before or after that. `named` has the program's maps.
-    /// By `numbered`, groups of eight stack slots with one index and one number are equal in all these facts (`NumberedFacts`), and all
+    /// By `numbered`, groups of eight stack slots with the same index and number are equal in all these facts (`NumberedFacts`), and all
     /// numbers are below `8 * slot + 2`. So the numbers that this step gives, from that one on, are new. They are below the bound of the
     /// next slot, for which the clause holds again. By the numbers, a join leaves out a group if it was the last one joined; by `absorb` a
     /// second join with it would change nothing.
@@ -404,8 +404,8 @@ impl Pass {
 
 /// Finds the first instruction that may not be run with the facts before it, in one pass over the slots. `Ok` if there is none, so no slot
 /// has a fault of safety (`sound`). The error is the slot of this instruction with the reason, or out of memory, at slot 0. `named` has the
-/// objects that the descriptors of the program's maps name, and `pass` is memory for the facts. No instruction begins at the second slot of
-/// a wide one, so nothing is done there. The watcher receives the facts before each instruction that a run may reach, by slot, in addition
+/// objects that the descriptors of the program's maps name, and `pass` is memory for the facts. The second slot of a wide
+/// instruction is passed with it. The watcher receives the facts before each instruction that a run may reach, by slot, in addition
 /// to what it had (`W.seen`). After `Ok` it has received all of them (`seen`); after a fault those up to the slot of the fault, with this
 /// one; if out of memory, those below some slot (`refused`). No jump leads past the end (`JumpsLand`): the caller has checked the shape.
 /// The three laws do nothing when they run; the proof needs them.
@@ -426,11 +426,13 @@ pub(crate) fn check_safety<W: Watcher>(
     laws::joins_associate();
     laws::slots_absorb();
     let slots = program.slots();
+    let code = program.code();
     pass.begin();
-    for slot in 0..slots {
-        if let Some(insn) = program.get(slot) {
-            pass.step(named, insn, slot, watcher)?;
-        }
+    let mut slot = 0;
+    while slot < slots {
+        let insn = &code[slot];
+        pass.step(named, insn, slot, watcher)?;
+        slot += insn.slots();
     }
     Ok(())
 }

@@ -1,16 +1,18 @@
 //! The shape of a program.
 
-ghost use Rattle.std.specs.Prelude.{◌≡◌, ◌⊎◌, ◌≤◌, ◌&&◌, nat_le, not, [], ◌∷◌, length, None, Some, IsTrue, IfErr, IfOk, OnOk};
+ghost use Rattle.std.specs.Prelude.{◌≡◌, ◌⊎◌, ◌≤◌, ◌<◌, nat_le, not, [], ◌∷◌, List, length, true, false, None, Some, IsTrue, IfErr, IfOk, OnOk};
 ghost use Rattle.reg_kinds.specs.declared.reason.Reason.TheVariants.{JumpOutside, JumpBackward, FallsOff, Unreachable};
 ghost use Rattle.reg_kinds.specs.declared.reason.Reason.TheVariants.{FramePointerWritten, DescriptorNotOpen, DescriptorNotMap};
 ghost use Rattle.reg_kinds.specs.declared.reason.Reason.TheVariants.{NoDirectValue};
 ghost use Rattle.insn_set.specs.Profile.{profile};
 ghost use Rattle.insn_set.specs.Program.{slot_count};
-ghost use Rattle.insn_set.specs.Flow.{falls_to, jumps_to, falls, jumps, descriptor, descriptor_by, is_number};
+ghost use Rattle.insn_set.specs.Flow.{falls_to, falls, jumps, jump_target, descriptor, descriptor_by, is_number};
+ghost use Rattle.tagged_model.specs.declared.shape.Named.{Named as AnyNamed};
+ghost use Rattle.verifier.specs.declared.cost.Counts.{Counts as AnyCounts};
 ghost use Rattle.verifier.specs.Cost.{IsCostOf};
 ghost use Rattle.verifier.specs.Shape.{is_reachable, names_unknown_helper, is_not_open, is_not_map, lacks_direct_value};
-ghost use Rattle.verifier.specs.Shape.{leads_outside, leads_backward, first_reason, shape_reason, structure_fault};
-ghost use Rattle.verifier.specs.inside.Jumps.{JumpsLand};
+ghost use Rattle.verifier.specs.Shape.{first_reason, shape_reason, structure_fault};
+ghost use Rattle.verifier.specs.inside.Jumps.{target_reason, JumpsLand};
 ghost use Rattle.verifier.specs.inside.Longest.{AreFew, IsAdded, IsSimple, LeadTo};
 ghost use Rattle.verifier.specs.Verdict.{IsFirstFault, HasNoFault, memory_fault};
 
@@ -83,30 +85,26 @@ fn descriptor_reason(named: &[Named], reference: Reference) -> Option<Reason>
     }
 }
 
-/// The fault of the target of `insn`, the instruction at `slot`, if `insn` may jump: `JumpOutside` if the target is below slot 0 or no
-/// instruction begins there, else `JumpBackward` if it is `slot` or an earlier slot. `None` if there is no fault or no jump. `successors`
-/// are those of `insn`, so only the contract needs `insn` itself. By `room` the sum `slot + 1`, from which the jump counts, does not
-/// overflow.
-fn jump_reason(
-    program: &Program,
-    insn: &Insn,
-    successors: Successors,
-    slot: usize,
-) -> Option<Reason>
+/// The slot to which `insn`, an instruction at `slot` that may jump (`jumps`), jumps. It is a slot of the program (`lands`), and has no fault
+/// (`none`). The error is the fault of the target: `JumpOutside` if it is below slot 0 or no instruction begins there, else `JumpBackward`
+/// if it is `slot` or an earlier slot. Such a fault is the first of the instruction, whatever descriptors are open (`refused`). `row` has
+/// the properties of `insn` (`profile`). By `room` the sum `slot + 1`, from which the jump counts, does not overflow.
+#[tactic(auto, using(crate::proofs::Reached::first_within, crate::proofs::Reached::target_fault_is_first))]
+fn landing_of(program: &Program, insn: &Insn, row: &Profile, slot: usize) -> Result<usize, Reason>
     requires room { slot ≤ MAX_SLOTS }
-    requires successors { successors ≡ (profile insn.now).successors }
-    ensures { result ≡ first_reason
-        ((jumps insn.now && leads_outside program.now (jumps_to insn.now slot), JumpOutside)
-        ∷ (jumps insn.now && leads_backward (jumps_to insn.now slot) slot, JumpBackward) ∷ []) }
+    requires row { row.now ≡ profile insn.now }
+    requires jumps { jumps insn.now ≡ true }
+    ensures lands { IfOk result (λ to.
+        (jump_target insn.now slot ≡ Some to) × (to < slot_count program.now)) }
+    ensures none { OnOk result (target_reason program.now insn.now slot ≡ None) }
+    ensures refused { (named : List AnyNamed) → IfErr result (λ reason.
+        shape_reason program.now named insn.now slot ≡ Some reason) }
 {
-    if !successors.jumps() {
-        return None;
-    }
-    match successors.target(slot) {
-        Some(to) if !program.is_first(to) => Some(Reason::JumpOutside),
-        Some(to) if to <= slot => Some(Reason::JumpBackward),
-        Some(_) => None,
-        None => Some(Reason::JumpOutside),
+    match row.successors.target(slot) {
+        Some(to) if !program.is_first(to) => Err(Reason::JumpOutside),
+        Some(to) if to <= slot => Err(Reason::JumpBackward),
+        Some(to) => Ok(to),
+        None => Err(Reason::JumpOutside),
     }
 }
 
@@ -128,12 +126,12 @@ fn is_simple(row: &Profile, next: usize, slots: usize, paths: &Paths) -> bool
     }
 }
 
-/// The first fault of shape of `insn`, the instruction at `slot`, in this order; `None` if it has none. `JumpOutside`: no instruction
-/// begins at the target of its jump. `JumpBackward`: the target is no later slot. `FallsOff`: it can fall past the program's end.
-/// `Unreachable`: no path leads to it (`is_reached` is false). `UnknownHelper`: it calls a helper by a number that none has.
-/// `FramePointerWritten`: it writes register 10. `DescriptorNotOpen`, `DescriptorNotMap`: its descriptor is not open, or names a program.
-/// `NoDirectValue`: it loads the address of a value's byte, and the map is no array of one element or its value has no such byte. `named`
-/// has the open descriptors with their objects, `row` the properties of `insn` (`profile`). By `room` no sum overflows.
+/// The first fault of shape of `insn`, an instruction at `slot` that does not jump (`stays`), in this order; `None` if it has none.
+/// `FallsOff`: it can fall past the program's end. `Unreachable`: no path leads to it (`is_reached` is false). `UnknownHelper`: it calls a
+/// helper by a number that none has. `FramePointerWritten`: it writes register 10. `DescriptorNotOpen`, `DescriptorNotMap`: its descriptor
+/// is not open, or names a program. `NoDirectValue`: it loads the address of a value's byte, and the map is no array of one element or its
+/// value has no such byte. `named` has the open descriptors with their objects, `row` the properties of `insn` (`profile`). By `room` no
+/// sum overflows.
 #[inline(always)]
 fn shape_fault_of(
     program: &Program,
@@ -146,11 +144,10 @@ fn shape_fault_of(
     requires room { slot ≤ MAX_SLOTS }
     requires row { row.now ≡ profile insn.now }
     requires reached { is_reached ≡ is_reachable program.now slot }
+    requires stays { jumps insn.now ≡ false }
     ensures { result ≡ shape_reason program.now named.now insn.now slot }
 {
-    if let Some(reason) = jump_reason(program, insn, row.successors, slot) {
-        Some(reason)
-    } else if row.successors.falls() && slot + row.slots >= program.slots() {
+    if row.successors.falls() && slot + row.slots >= program.slots() {
         Some(Reason::FallsOff)
     } else if !is_reached {
         Some(Reason::Unreachable)
@@ -163,30 +160,28 @@ fn shape_fault_of(
     }
 }
 
-/// Checks the instruction at `slot` by all rules of shape. `check_and_add` calls this unless a shorter test (`is_simple`) has found that
-/// the instruction has no fault. `named` has the open descriptors with their objects. The error is the first fault (`refused`). `paths` has
-/// the most instructions and calls on the paths to `slot`, neither above `MAX_SLOTS` (`few`), so no count overflows, and by `room` no
-/// number of a slot; `slot` is reachable exactly if it is 0 or these paths have an instruction (`reached`). `jumping` has, for each slot of
-/// the program (`long`), the most on the paths that end with a jump there. Without a fault (`fine`) the instruction is added to these
-/// counts (`added`). If it may jump, the new counts are joined into those of its target in `jumping`; if it is an exit, into those at the
-/// exits, which `paths` has too. Of each count the greater is kept. Then `paths` has the counts along the falling edge, or 0 for both
-/// (`NO_COUNTS`) if there is none.
+/// Checks `insn`, an instruction at `slot` that does not jump (`stays`), by all rules of shape. `check_and_add` calls this unless a shorter
+/// test (`is_simple`) has found that the instruction has no fault. `named` has the open descriptors with their objects. The error is the
+/// first fault (`refused`). `paths` has the most instructions and calls on the paths to `slot`, neither above `MAX_SLOTS` (`few`), so no
+/// count overflows, and by `room` no number of a slot; `slot` is reachable exactly if it is 0 or these paths have an instruction
+/// (`reached`). Without a fault (`fine`) the instruction is added to these counts (`added`). If it is an exit, the new counts are joined
+/// into those at the exits, which `paths` has too: of each count the greater is kept. Then `paths` has the counts along the falling edge,
+/// or 0 for both (`NO_COUNTS`) after an exit. The counts on the jumps to each slot, `jumping` of the clause, stay as they are.
 #[inline(always)]
 fn check_and_count(
     program: &Program,
     named: &[Named],
     insn: &Insn,
     slot: usize,
-    jumping: &mut [Counts],
     paths: &mut Paths,
 ) -> Result<(), Reason>
     requires room { slot ≤ MAX_SLOTS }
-    requires long { length jumping.old ≡ slot_count program.now }
+    requires stays { jumps insn.now ≡ false }
     requires reached { LeadTo program.now slot paths.old }
     requires few { AreFew paths.old }
     ensures fine { OnOk result (shape_reason program.now named.now insn.now slot ≡ None) }
-    ensures added { OnOk result
-        (IsAdded insn.now slot paths.old paths.new jumping.old jumping.new) }
+    ensures added { (jumping : List AnyCounts) → OnOk result
+        (IsAdded insn.now slot paths.old paths.new jumping jumping) }
     ensures refused { IfErr result (λ reason.
         shape_reason program.now named.now insn.now slot ≡ Some reason) }
 {
@@ -194,9 +189,49 @@ fn check_and_count(
     match shape_fault_of(program, named, insn, &row, slot, paths.lead_to(slot)) {
         Some(reason) => Err(reason),
         None => {
-            paths.add(jumping, insn, &row, slot);
+            paths.add(insn, &row, slot);
             Ok(())
         }
+    }
+}
+
+/// Checks `insn`, an instruction at `slot` that may jump (`jumps`), by all rules of shape. It calls no helper, names no descriptor and
+/// writes no register, so it can have only these faults, in this order: one of its target (`landing_of`), `FallsOff`, and `Unreachable`.
+/// The error is the first, whatever descriptors are open (`refused`). `paths` has the most instructions and calls on the paths to `slot`,
+/// neither above `MAX_SLOTS` (`few`), so no count overflows, and by `room` no number of a slot; `slot` is reachable exactly if it is 0 or
+/// these paths have an instruction (`reached`). `jumping` has, for each slot of the program (`long`), the most on the paths that end with a
+/// jump there. Without a fault (`fine`) the instruction is added to these counts (`added`): the new ones are joined into those of its
+/// target in `jumping`, where of each count the greater is kept, and `paths` has them along the falling edge, or 0 for both (`NO_COUNTS`)
+/// if there is none.
+#[inline(always)]
+fn check_jump(
+    program: &Program,
+    insn: &Insn,
+    slot: usize,
+    jumping: &mut [Counts],
+    paths: &mut Paths,
+) -> Result<(), Reason>
+    requires room { slot ≤ MAX_SLOTS }
+    requires jumps { jumps insn.now ≡ true }
+    requires long { length jumping.old ≡ slot_count program.now }
+    requires reached { LeadTo program.now slot paths.old }
+    requires few { AreFew paths.old }
+    ensures fine { (named : List AnyNamed) →
+        OnOk result (shape_reason program.now named insn.now slot ≡ None) }
+    ensures added { OnOk result
+        (IsAdded insn.now slot paths.old paths.new jumping.old jumping.new) }
+    ensures refused { (named : List AnyNamed) → IfErr result (λ reason.
+        shape_reason program.now named insn.now slot ≡ Some reason) }
+{
+    let row = insn.profile();
+    let to = landing_of(program, insn, &row, slot)?;
+    if row.successors.falls() && slot + row.slots >= program.slots() {
+        Err(Reason::FallsOff)
+    } else if !paths.lead_to(slot) {
+        Err(Reason::Unreachable)
+    } else {
+        paths.add_jump(jumping, insn, &row, slot, to);
+        Ok(())
     }
 }
 
@@ -232,8 +267,10 @@ fn check_and_add(
     if is_simple(row, slot + row.slots, program.slots(), paths) {
         paths.add_simple();
         Ok(())
+    } else if row.successors.jumps() {
+        check_jump(program, insn, slot, jumping, paths)
     } else {
-        check_and_count(program, named, insn, slot, jumping, paths)
+        check_and_count(program, named, insn, slot, paths)
     }
 }
 
@@ -242,6 +279,7 @@ fn check_and_add(
 /// (`lands`), as `check_safety` requires. The error is the fault at the lowest slot that has one, or out of memory, at slot 0 (`refused`).
 /// `named` lists the open descriptors and their objects. `jumping` is a buffer, whose old contents mean nothing: by slot, the most
 /// instructions and calls on the paths that end with a jump there.
+#[inline(never)]
 pub(crate) fn check_shape(
     program: &Program,
     named: &[Named],
@@ -262,8 +300,8 @@ pub(crate) fn check_shape(
     let mut slot = 0;
     while slot < slots {
         let insn = &code[slot];
-        let row = insn.profile();
         paths.join(jumping[slot]);
+        let row = insn.profile();
         if let Err(reason) = check_and_add(program, named, insn, &row, slot, jumping, &mut paths) {
             return Err(VerifyFault { slot, reason });
         }

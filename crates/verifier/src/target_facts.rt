@@ -60,7 +60,7 @@ fn keep(spare: &mut Vec<Box<NumberedFacts>>, entry: Box<NumberedFacts>) -> Resul
 /// Joins `facts`, those on a jump, into `entry`, which has the join of the facts on the earlier jumps to the same target (`IsJoinedBy`, on
 /// the facts in the boxes, which `box_value` gives). If there were none, `entry` is `None`, and gets a copy of `facts` and their numbers,
 /// in a box of `spare` or else in a new one. Otherwise each group of eight stack slots in `entry` that the join changes gets the new number
-/// `fresh`, since groups with one index and one number have to be equal in all facts of a pass. The error is out of memory for a new box.
+/// `fresh`, since groups with the same index and number have to be equal in all facts of a pass. The error is out of memory for a new box.
 fn join_entry(
     entry: &mut Option<Box<NumberedFacts>>,
     facts: &NumberedFacts,

@@ -308,7 +308,7 @@ IsNumberedIf stacks bound None = Unit {0}
 IsNumberedIf stacks bound (Some x) = IsNumbered stacks bound x
 
 -- the numbers of the facts on the falling edge, and of those on the jumps to a slot or a later one,
--- have one meaning (`stacks`): groups of eight stack slots with one index and one number are the
+-- have one meaning (`stacks`): groups of eight stack slots with the same index and number are the
 -- same. All numbers are below the bound, so one from the bound on is new
 pub record AreNumbered (slot bound : ℕ) (falling : Option NumberedFacts)
     (entries : List (Option NumberedFacts)) : Type 0 where

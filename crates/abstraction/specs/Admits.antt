@@ -67,9 +67,11 @@ HasKind witness k o = (v : Tagged) × (o ≡ Some v) × IsOfKind witness k v
 
 -- ---- stack slots
 
--- the value is one that a cell, the content of a stack slot, keeps whole (`holds`), not as bytes.
--- False (⊥) for each number, also for null, which is 0, since a store puts a number into a cell as
--- bytes. True for each map, and for each pointer, whatever its object o and its offset x
+-- the value is one that a cell, the content of a stack slot, keeps whole (the constructor `holds`
+-- of `Cell`), not as bytes. False (⊥) for each number, also for null, which is 0, since a store
+-- puts a number into a cell as bytes. True for each map, and for each pointer, whatever its object
+-- o and its offset x. `HoldsWhole` requires this, so that the cell of a spilled result of a look-up
+-- has eight zero bytes (`HoldsNull`) if the result is null
 abbrev pub IsKeptWhole : Tagged → Type 0
 IsKeptWhole (Scalar n) = ⊥
 IsKeptWhole (Map m) = Unit {0}

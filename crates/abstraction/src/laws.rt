@@ -49,11 +49,11 @@ pub fn value_read_is_no_fault()
     ensures { ObjectReadAdmits }
 {}
 
-/// A law, for the helper that writes into a buffer (26, a load of packet bytes). Take a state in range (`IsInRange`: its bytes are below
-/// 256, its context words below 2^32) that has, at each descriptor of which a shape is given, a map of this shape (`HasMaps`). A write of
-/// bytes within one value of a map, which may be that of a deleted key, is no fault in this state. The state after the write is in range
-/// too, has maps of these shapes too, and is at the same slot. Facts that admit the state before the write also admit the state after it,
-/// by the same witness, since facts know nothing of the bytes of values.
+/// A law, for the helper that loads packet bytes into a buffer (`LoadBytes`, number 26), if the buffer lies in a value of a map. Take a
+/// state in range (`IsInRange`: its bytes are below 256, its context words below 2^32) that has, at each descriptor of which a shape is
+/// given, a map of this shape (`HasMaps`). A write of bytes within one value of a map, which may be that of a deleted key, is no fault in
+/// this state. The state after the write is in range too, has maps of these shapes too, and is at the same slot. Facts that admit the state
+/// before the write also admit the state after it, by the same witness, since facts know nothing of the bytes of values.
 pub fn object_write_admits()
     ensures { ObjectWriteAdmits }
 {}
@@ -68,7 +68,8 @@ pub fn value_load_admits()
 /// A law, for the soundness of stores to a value of a map. If all bytes of the store lie in one value, which may be that of a deleted key,
 /// and a number is stored, the store is no fault. Facts that describe the state before the store by a witness (`Describes`: they admit it,
 /// its numbers are in range, and its maps have their shapes) also describe the state after it, by the same witness: facts know nothing of
-/// the bytes of values. The store does not change `at`, which in a state is the slot of the next instruction.
+/// the bytes of values. The store does not change `at`, which in a state is the slot of the next instruction, here still that of the store.
+/// After the store the step adds 1 to `at`, so it leads to the slot that soundness requires, that of the falling edge.
 pub fn value_store_admits()
     ensures { ValueStoreAdmits }
 {}
@@ -109,8 +110,9 @@ pub fn site_admits()
 
 /// A law of null tests, which the proof that the transfer function is sound needs for conditional jumps. Let facts admit a state by a
 /// witness. If the look-up at a site gave null in this witness, the state is also admitted by the facts in which the copies of its result
-/// are settled as null (`null`): a register has the number 0, and a stack slot has written bytes. If the look-up did not give null, the
-/// state is also admitted by the facts in which the copies are settled as pointers to the start of a value (`value`).
+/// are settled as null (`null`): a register has the number 0, and a stack slot has eight written bytes, all that facts say of a number in
+/// the stack. If the look-up did not give null, the state is also admitted by the facts in which the copies are settled as pointers to the
+/// start of a value (`value`).
 pub fn null_test_admits()
     ensures { NullTestAdmits }
 {}

@@ -2,7 +2,7 @@
 
 ghost use Rattle.arena.specs.Apart.{WritesStayInside, PartsAreApart, WritesAreInParts, AccessesAreInParts};
 
-/// Bytes written within one part leave every other part unchanged.
+/// A law, for isolation: bytes written into the memory within one part leave every other part unchanged.
 pub fn writes_stay_inside()
     ensures { WritesStayInside }
 {}
@@ -25,8 +25,8 @@ pub fn writes_are_in_parts()
 /// A law: if all bytes that an access names by its addresses lie in one part, the access is never `None`, and reads or changes only bytes
 /// of this part. A load returns the number that the loaded bytes make, little-endian. A store of n bytes writes the low n bytes of its
 /// number, and a copy writes the bytes of its source range, which lies in the same part. Nothing else in the part changes, and no other
-/// part. With this law, callers can prove from public contracts what an access does to a tenant's part; those in `contract_clients.rt`,
-/// which nothing calls, show that.
+/// part. With this law, a caller can prove from public contracts what an access does to a tenant's part. The proofs of `store_within` and
+/// `copy_within` in `contract_clients.rt` show that it can; no code calls these two functions.
 pub fn accesses_are_in_parts()
     ensures { AccessesAreInParts }
 {}

@@ -71,9 +71,10 @@ fn offset(memory_size: usize, size: usize, address: u64) -> Option<usize>
 impl Arena {
     ghost use Rattle.arena.specs.Lending.{LendsPart};
 
-    /// Creates an arena of `parts` parts of `part_size` zero bytes each; both are at least 1. By `size` it has at most 2^28 bytes. So the
-    /// addresses of its bytes do not wrap, and the low 32 bits of an address are its offset in the memory, whose first address is 2^32
-    /// (`BASE`). The bound is a round number above what a host of the most tenants needs. By `zero` all bytes are 0.
+    /// Creates an arena of `parts` parts of `part_size` zero bytes each. Both are at least 1, as in each host, so only `take`, which moves
+    /// the memory out of a variable, leaves an arena without bytes. By `size` the new arena has at most 2^28 bytes. So the addresses of its
+    /// bytes do not wrap, and the low 32 bits of an address are its offset in the memory, whose first byte has the address 2^32 (`BASE`) in
+    /// programs. The bound is a round number above what a host of the most tenants needs. By `zero` all bytes are 0.
     ///
     /// # Errors
     ///
@@ -237,9 +238,11 @@ impl Arena {
         copying::copy_bytes(&mut self.bytes, start, bytes);
     }
 
-    /// Copies `length` bytes, at least one, from address `from` to address `to`, like memmove: the ranges may overlap. Returns `None`, and
-    /// changes nothing, exactly if one of the two ranges doesn't lie in the memory (`found`, `bytes`). In each case the trace gets the
-    /// range at `from` and then that at `to` (`ranges`), and no step (`steps`). Runs call `copy_inside`, which does not test the ranges.
+    /// Copies `length` bytes from address `from` to address `to`, like memmove: the ranges may overlap. `length` is at least 1, as is the
+    /// size of each map's values. Returns `None`, and changes no byte, exactly if one of the two ranges doesn't lie in the memory (`found`,
+    /// `bytes`). In each case the trace gets the range at `from` and then that at `to` (`ranges`), and no step (`steps`). Only tests and
+    /// `copy_within` of `contract_clients.rt` call this function: the ranges of a run's copy are known to lie in the memory, so a run calls
+    /// `copy_inside`, which does not test them.
     pub fn copy(&mut self, to: u64, from: u64, length: usize, trace: &mut Trace) -> Option<()>
         requires { 1 ≤ length }
         ensures found { is_some result ≡ (is_some (offset_of (size_of self.old) length from)
@@ -259,9 +262,10 @@ impl Arena {
         Some(())
     }
 
-    /// Copies `length` bytes, at least one (`some`), from address `from` to `to` like memmove: the ranges may overlap, and that at `to`
-    /// gets the bytes that the other had before (`bytes`). The caller knows that both ranges are in the memory (`source`, `target`), so
-    /// there is no test, unlike in `copy`. The trace gets the range at `from` and then that at `to` (`ranges`), but no step (`steps`).
+    /// Copies `length` bytes from address `from` to `to` like memmove: the ranges may overlap, and that at `to` gets the bytes that the
+    /// other had before (`bytes`). `length` is at least 1 (`some`), as is the size of a map's value, which an update in a run copies by
+    /// this call (`put` of `bpf_helpers`). The caller knows that both ranges are in the memory (`source`, `target`), so there is no test,
+    /// unlike in `copy`. The trace gets the range at `from` and then that at `to` (`ranges`), but no step (`steps`).
     #[inline(always)]
     pub fn copy_inside(&mut self, to: u64, from: u64, length: usize, trace: &mut Trace)
         requires some { 1 ≤ length }
@@ -281,9 +285,10 @@ impl Arena {
         copy_bytes(&mut self.bytes, source, target, length);
     }
 
-    /// Lends the bytes of the part of `tenant` for writing. Tenants are numbered from 0, and each number below `parts` has a part. The
-    /// slice has the bytes that the part has now (`bytes`). `lends`: when the borrow ends, the part has the bytes that the slice then has,
-    /// and all other bytes of the memory are unchanged.
+    /// Lends the bytes of the part of `tenant` for writing, as to a command (`reply_to_command` of `saving`). Tenants are numbered from 0,
+    /// and each number below `parts` has a part. The slice has the bytes that the part has now (`bytes`). `lends`: when the borrow ends,
+    /// the part has the bytes that the slice then has, and all other bytes of the memory are unchanged. That depends on what the caller
+    /// will write, so no plain `ensures` can say it: `ensures*` and `sem 𝓛` mark an assertion of separation logic.
     pub fn part_mut(&mut self, tenant: usize) -> &mut [u8]
         requires { tenant < self.old.parts }
         ensures* lends { sem 𝓛 (LendsPart self.entry tenant result) }

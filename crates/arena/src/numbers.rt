@@ -84,10 +84,11 @@ fn low_byte(value: u64) -> [u8; 1]
 }
 
 /// Writes the low `size` bytes of `value`, little-endian, over the bytes at offset `at` of `bytes`. `size` is 1, 2, 4 or 8 (`IsSize`), and
-/// all of these bytes are in `bytes` (`within`). Each size has its own conversion, for speed. If all sizes converted eight bytes and wrote
-/// the first `size` of them, the machine code would also store the eight on the machine's stack. And the loop of a run (`dispatch.rt` of
-/// `flat_machine`) would have one shared jump to the next opcode, after an eBPF store of a constant and after one of a register. The
-/// processor predicts a jump from the history of this jump: with a jump for each of the two instructions, each has a history of its own.
+/// all of these bytes are in `bytes` (`within`). Each size converts only the bytes that it writes, for speed. If each size converted all
+/// eight bytes of `value` and wrote the first `size` of them, the machine code of a store of two or four bytes would also store the eight
+/// on the machine's stack. And in `dispatch` of `flat_machine`, the arm for an eBPF store of a constant and the arm for an eBPF store of a
+/// register would be compiled to share one jump to the arm of the next opcode. The processor predicts a jump from the earlier targets of
+/// this jump. So each of the two arms has a jump of its own, with a history of its own.
 #[inline(always)]
 pub(crate) fn write(bytes: &mut [u8], at: usize, size: usize, value: u64)
     requires size { IsSize size }

@@ -28,8 +28,10 @@ pub fn loads_give_words()
 /// A law. Suppose that words and bytes represent a state (`Simulates`), in a part of `PART` bytes of an arena of at most 2^28 bytes
 /// (`IsRoom`), and that the tagged machine stores a value in this state. Then the bytes at the address of the store, as many as its size,
 /// lie in the tenant's part. Once that many low bytes of the word that represents the value are written there, words and bytes represent
-/// the state after the store. If the value is a pointer or a map, its word has to be less than 2^64 (`PointerFits`). So a run stores
-/// without a bounds check. The proof needs the law that the body calls.
+/// the state after the store. So a run stores without a bounds check. The law allows any natural number as the word that represents a
+/// number, since only its low bytes are stored. The word of a pointer or a map has to be less than 2^64 (`PointerFits`), as a register's
+/// word always is, so that the eight bytes that are stored represent the pointer or the map. The proof needs the law that the body calls:
+/// bytes written in one part change no other part.
 pub fn stores_keep_simulation()
     ensures { StoresKeepSimulation }
 {
@@ -71,10 +73,11 @@ pub fn runs_begin()
     ensures { RunsBegin }
 {}
 
-/// A law for the end of a run, which the proof of `run_with` of `flat_machine` uses. Suppose that words and bytes represent a state of the
-/// tagged machine (`Simulates`), and that then the elements kept apart in a live map bound to the run become free (`after_run`), while no
-/// shape or area of a map changes (`SameAreas`). Then this map has the keys, with the values in the tenant's part, that the machine's map
-/// of the same descriptor has if the run ends in this state (`map_after_run`).
+/// A law for the end of a run, by which the proof of `run_with` of `flat_machine` knows what the run leaves in its maps (`runs`). Each
+/// descriptor that the program loads is bound to one live map. Suppose that words and bytes represent a state of the tagged machine
+/// (`Simulates`), and that then the elements kept apart in a live map bound to the run become free (`after_run`), while no shape or area of
+/// a map changes (`SameAreas`). Then this live map has the keys, with the values in the tenant's part, that the tagged machine's map of its
+/// descriptor has if the run ends in this state (`map_after_run`).
 pub fn runs_end()
     ensures { RunsEnd }
 {

@@ -46,7 +46,8 @@ pub(crate) fn bound_named(bind: &[MapKey], word: u64) -> MapKey
 /// The offset, in the part of `tenant`, of the `size` bytes at an address, by which helpers test an address that a run passes; `None` if
 /// they don't all lie in the part. If the address is before the part, the difference wraps, and so is greater than any offset. The tenant
 /// has a part, of `PART` bytes (`part`), and `size` is at most `PART`. By `within` the offset and `size` are together at most the part's
-/// size. By `inside` the addresses of the bytes lie in the part, so that the trace may get their range.
+/// size. By `inside` the addresses of the bytes lie in the part, so that the trace may get their range. The body calls a law for the proof:
+/// the size of the arena is that of all parts together, at most 2^28.
 #[inline(always)]
 pub(crate) fn offset_in(arena: &Arena, tenant: usize, size: usize, address: u64) -> Option<usize>
     requires part { IsPartOf tenant arena.now }

@@ -54,12 +54,15 @@ pub(crate) fn fault_word(fault: MapFault) -> u64
     u64::MAX - errno_of(fault) + 1
 }
 
-/// Stores a value under a key of a live map, and returns 0. If that fails, nothing changes, and it returns the error's number, negated. The
-/// key and the value are at the offsets `at` of the tenant's part, of `PART` bytes (`part`). Both lie in it (`key`, `value`), as `update`
-/// has tested and `update_inside` requires, so the value is copied without a test. `flags` are those of bpf(2). `caller` is the run that
-/// calls the helper: the number of its tenant, the handles of its maps, and its packet. `updated`: the result, and the memory and live maps
-/// afterwards (`answers`), are those of an update (`Updates`) with these inputs, the memory and the live maps (`call_of`), and with the key
-/// and value at these offsets (`pair_there`). `asks`: the trace gets only ranges in the part, and no step.
+/// Stores a value under a key of the live map (`live`) of the handle `map`, and returns 0. If that fails, nothing changes, and it returns
+/// the error's number, negated: EINVAL if `flags`, those of bpf(2), are above 2, else EEXIST, ENOENT or E2BIG, as for the command of
+/// bpf(2). The key and the value are at the offsets `at` of the tenant's part, of `PART` bytes (`part`). Both lie in it (`key`, `value`),
+/// as `update` has tested and `update_inside` requires, so the value is copied without a test. `caller` is the run that calls the helper:
+/// the number of its tenant, the handles of its maps, and its packet. `updated`: the result, and the memory and the live maps afterwards
+/// (`answers`), are those of an update by definition (`Updates`). Its inputs are `flags`; `caller` with the memory and the live maps before
+/// the call (`call_of`); and the map with the key and the value, the bytes at these offsets (`pair_there`). `Updates` takes the offset of
+/// the claimed element's value from the live maps before, the code from those after the claim: they are equal, since a claim moves no area
+/// (`areas_keep_elements`). `asks`: the trace gets only ranges in the part, and no step.
 fn put(
     map: MapKey,
     at: Offsets,

@@ -81,12 +81,13 @@ with_kept t key p = record {
   kept = t.kept ++ p ∷ [];
 }
 
--- a deletion of `key` (BPF_MAP_DELETE_ELEM) from the table `old` returns `answer`, and `new` is the
--- table after it. The first argument is what `removal` returns for the key. `Err fault`: there is
--- nothing to delete, since the key is absent or the map is an array; the deletion returns this
--- fault, and the table is unchanged. `Ok p`: p is the element of the key; the deletion returns Ok
--- without a value (`tt`), and the table no longer has the key, but p is kept apart until the run
--- ends (`with_kept`)
+-- a deletion of `key` (BPF_MAP_DELETE_ELEM), by a command or in a run, from the table `old` returns
+-- `answer`, and `new` is the table after it. The first argument is what `removal` returns for the
+-- key. `Err fault`: there is nothing to delete, since the key is absent or the map is an array; the
+-- deletion returns this fault, and the table is unchanged. `Ok p`: p is the element of the key; the
+-- deletion returns Ok without a value (`tt`), and the table no longer has the key, but p is kept
+-- apart (`with_kept`): no key gets p until `end_run`, which is called at the end of a run, and by a
+-- command, which is in no run, at once
 abbrev pub Removes : Result ℕ MapFault
     → List ℕ
     → KeyTable

@@ -29,7 +29,9 @@ total_same f (x ∷ xs) (y ∷ ys) h =
 
 -- if a list of options has an index n (`n < length xs`), the sum over its first n + 1 options is
 -- the sum over the first n, plus the number for the option at index n: f x for Some x, 0 for None
--- (`weight`). The induction needs the successor `suc n`; `total_next` has n + 1, for the callers
+-- (`weight`). The induction needs the successor `suc n`; `total_next` has n + 1, for the proofs of
+-- the loops that count by handle a tenant's live maps or their keys (`live_count`, `key_sum`), or
+-- by descriptor its open objects or programs (`open_count`, `program_count`)
 total_after : {A : Type 0} (f : A → ℕ) (n : ℕ) (xs : List (Option A))
     → n < length xs
     → total f (take (suc n) xs) ≡ total f (take n xs) + weight f (get_or xs n None)
@@ -151,7 +153,8 @@ live_within k tenant live = some_within k tenant.maps live
 -- if two lists of options have equal lengths (`long`), and at each index both have Some, of any
 -- values, or both have None (`same`), the first index with None, or the length if no index has None
 -- (`position_or_len`), is equal in both. In four equations only one list is empty, or only one
--- begins with None: these contradict `long` or `same`. For `same_lowest`
+-- begins with None: these contradict `long` or `same`. For `same_lowest`, by which the lowest free
+-- handle is equal in two lists by handle, such as a tenant's live maps and their slab keys
 same_first_none : {A B : Type 0} (xs : List (Option A)) (ys : List (Option B))
     → length xs ≡ length ys
     → ((k : ℕ) → is_some (get_or xs k None) ≡ is_some (get_or ys k None))

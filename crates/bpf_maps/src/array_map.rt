@@ -189,8 +189,9 @@ impl ValueMap for ArrayMap {
     ghost keys = { λ m. m };
 
     // The element of a key is the index in the key's four bytes, little-endian; `None` if this index is not below `max_entries`. The first
-    // line calls a law, which does nothing when it runs. By this law the `key_size` of an array, which is the length of the key (clause
-    // `size` of `ValueMap::find`), is 4, and the table of keys is sound (clause `sound` there): no two keys have the same element.
+    // line calls a law, which does nothing when it runs. By this law the `key_size` of an array is 4; the key has this length, since the
+    // clause `size` of `ValueMap::find` requires a key of `key_size` bytes. By the law, too, the table of keys is sound, as the clause
+    // `sound` of `ValueMap::find` promises: for example, no two keys have the same element.
     #[inline(always)]
     fn find(&self, key: &[u8]) -> Option<u32> {
         self.keys_are_its_indices();

@@ -25,8 +25,9 @@ pub enum BpfMap {
 
 impl BpfMap {
     /// Makes a map of this shape: an array has all its indices as keys, a hash map has no keys (`new_keys`). A hash map takes new memory,
-    /// and the seed to hash its keys; an array takes neither. This is for a map without a tenant: `Maps` calls `with_spares`, which may
-    /// reuse memory. `AllocError`: out of memory for a hash map.
+    /// and the seed to hash its keys; an array takes neither. The map belongs to no tenant, so that worked cases can test a single map
+    /// (`cases_maps`). `Maps`, a tenant's live maps, calls `with_spares` instead, which may reuse the memory of a hash map that is no
+    /// longer live. `AllocError`: out of memory for a hash map.
     pub fn new(alloc: Global, shape: MapShape, seed: HashSeed) -> Result<BpfMap, AllocError>
         ensures { IfOk result (λ map. keys_in map ≡ new_keys shape) }
     {
@@ -37,10 +38,13 @@ impl BpfMap {
     }
 
     /// Makes a map of this shape: an array with all its indices, or a hash map without keys (`new_keys`). A hash map takes the memory of
-    /// one of `spares`, the tenant's hash maps that are no longer live, if one has its key size and `max_entries`. It has that map's seed,
-    /// which equals `seed`, since `Maps` has one for all. Else it takes new memory; before that, spare maps are freed until those left, the
-    /// live hash maps (`live`) and the new one are at most `MAPS`, and the sum of their `max_entries` is at most `MOST_ENTRIES_TOGETHER`,
-    /// or none is left. An array takes neither memory nor seed. `AllocError`: out of memory for a hash map.
+    /// one of `spares`, the tenant's hash maps that are no longer live, if one has its key size and `max_entries`. The new map then has the
+    /// spare map's seed, which equals `seed`, since `Maps` has one seed for all. Otherwise the new map takes new memory, and `seed`. Before
+    /// that, spare maps are freed until those left, the live hash maps and the new one are at most `MAPS`, and the sum of their
+    /// `max_entries` is at most `MOST_ENTRIES_TOGETHER`, or none is left. Live hash maps can't exceed these bounds, so a tenant takes no
+    /// more memory than one whose hash maps are all live. If the new map is a hash map, `live` is the number of the live hash maps, and the
+    /// sum of their `max_entries`; it is read only for these bounds. An array takes neither memory nor seed. `AllocError`: out of memory
+    /// for a hash map.
     pub(crate) fn with_spares(
         alloc: Global,
         shape: MapShape,

@@ -69,8 +69,10 @@ impl Maps {
     }
 
     /// How many hash maps are live, and the sum of their `max_entries`. Both decide which spare maps are freed before a new hash map takes
-    /// memory (`SpareMaps::hash_map`). A spare map is a hash map that is no longer live, whose memory a new one may reuse. No contract
-    /// depends on these numbers. The call of the law `maps_are_laid`, which does nothing, is for the proof.
+    /// memory (`SpareMaps::hash_map`). A spare map is a hash map that is no longer live, whose memory a new one may reuse. Live, spare and
+    /// new hash maps together have bounds, so that a tenant's memory is bounded. No contract depends on these numbers, so the function has
+    /// none: the proof shows only that each map whose shape is read is live, which `is_live` tests. The body calls a law, which does
+    /// nothing when it runs.
     fn count_live_hash_maps(&self) -> HashMapTotals {
         self.maps_are_laid();
         let mut live = NO_HASH_MAPS;
@@ -84,7 +86,8 @@ impl Maps {
     }
 
     /// How many bytes the areas of all live maps take together (`sum`): for each of the `max_entries` elements of a map, also one without a
-    /// key, the size of a value, rounded up to a multiple of eight. At most `LARGEST_SUM` (`few`). `Tenant::counts` reports it.
+    /// key, the size of a value, rounded up to a multiple of eight. At most `LARGEST_SUM`, the room for areas in a tenant's part,
+    /// `most_bytes` in contracts (`few`). The body calls a law, which does nothing when it runs. `Tenant::counts` reports the number.
     pub fn value_bytes(&self) -> usize
         ensures sum { result ≡ areas self.now }
         ensures few { result ≤ most_bytes }

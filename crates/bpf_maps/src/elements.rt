@@ -68,10 +68,11 @@ impl Elements {
     }
 
     /// The address, modulo 2^64, of the value of `key` in a live array, if `self` is the count and the stride of this array (`AreOfArray`),
-    /// and `first` the address of its first value; 0 if the index in `key` is out of range, or `key` does not have `INDEX_SIZE` bytes. The
-    /// function reads neither `maps` nor `map`, the array's handle: both are for the contract. There `part` is the address of the tenant's
-    /// part, so `first` is `part` plus the offset of the first value (`address`). If `key` has a value, the value lies in the part, after
-    /// the stack and the context (`inside`).
+    /// and `first` the address of its first value; 0 if the array does not have the key: the index in `key` is out of range, or `key` does
+    /// not have `INDEX_SIZE` bytes. So a run's look-up in an array (`look_up_among` of `bpf_helpers`) reads no map: `maps` and `map`, the
+    /// array's handle, are only for the contract, and `maps_are_laid` is a law, which does nothing when it runs. In `address`, `part` is
+    /// the address of the tenant's part, so `first` is `part` plus the offset of the first value. If `key` has a value, the value lies in
+    /// the part, after the stack and the context (`inside`).
     #[inline(always)]
     pub fn address_of(self, maps: &Maps, map: MapKey, key: &[u8], first: u64) -> u64
         ensures address { AreOfArray self maps.now map → (part : ℕ)

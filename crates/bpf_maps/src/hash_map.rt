@@ -128,13 +128,13 @@ impl HashMap {
         self.index.entry_after(element)
     }
 
-    /// Adds an absent key as the last one, claims a free element for it, and returns this element. The elements that no key has are in
-    /// `spare`: the first `kept` of them are kept apart until the run ends, the others are free, and the last one is claimed. `TooBig`, and
-    /// nothing has changed, if none is free: then the map is full (`is_full`). By `claimed` this is the claim of an element (`Claims`) in
-    /// an update of an absent key (`of_absent`): of a new key, or `TooBig` if the map is full. The last argument of `of_absent`, 0, is the
-    /// flags `ANY`. The caller, `claim`, has checked the flags of the update; `NOEXIST` allows an absent key too, with the same result.
-    /// `sound`: no element has two keys, or a key while it is kept apart. Not inlined, unlike the rest of an update: an update of a present
-    /// key does not need it.
+    /// Adds an absent key as the last one, with a free element, and returns this element. The elements that no key has are in `spare`: the
+    /// first `kept` of them are kept apart until the run ends, the others are free, and the last one is taken. `TooBig`, and nothing has
+    /// changed, if none is free: then the map is full (`is_full`), since its keys and the elements kept apart are together `max_entries`.
+    /// `claimed`: the result and the change are those that an update allows (`Claims`) after its verdict on an absent key (`of_absent`),
+    /// which is `Refused TooBig` if the map is full, else `New`. The last argument of `of_absent`, 0, is the flags `ANY`. With `NOEXIST`
+    /// the verdict is the same, and `claim`, the caller, has rejected all other flags. `sound`, which `claim` promises too: no element has
+    /// two keys, or a key while it is kept apart. Not inlined, unlike `claim`: an update of a present key does not need it.
     #[cold]
     #[inline(never)]
     #[tactic(auto, using(crate::proofs::Kept::sound))]

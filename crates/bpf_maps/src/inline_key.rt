@@ -33,7 +33,8 @@ impl<const N: usize> Model for InlineKey<N> {
 }
 
 impl<const N: usize> InlineKey<N> {
-    /// Makes a key of a copy of these bytes, of which there are at most `N`, with zeros after them.
+    /// Makes a key for an index to store: a copy of these bytes, at most `N`, and zeros after them, so that the bytes, which contracts see,
+    /// determine the fields.
     #[inline(always)]
     pub(crate) fn copy_of(bytes: &[u8]) -> InlineKey<N>
         requires short { length bytes.now ≤ N }
@@ -95,7 +96,7 @@ impl PartialEq for KeyBytes<'_> {
 
     ghost laws = { on_per (λ k. k.bytes.now) (partial_equiv_from_equiv nat_list_eq_equiv) };
 
-    /// Whether both keys have the same bytes.
+    /// Whether two looked-up keys have the same bytes. `Hash` requires it; an index compares such a key with stored ones by `equivalent`.
     fn eq(&self, other: &KeyBytes<'_>) -> bool {
         self.bytes == other.bytes
     }

@@ -5,10 +5,13 @@ ghost use Rattle.bpf_maps.specs.Laws.{SizesFitInParts, CallsAreThoseOfAMap, Writ
 ghost use Rattle.bpf_maps.specs.Laws.{ValuesAgree, ElementsAreWithin, AreasKeepElements, DeletesKeepElements};
 ghost use Rattle.bpf_maps.specs.InPart.{ValuesAreWritten, LiveMapsRefineValues};
 
-/// A law: a table of keys, as stored, changes as a map of the definition does (`Table` of `tagged_model`). `table_of` is the map that a
-/// table of keys represents: it has the same keys, and the object of a key is the key's element. The record `CallsAreThoseOfAMap` has four
-/// statements. A new table of keys represents a new map (`new`). If a table of keys gets a new key (`update`), loses a key, whose element
-/// is then kept apart (`delete`), or ends a run (`end`), the map that it represents changes as the definition says.
+/// A law: a table of keys, as stored, changes as `Table` of `tagged_model` defines it for a map. There a map has a shape, a list of keys,
+/// each with an object, anything that represents the key's value, and the number of objects deleted in this run. `table_of` is the map that
+/// a table of keys represents: it has the same keys, the object of a key is the key's element, and each element that is kept apart counts
+/// as a deleted object. The record `CallsAreThoseOfAMap` has four statements. A new table of keys represents a new map (`new`). If a table
+/// of keys gets a new key (`update`), loses a key, whose element is then kept apart (`delete`), or ends a run (`end`), the map that it
+/// represents changes as the definition says. So a contract that states how a table of keys changes, as that of `Maps::end_run`, also
+/// states it of a map.
 pub fn calls_are_those_of_a_map()
     ensures { CallsAreThoseOfAMap }
 {}
@@ -66,8 +69,10 @@ pub fn values_are_written()
 /// the table is unchanged, the map of values is, too. If the table loses a key, whose element is then kept apart, the map of values loses
 /// it, and has one more deleted value, which counts as an entry until the run ends. If the table ends a run, no element is kept apart, and
 /// no deleted value counts any more. If the table claims an element for a key, and the element's value is then written, the map of values
-/// gets this value for the key. The proofs of `Tenant::update` and `Tenant::delete` use the law. The laws that it calls: the calls of
-/// bpf(2) change a map of elements and its map of values alike, and the verdict on an update agrees with the look-up of its key.
+/// gets this value for the key. The proofs of `Tenant::update` and `Tenant::delete` use the law. The proof of the law needs two laws of
+/// `tagged_model`. A call of bpf(2) changes a map of elements and its map of values alike (`calls_refine_values`). If a map decides on an
+/// update that the key is present with some element, the look-up of the key finds this element (`map_verdicts_match_look_ups`), so a value
+/// written there is the value of the key.
 pub fn live_maps_refine_values()
     ensures { LiveMapsRefineValues }
 {

@@ -80,8 +80,9 @@ impl Model for Maps {
 
 impl Maps {
     /// Makes `Maps` without a live map: none of the `MAPS` handles has a map (`maps`, `none`), the areas take 0 bytes (`bytes`), and no new
-    /// map was ever refused memory (`refused`). The keys of its hash maps will be hashed with this seed. Allocates room for `MAPS` maps,
-    /// but not for their keys. `AllocError`: out of memory.
+    /// map was ever refused memory (`refused`). The keys of its hash maps will be hashed with `seed`. Allocates room for `MAPS` live maps
+    /// and for `MAPS` spare ones (`spares`), hash maps that are no longer live, whose memory new ones reuse, but not for their keys. Later,
+    /// only `create` allocates memory, for a hash map. `AllocError`: out of memory.
     pub fn new(alloc: Global, seed: HashSeed) -> Result<Maps, AllocError>
         ensures maps { IfOk result (λ new. new.maps ≡ replicate most_maps None) }
         ensures none { IfOk result (λ maps. (k : ℕ) → live_at maps k ≡ None) }
@@ -183,8 +184,9 @@ impl Maps {
         if self.bytes + size > LARGEST_SUM {
             return Err(MapFault::NoSpace);
         }
-        // A hash map gets the memory of a spare map, one that is no longer live, if one fits. Else it takes new memory, and `live` decides
-        // which spare maps are freed first.
+        // A hash map gets the memory of a spare map, one that is no longer live, if one fits. Else it takes new memory, and spare maps are
+        // freed first while they, the new map and the live hash maps are too many, or the sum of their `max_entries` is too large. `live`
+        // has the number of the live hash maps and the sum of their `max_entries`; for a new array, which takes no memory, both are 0.
         let live = self.live_hash_maps_for(shape.kind);
         let spares = &mut self.spares;
         let Ok(map) = BpfMap::with_spares(self.alloc, shape, self.seed, spares, live) else {
@@ -233,13 +235,15 @@ impl Maps {
         stored.holds += 1;
     }
 
-    /// Drops one reference to a live map (`less`); the last (`references_at`, their number, is at most 1) frees the map, its handle and
-    /// area. The memory of a freed hash map is kept for new ones (`spares`). In `part`, the tenant's part of `PART` bytes, the later areas
-    /// then move down by the size of that area (`moved`), and all areas together (`areas`) have so many bytes less (`freed`). Other maps
-    /// keep their elements, keys and values (`others`, `values`, `maps`), as does the map if it has more references (`stays`, `shape`,
-    /// `kept`); then no area changes (clause `areas`, `room`). The values of all live maps still lie in the part and do not overlap
-    /// (`laid`). `without_area_at` is a map without its area: its table of keys, and `references_at`. The stack, the context (`front`) and
-    /// the flag of refused memory (`refused`) do not change.
+    /// Drops one reference to a live map (`less`). If that was the last, the map, its handle and its area are freed (`gone`): a live map
+    /// has at least one reference, so the clauses ask whether their number (`references_at`) was at most 1. The memory of a freed hash map
+    /// is kept for new ones (`spares`). In `part`, the tenant's part of `PART` bytes, the areas after the freed one move down by its size
+    /// (`moved`), and all areas together (`areas`) have so many bytes less (`freed`). If the map has more references, it stays live
+    /// (`stays`) and keeps its shape (`shape`), elements, keys and values (`less`, `kept`), and no area changes (clause `areas`, `room`).
+    /// In both cases the other maps keep their elements, keys and values (`others`, `values`, `maps`), and the values of all live maps
+    /// still lie in the part and do not overlap (`laid`). The stack, the context (`front`) and the flag of refused memory (`refused`) do
+    /// not change. `without_area_at` is what a live map has besides its area: its table of keys, and its number of references; `None` if
+    /// the handle has no map.
     pub fn release(&mut self, map: MapKey, part: &mut [u8])
         requires live { IsSome (live_at self.old map) }
         requires length { length part.old ≡ PART }

@@ -57,8 +57,8 @@ impl MiddleIndex {
         self.map.get(KeyBytes { bytes: key })
     }
 
-    /// Returns the key that follows `key` in the order in which the keys were added; `None` if `key` is the last, or the index has no keys.
-    /// After an absent key, also one of another size, the result is the first key. The result is borrowed from the index: `lent_key` is its
+    /// Returns the key that follows `key` in the order in which the keys were added; `None` if `key` is the last, or `self` has no keys.
+    /// After an absent key, also one of another size, the result is the first key. The result is borrowed from `self`: `lent_key` is its
     /// bytes. MAP_GET_NEXT_KEY replies with it.
     pub(crate) fn key_after(&self, key: &[u8]) -> Option<&[u8]>
         ensures { option_map lent_key result ≡ key_after key.now self.now.entries }

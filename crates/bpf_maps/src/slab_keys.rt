@@ -73,9 +73,10 @@ impl SlabKeys {
         first_without_key(&self.words)
     }
 
-    /// Sets `key` as the key under which the slab has the map of `handle`, instead of any key that was set before. `create` of `Maps` calls
-    /// this for a new map. `handle`: it is less than `MAPS`. `key`: it is less than `NO_KEY`, the greatest `usize`, which means no key;
-    /// each key of a slab is less than the slab's capacity.
+    /// Records `key`, the number under which the slab has stored the map of `handle`, so that `get` and `key` find this map; a number that
+    /// was recorded before is replaced. `create` of `Maps` calls this for a new map. `handle`: it is less than `MAPS` (`most_maps` in
+    /// contracts). `key`: it is less than `NO_KEY`, the greatest `usize`, which means no key; each number that a slab gives is less than
+    /// its capacity.
     pub(crate) fn put(&mut self, handle: usize, key: usize)
         requires handle { handle < most_maps }
         requires key { key < NO_KEY }

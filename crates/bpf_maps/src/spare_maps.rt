@@ -112,8 +112,9 @@ impl SpareMaps {
         HashMap::new(alloc, shape, seed)
     }
 
-    /// The index of the first spare map, a hash map that is no longer live, with this shape's key size and `max_entries`; `None` if there
-    /// is none. A new map of this shape can take the memory of that spare map, whatever the size of its values (`IsLike`).
+    /// The index of the first spare map, a hash map that is no longer live, with this shape's key size and `max_entries` (`IsLike`); `None`
+    /// if there is none. A new map of this shape can take the memory of that spare map, whatever the size of its values. Past the end of
+    /// the list `slice_get` gives `None`, of which `IsLike` is false: so by the clause `at` is within the list, which `hash_map` needs.
     fn position(&self, shape: MapShape) -> Option<usize>
         ensures { IfSome result (λ at. IsLike shape (slice_get self.now.maps.items at)) }
     {
@@ -139,8 +140,10 @@ impl SpareMaps {
 
     /// Whether the spare maps, hash maps that are no longer live, and the hash maps that `live` counts (the live ones, and a new one that
     /// needs memory) are together at most `MAPS`, and the sum of their `max_entries` is at most `MOST_ENTRIES_TOGETHER`. Live hash maps
-    /// can't exceed these bounds, so within them a tenant takes no more memory than one whose hash maps are all live. While the result is
-    /// `false`, `make_room` frees spare maps, if any are left. A sum that saturates exceeds its bound.
+    /// can't exceed these bounds: a tenant has `MAPS` handles, and each of a map's `max_entries` elements takes at least eight bytes of the
+    /// areas, which have at most `LARGEST_SUM` bytes together, eight times `MOST_ENTRIES_TOGETHER`. So within these bounds a tenant takes
+    /// no more memory than one whose hash maps are all live. While the result is `false`, `make_room` frees spare maps, if any are left. A
+    /// sum that saturates exceeds its bound.
     fn has_room(&self, live: HashMapTotals) -> bool {
         self.maps.len().saturating_add(live.maps) <= MAPS
             && self.max_entries_sum().saturating_add(live.entries) <= MOST_ENTRIES_TOGETHER
@@ -174,7 +177,8 @@ impl SpareMaps {
     /// number of these maps is too large, above `MAPS`. A map suffices if its `max_entries` is at least `excess` (`HasEntries`). Of the
     /// spare maps that suffice, the result is the one whose keys take the least memory when it is full, so that most is left for later
     /// maps; if none suffices, the one with the greatest `max_entries`, so that few are freed. By `suffices`, the result suffices if a
-    /// spare map at any index (`at`) does. The caller has found that there is a spare map.
+    /// spare map at any index (`at`) does; past the end of the list `slice_get` gives `None`, of which `HasEntries` is false. The caller
+    /// has found that there is a spare map.
     fn next_to_free(&self, excess: usize) -> usize
         requires { 0 < vec_len self.now.maps }
         ensures within { result < vec_len self.now.maps }

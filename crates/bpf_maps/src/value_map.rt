@@ -35,10 +35,11 @@ pub trait ValueMap {
         ensures within { IfSome result (λ element. element < (keys self.now).shape.max_entries) }
         ensures sound { IsSound (keys self.now) };
 
-    /// Claims an element for a key, which has the size of the map's keys, and returns it; the caller then writes the value there. A present
-    /// key keeps its element. A new key becomes the last of the map's entries, and gets any element that is not in use. The result and the
-    /// change of the keys are as the `verdict` on the update requires (`claimed`). The element is less than `max_entries` (`within`).
-    /// Afterwards the keys are sound: for example, no two have the same element (`sound`).
+    /// Claims an element for a key, which has the size of the map's keys (`size`), and returns it; the caller then writes the value there.
+    /// A present key keeps its element. A new key becomes the last of the map's entries, and gets any element that is not in use.
+    /// `claimed`: the result and the new table follow the definition of an update (`verdict` of `tagged_model`), which gives an error
+    /// (`Refused`), the element of a present key (`Present`), or `New` for a new key. The element is less than `max_entries` (`within`).
+    /// The shape is unchanged (`shape`). Afterwards the keys are sound: for example, no two have the same element (`sound`).
     ///
     /// # Errors
     ///
@@ -81,8 +82,9 @@ pub trait ValueMap {
         ensures short { IfSome result (λ given. length (key_bytes given) ≤ KEY_ROOM) };
 
     /// Writes the key that follows `key` in the map's order (`next_of`) to the start of `next`, which has room for the longest key; the
-    /// bytes of `next` after it are unchanged. If `key` is empty or absent from the map, the first key is written. A `key` that is not
-    /// empty has the size of the map's keys (`size`).
+    /// bytes of `next` after it are unchanged. If `key` is empty or absent from the map, the first key is written. `size`: a `key` that is
+    /// not empty has the size of the map's keys, as the command MAP_GET_NEXT_KEY requires too. The body does not need this: for `key_after`
+    /// a key of another size is absent.
     ///
     /// # Errors
     ///

@@ -80,8 +80,9 @@ impl WordIndex {
         Some(ShortKey::of_word(*word, self.size))
     }
 
-    /// The key that follows the key of `element` in the order of insertion, or the first key if `element` is `None`; and the element of the
-    /// returned key. `None` if no key follows, if no key has `element`, or if the index has no keys.
+    /// Returns the key that follows the key of `element` in the order of insertion, or the first key if `element` is `None`; and the
+    /// element of the returned key. `None` if no key follows, if no key has `element`, or if the index has no keys. A save reads a map's
+    /// keys in turn by this function: it passes the element of each result to the next call. Unlike `key_after`, this hashes no key.
     pub(crate) fn entry_after(&self, element: Option<u32>) -> Option<(ShortKey, u32)>
         ensures { result ≡ next_entry element self.now.entries }
     {

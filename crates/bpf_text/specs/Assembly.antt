@@ -112,9 +112,10 @@ forms_from all slot (Some (label n) ∷ lines) = forms_from all slot lines
 forms_from all slot (Some (code form n) ∷ lines) =
     resolved (distance all slot n) form ∷ forms_from all (slot + form_slots form) lines
 
--- the second list has, in order, the reading of each line of the first: `Some` of the line as which
--- its bytes are read, or None if they are read as no line (`ReadAs`). Lists of different lengths do
--- not meet this
+-- the second list has, in order, the reading of each line of the first (`ReadAs`): `Some` of the
+-- blank line, the label or the instruction that its bytes are; or None if they are none of these,
+-- which is the fault `Syntax`. Lists of different lengths do not meet this. At most one second list
+-- does; the proof of `OneProgram` needs this
 abbrev pub AreRead : List (List ℕ) → List (Option Line) → Type 0
 AreRead [] [] = Unit {0}
 AreRead (bytes ∷ more) (line ∷ lines) = ReadAs bytes line × AreRead more lines

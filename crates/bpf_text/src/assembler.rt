@@ -140,13 +140,15 @@ fn distance(label: Option<LineStart>, slot: usize) -> i16
     to as i16 - (slot as i16 + 1)
 }
 
-/// The instruction of a line's form (`found`), or the first fault that applies (`fault`, by `code_fault`), in this order: `Range`, a number
-/// is out of range; `UnknownLabel`, no line defines the label; `TooLong`, the slots go past `MAX_SLOTS`. By `none` no fault applies if an
-/// instruction is returned. Written as text (`written`), it is the form with 0 for each number -0, and with a distance for the label of a
-/// jump (`resolved`): that from slot `slot + 1` to the label, in slots (`kept_distance`). A label past slot `MAX_SLOTS` counts as one at
-/// this slot, since its text is rejected. As the form is that of a line (`IsForm`), `Form::insn` is `None` only if a number is out of
-/// range. `label` is the definition of the label that the form names; `None` if the form names none, or no line defines it. `slot` is the
-/// number of slots before the form: at most `MAX_SLOTS`, as no earlier line is `TooLong`.
+/// The instruction of a line's form, or the first fault that applies (`fault`, by `code_fault`), in this order: `Range`, a number is out of
+/// range; `UnknownLabel`, no line defines the label; `TooLong`, the slots go past `MAX_SLOTS`. An instruction is returned only if no fault
+/// applies (`none`). Written as a form (`written`), the instruction is the line's form (`found`), with two changes (`resolved`): it has 0
+/// if the line has -0, since the fields of an instruction have no -0, and the label of a jump is replaced by the distance in slots from
+/// slot `slot + 1`, the next after the jump, to the label (`kept_distance`). In this distance a label past slot `MAX_SLOTS` is taken to be
+/// at `MAX_SLOTS`, so that the distance fits 16 bits; this distance gets into no program, since a line before the label then has a fault.
+/// As the form is that of a line (`IsForm`), `Form::insn` is `None` only if a number is out of range. `label` is the first definition of
+/// the label that the form names; `None` if the form names none, or no line defines it. `slot` is the number of slots before the form: at
+/// most `MAX_SLOTS`, as no earlier line is `TooLong`.
 fn resolve(form: &Form, label: Option<LineStart>, slot: usize) -> Result<Insn, TextFaultKind>
     requires form { IsForm form.now }
     requires room { slot ≤ MAX_SLOTS }
@@ -167,13 +169,15 @@ fn resolve(form: &Form, label: Option<LineStart>, slot: usize) -> Result<Insn, T
     Ok(insn)
 }
 
-/// Assembles a line. Returns its instruction (`found`), written as the line's form, with the distance to the label that it names and 0 for
-/// -0. Returns `Ok(None)` for a blank line, and for the first line that defines a label. The error is the line's fault (`fault`); if the
-/// result is `Ok`, the line has none (`none`). `line` is `None` if the line has none of the forms: the fault is `Syntax`. Any other line is
-/// one that a text can have (`form`): for example, its registers are 0 to 10. A line whose label an earlier line also defines has the fault
-/// `LabelTwice`. An instruction has the first of these that applies: `Range` if a number is out of range, `UnknownLabel` if no line defines
-/// the label that it names, `TooLong` if the slots up to its end are more than `MAX_SLOTS`. `labels` has the first definition of each
-/// label. `here` is the line's index and the number of slots before it, at most `MAX_SLOTS` (`room`), since no earlier line is `TooLong`.
+/// Assembles a line. Returns its instruction (`found`): written as a form, this is the line's form, but with the distance to the label that
+/// the form names, and with 0 for -0, since the fields of an instruction have no -0. Returns `Ok(None)` for a blank line, and for the first
+/// line that defines a label. The error is the line's fault (`fault`); if the result is `Ok`, the line has none (`none`). `kept_form` (a
+/// list of this form, [] if the line has no instruction) and `kept_fault` find labels in `labels`: there the first definition of each label
+/// is kept. `line` is `None` if the line has none of the forms: the fault is `Syntax`. Any other line is one that a text can have (`form`):
+/// for example, its registers are 0 to 10. A line whose label an earlier line also defines has the fault `LabelTwice`. An instruction has
+/// the first of these that applies: `Range` if a number is out of range, `UnknownLabel` if no line defines the label that it names,
+/// `TooLong` if the slots up to its end are more than `MAX_SLOTS`. `here` is the line's index and the number of slots before it, at most
+/// `MAX_SLOTS` (`room`), since no earlier line is `TooLong`.
 fn instruction(
     labels: &HashMap<&str, LineStart>,
     line: &Option<Line<'_>>,

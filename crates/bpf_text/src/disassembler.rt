@@ -81,8 +81,9 @@ fn write_constant(text: &mut String, n: i32) -> Result<(), AllocError>
 
 /// The sign of a number as text, `-` if it is negative, else `+` (`sign`), and its magnitude, the number without its sign, up to 2^31. The
 /// distance of a jump and the offset of an address are written with a sign always, as in `goto +2` and `(r10 - 8)`. In the contract
-/// `number_of n` has both for `n`. `digits`: the second result in decimal digits is what a line has for the magnitude. There the magnitude
-/// is a token of the line (`number`), and `piece` gives the bytes of a token (`Some`).
+/// `number_of n` has both for `n`. `digits`: the second result in decimal digits is what a line has for the magnitude. A line is printed
+/// from a list of tokens (`Some`) and single spaces (`None`); `piece` gives the bytes of one of these, here of the magnitude's token
+/// (`number`).
 fn signed_parts(n: i32) -> (&'static str, u32)
     ensures sign { result.0.now ≡ sign_name (number_of n).negative }
     ensures digits { decimal result.1 ≡ piece (Some (number (number_of n).magnitude)) }

@@ -87,20 +87,21 @@ impl From<AllocError> for TextFault {
     ghost from_gives = { λ _ e. e ≡ memory_fault };
 
     /// The fault `Memory` at line 0, which is the whole text (`OUT_OF_MEMORY`). It is the result for every error, since an `AllocError` has
-    /// no data. In the contract, `from_gives` of this impl, the first argument, `_`, is the error, and the second, `e`, the result.
+    /// no data. The contract is `from_gives`, which the impl defines as a relation of the error, `_`, and the result, `e`: by it the proof
+    /// of a function that uses `?` knows the fault.
     fn from(_e: AllocError) -> TextFault {
         OUT_OF_MEMORY
     }
 }
 
-/// By this conversion `?` turns the error of a call that needed memory for a value and got none, as `Vec::push`, into the fault `Memory`.
-/// The line of the fault is 0, which means the whole text. The error (`AllocFailed`) has the value that was not stored; it is dropped. In
-/// the contract, `from_gives`, the first argument, `_`, is the error, and the second, `e`, is the result.
 impl<T: Drop> From<AllocFailed<T>> for TextFault {
     ghost use Rattle.bpf_text.specs.Fault.{memory_fault};
 
     ghost from_gives = { λ _ e. e ≡ memory_fault };
 
+    /// The fault `Memory` at line 0, which is the whole text (`OUT_OF_MEMORY`). By this conversion `?` turns the error of a call that
+    /// needed memory for a value of type `T` and got none, as `Vec::push`, into this fault. The error has that value, which is dropped. The
+    /// contract is `from_gives`, which the impl defines as a relation of the error, `_`, and the result, `e`.
     fn from(_e: AllocFailed<T>) -> TextFault {
         OUT_OF_MEMORY
     }

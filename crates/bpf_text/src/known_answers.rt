@@ -2,9 +2,9 @@
 
 use crate::TextFaultKind;
 
-/// Of the kinds of faults of a program's text or of hex lines, the first, `Syntax`, has the number 1, and the last, `Memory`, the number 7.
-/// `host` prints the number of each kind but `Memory` in a fault line, as `line 3: fault 1`. Both numbers are proved from the contract of
-/// `number`; nothing calls this function.
+/// A known result: of the kinds of faults of a program's text or of hex lines, the first, `Syntax`, has the number 1, and the last,
+/// `Memory`, the number 7. This tests the contract of `number`, and both numbers are proved only from this; nothing calls this function.
+/// `host` prints the number of each kind in a fault line, as `line 3: fault 1`, except that for `Memory` the line is `out of memory`.
 fn kinds_of_faults() {
     let (first, last) = (
         TextFaultKind::Syntax.number(),

@@ -8,7 +8,8 @@ ghost use Rattle.bpf_text.specs.Law.{OneProgram, ProgramHasNoFault, OneFault, Pr
 use insn_codec::MAX_SLOTS;
 
 /// A law: a text has at most one program, the list of instructions to which it assembles (`IsAssembled`). So a program that `assemble`
-/// returns is the only one of the text.
+/// returns is the only one. The proof needs two laws: a line is read in one way, and no two instructions have the same written form
+/// (`one_instruction`).
 pub fn one_program()
     ensures { OneProgram }
 {

@@ -80,9 +80,10 @@ install_code session program =
 
 -- C's handle of a prepared program has a program, and this program fits the tenant in this state:
 -- each descriptor of the program's maps names a map of the shape with which the program was
--- accepted. For a handle without a program (None) this is false. A tenant that is not served has no
--- state (None): then any program fits, since none is opened there. If an install returns DONE, the
--- program fits; if it returns ERR_STALE, it does not
+-- accepted. False for a handle without a program (None). If an install returns DONE, the program
+-- fits; if it returns ERR_STALE, it does not. A tenant that the host does not serve has no state
+-- (None); any program fits it, since an install then drops the program and returns DONE, with the
+-- status of `NotPermitted`
 abbrev pub FitsPrepared : Option Accepted → Option TenantState → Type 0
 FitsPrepared None s = ⊥
 FitsPrepared (Some a) s = FitsTenant a s

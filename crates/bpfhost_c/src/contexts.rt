@@ -70,7 +70,8 @@ fn fit_all(
 }
 
 /// Whether all words of one context from C after its first ten (`GIVEN_WORDS`) are 0; true for a context with at most ten words. A run is
-/// given only the ten: so a context with another word than 0 after them is rejected (`ERR_TOO_BIG`).
+/// given only the ten. Words after them, which a newer caller may have, are not known to the library. So that it ignores only zeros, a
+/// context with another word there is rejected (`ERR_TOO_BIG`).
 fn has_only_known_words(words: &[u32]) -> bool
     ensures { result ≡ has_only_known_words words.now }
 {

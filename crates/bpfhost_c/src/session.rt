@@ -54,11 +54,12 @@ pub(crate) struct Ran {
     pub(crate) packets: usize,
 }
 
-/// The contexts for the first `count` of the `packets` packets of a batch, those that `run_bounded` runs. `count` is the number of packets
-/// that a bound on executed instructions allows, at most `packets` (`Session::allowed_packets`). If `contexts` has one for each packet, the
-/// result is its first `count` contexts. Else the result is all of `contexts`: a single context is for all packets, and with any other
-/// number of contexts `run_packets` rejects the batch. For such a batch `count` is `packets`: with fewer packets, each could have one
-/// context, and the batch would be run.
+/// The contexts for the first `count` of the `packets` packets of a batch, those that `run_bounded` runs. A context here is the
+/// `GIVEN_WORDS` words that follow the packet's length in the context of a run. `count` is the number of packets that a bound on executed
+/// instructions allows, at most `packets` (`Session::allowed_packets`). If `contexts` has one for each packet, the result is its first
+/// `count` contexts. Else the result is all of `contexts`: a single context is for all packets, and with any other number of contexts
+/// `run_packets` rejects the batch. For such a batch `count` is `packets`: with fewer packets, each could have one context, and the batch
+/// would be run.
 fn front_contexts(
     contexts: &[[u32; GIVEN_WORDS]],
     packets: usize,
@@ -76,7 +77,8 @@ fn front_contexts(
 
 impl Session {
     /// A session with a new host for `tenants` tenants, at least 1 (`some`) and at most `MOST_TENANTS` (`few`), as `bpfhost_c_new` tests.
-    /// The keys of the host's hash maps will be hashed with `seed`. The session has no reply and no saved part yet. `AllocError`: out of
+    /// The keys of the host's hash maps will be hashed with `seed`. `reply` has no reply yet, but room for the longest, which the ghost
+    /// field `room` of `Session` requires, so that no reply takes memory later. `saved` has no frames of a save yet. `AllocError`: out of
     /// memory.
     pub(crate) fn new(
         alloc: Global,
@@ -147,7 +149,7 @@ impl Session {
     /// frame that would load the program: the descriptor, or the negated number of an error, after which the program is dropped. The host
     /// changes as by this frame (`loaded`). If the tenant is not served, the error is `NotPermitted`. `Err` gives the program back, and the
     /// session is unchanged: a descriptor of the program's maps names no map of the shape with which the program was accepted (`stale`).
-    /// After `Ok` each of these descriptors names such a map, if the tenant is served (`fits`).
+    /// `Ok` means that at the call each descriptor of the program's maps names such a map, or that the tenant is not served (`fits`).
     pub(crate) fn install(
         &mut self,
         tenant: u16,
@@ -163,12 +165,13 @@ impl Session {
         self.host.install(tenant, program)
     }
 
-    /// Runs the program at descriptor `fd` of a tenant on the packets of a batch, writes the results to the front of `results`, and returns
-    /// 0. In `batch`, the packets lie one after another in `bytes`, `ends` has for each the number of bytes up to its end, and `contexts`
-    /// has one context for all packets, or one for each. For a rejected batch no packet is run, nothing changes, and the result is the
-    /// negated number of the first of these errors: `NotPermitted` (the tenant is not served), `BadDescriptor` (`fd` is not open),
-    /// `Invalid` (it names a map, `results` is too short, or `contexts` has another length), and for the first wrong packet `Invalid` (its
-    /// end is before the previous one or outside `bytes`) or `TooBig` (it is too long). The births for a save never change (`births`).
+    /// Runs the program at descriptor `fd` of a tenant on the packets of a batch, writes the result of each run, the low 32 bits of
+    /// register 0 at the exit, to the front of `results`, and returns 0. In `batch`, the packets lie one after another in `bytes`, `ends`
+    /// has for each the number of bytes up to its end, and `contexts` has one context for all packets, or one for each: the words after the
+    /// packet's length. For a rejected batch no packet is run, nothing changes, and the function returns the negated number of the first of
+    /// these errors: `NotPermitted` (the tenant is not served), `BadDescriptor` (`fd` is not open), `Invalid` (it names a map, `results` is
+    /// too short, or `contexts` has another length), and for the first wrong packet `Invalid` (its end is before the previous one or
+    /// outside `bytes`) or `TooBig` (it has more than `LONGEST_PACKET` bytes, 65,536). The births for a save never change (`births`).
     pub(crate) fn run_packets(
         &mut self,
         tenant: usize,
@@ -197,11 +200,12 @@ impl Session {
 
     /// How many packets at the front of a batch a `bound` on executed instructions allows. The batch has `contexts` contexts and `packets`
     /// packets, for the program at descriptor `fd` of `tenant`. By `allowed` (`Host::allowed_packets`) the result is `bound` divided by the
-    /// weight of a run and rounded down, but at least 1, and at most `packets` (`few`). The weight is the most instructions that a run
-    /// executes, plus 128 (`CALL_WEIGHT` of the crate `tenant`) for each of the most calls that a run makes. The result is `packets` if
-    /// `bound` is 0, and also if the batch is rejected as a whole: if `fd` names no program, or `tenant` is not served, or if the batch has
-    /// neither one context nor one for each packet (`whole`; `are_contexts` is then false). In this last case no packet may be left out:
-    /// with as many packets as contexts the batch could be run.
+    /// weight of a run and rounded down, but 1 if that is 0, so that a caller makes progress with any bound, and `packets` if there are
+    /// fewer packets (`few`). The weight is the most instructions that a run executes, plus 128 (`CALL_WEIGHT` of the crate `tenant`) times
+    /// the most calls of helpers that a run makes, since a call may take as long as some 128 instructions. The result is `packets` if
+    /// `bound` is 0, which is no bound, and also if the batch is rejected as a whole: if `fd` names no program, or `tenant` is not served,
+    /// or if the batch has neither one context nor one for each packet (`whole`; `are_contexts` is then false). In this last case no packet
+    /// may be left out: with as many packets as contexts the batch could be run.
     fn allowed_packets(
         &self,
         tenant: usize,

@@ -30,9 +30,10 @@ pub fn shape_of(alloc: Global, text: &str) -> Result<MapShape, CaseError> {
 }
 
 /// The map of the line `map FD:KIND:KEY:VALUE:MAX`: the descriptor FD, and the shape of the map that it names (`array` or `hash`, the sizes
-/// of a key and of a value in bytes, and `max_entries`). Unlike in a map argument of the host, FD may be any number of 32 bits. The error
-/// is the first that applies: `Notation` if `text`, what follows `map`, has no colon; `Map` if what follows its first colon is no shape of
-/// a map, or `Memory` if out of memory; `Number` if FD is no number of 32 bits.
+/// of a key and of a value in bytes, and `max_entries`). Unlike in a map argument of the host, where FD is from 3 to 66, FD may be any
+/// number of 32 bits, since the verifier takes any such descriptor, and cases test this. The error is the first that applies: `Notation` if
+/// `text`, what follows `map`, has no colon; `Map` if what follows its first colon is no shape of a map, or `Memory` if out of memory;
+/// `Number` if FD is no number of 32 bits.
 fn named_map(alloc: Global, text: &str) -> Result<Named, CaseError> {
     let (fd, shape) = text.split_once(':').ok_or(CaseError::Notation)?;
     let shape = shape_of(alloc, shape)?;
@@ -62,8 +63,8 @@ impl Descriptors {
     }
 
     /// The open descriptors with what each names, a map of some shape or a program, in the order in which the lines opened them. One that
-    /// two lines opened is listed twice, and the verifier takes its first object. With this list the type that plays the lines (`Player`)
-    /// verifies the programs of later lines, or makes their logs.
+    /// two lines opened is listed twice, and the verifier takes its first object. With this list the types that play the lines verify the
+    /// programs of later lines (`VerdictPlayer` of `cases_verdicts`), or make their logs (`LogPlayer` of `cases_logs`).
     pub fn named(&self) -> &[Named] {
         &self.named
     }

@@ -126,11 +126,12 @@ pub fn text_of(bytes: &[u8]) -> Result<&str, CaseError> {
     str::from_utf8(bytes).map_err(|_| CaseError::NoText)
 }
 
-/// The bytes of the hex digits that `text` gives in the notation of cases (`written`). There `{COUNT*PART}` gives PART, COUNT times: so
-/// `{2*0a}` gives the digits `0a0a`, two bytes. Spaces between the digits are left out. The error is `Notation` if a repetition is wrong,
-/// or if two bytes can't be split off after a `\x`, and `Digits` if these two are no hex digits. Else it is `NoText` if what `text` gives
-/// is not UTF-8; then `Digits` if one of its characters is neither a space nor a hex digit, or if the number of digits is odd. Out of
-/// memory is `Digits` in the decoder of the digits (`hex::decode`), else `Memory`.
+/// The bytes of the hex digits that `text` gives in the notation of cases. In this notation (`written`), a repetition `{COUNT*PART}` gives
+/// PART, COUNT times: so `{2*0a}` gives the digits `0a0a`, two bytes. An escape `\xHH` gives the byte with the hex digits HH: so `\x30`
+/// gives the digit `0`. Spaces between the digits are left out. The error is `Notation` if a repetition is malformed or its COUNT is above
+/// `MOST_TIMES`, or if an escape has fewer than two bytes for HH, or two that end within a character; and `Digits` if these two are no hex
+/// digits. Else it is `NoText` if what `text` gives is not UTF-8; then `Digits` if one of its characters is neither a space nor a hex
+/// digit, or if the number of digits is odd. Out of memory is `Digits` in the decoder of the digits (`hex::decode`), else `Memory`.
 pub fn bytes_of(alloc: Global, text: &str) -> Result<Vec<u8>, CaseError> {
     let text = written(alloc, text)?;
     let digits = text_of(&text)?;
@@ -139,11 +140,11 @@ pub fn bytes_of(alloc: Global, text: &str) -> Result<Vec<u8>, CaseError> {
     Ok(bytes)
 }
 
-/// The bytes of a map's key or value, `size` bytes, from hex digits in the notation of cases (`bytes_of`): blanks may separate the digits,
-/// and a repetition `{COUNT*PART}` may give them. `Notation` if a repetition is wrong, or two bytes can't be split off after a `\x`;
-/// `NoText` if the bytes are not UTF-8, which only an escape `\xHH` can cause; `Digits` if a character is no hex digit or the number of
-/// digits is odd; then `Size` if there are not `size` bytes. Out of memory is `Digits` in the decoder of the digits (`hex::decode`), else
-/// `Memory`.
+/// The bytes of a map's key or value, `size` bytes, from hex digits in the notation of cases (`bytes_of`): spaces between the digits are
+/// left out, and a repetition `{COUNT*PART}`, or the byte of an escape `\xHH`, may give them. `Notation` if a repetition is malformed or
+/// its COUNT is too great, or an escape has fewer than two bytes for HH, or two that end within a character; `NoText` if what `text` gives
+/// is not UTF-8, which only an escape can cause; `Digits` if a character, also one of HH, is no hex digit, or the number of digits is odd;
+/// then `Size` if there are not `size` bytes. Out of memory is `Digits` in the decoder of the digits (`hex::decode`), else `Memory`.
 pub fn bytes_of_size(alloc: Global, text: &str, size: u32) -> Result<Vec<u8>, CaseError>
     ensures { IfOk result (λ bytes. length bytes.items ≡ size) }
 {

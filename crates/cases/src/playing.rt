@@ -7,8 +7,9 @@ use std::io;
 /// Plays the lines of a file of cases in order. Its state is what earlier lines have made.
 pub trait Player {
     /// Plays a line: does what its first word says with the rest. Returns the lines of its outcome as one text, which is empty if it has
-    /// none. The error is what is wrong with the line, or with what it names, or out of memory. `play_lines` calls this for each line that
-    /// is no remark (empty, or begun with `#`), and writes the lines or the error below it.
+    /// none. The error is what is wrong with the line, such as a missing number, or with what it is about, such as a map that is not live
+    /// or a program that the verifier rejects; or it is out of memory. `play_lines` calls this for each line that is no remark (empty, or
+    /// begun with `#`), and writes the lines or the error below it.
     fn play(&mut self, line: &str) -> Result<String, CaseError>;
 }
 

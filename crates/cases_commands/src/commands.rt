@@ -6,10 +6,11 @@ use command_frames::{BadFrame, Command, GIVEN_WORDS, HEAD_LENGTH, head, parse};
 use std::alloc::{AllocError, Global};
 
 /// A case of `head`: the tenant and the command number of a frame, as `tenant 1, command 5`, or `no head` if the frame has fewer than four
-/// bytes. `digits` are the frame's bytes in hex digits, in the notation of cases (`bytes_of`); spaces between the digits are left out.
-/// `Notation` if a repetition is wrong or a `\x` is cut off, `NoText` if the bytes that `digits` gives are not UTF-8, `Digits` if one of
-/// their characters is neither a space nor a hex digit, if the number of digits is odd, or if the two bytes after a `\x` are no hex digits.
-/// Out of memory is `Digits` in the decoder of the digits, else `Memory`.
+/// bytes. `digits` are the frame's bytes as hex digits in the notation of cases (`bytes_of`): spaces between the digits are left out, and a
+/// repetition `{COUNT*PART}`, or the byte of an escape `\xHH`, may give them. `Notation` if a repetition is malformed or its COUNT is too
+/// great, or an escape has fewer than two bytes for HH, or two that end within a character; `NoText` if what `digits` gives is not UTF-8;
+/// `Digits` if one of its characters is neither a space nor a hex digit, if the number of digits is odd, or if HH are no hex digits. Out of
+/// memory is `Digits` in the decoder of the digits, else `Memory`.
 pub fn head_line(alloc: Global, digits: &str) -> Result<String, CaseError> {
     let frame = bytes_of(alloc, digits)?;
     let Some(head) = head(&frame) else {

@@ -37,8 +37,9 @@ const SOCKET_FILTER: u32 = 1;
 /// The length in bytes of the context words that a frame of PROG_TEST_RUN has: ten of the eleven, as the host writes the packet's length.
 const WORDS: usize = 40;
 
-/// A new host for as many tenants as the decimal number `tenants` says. The seed of its hash maps is always the same. `Number` if `tenants`
-/// is no number, `OutOfRange` if it is not from 1 to `MOST_TENANTS`, 64, `Memory` if out of memory.
+/// A new host for as many tenants as the decimal number `tenants` says. The two words of the seed of its hash maps are always 1 and 2, so
+/// that a case is played alike each time; what a map returns does not depend on them, only the time that it takes does. `Number` if
+/// `tenants` is no number, `OutOfRange` if it is not from 1 to `MOST_TENANTS`, 64, `Memory` if out of memory.
 pub fn new_host(alloc: Global, tenants: &str) -> Result<Host, CaseError> {
     let tenants: usize = tenants.parse()?;
     if tenants < 1 || tenants > MOST_TENANTS {
@@ -76,9 +77,11 @@ fn numbers(alloc: Global, words: &str) -> Result<Vec<u8>, CaseError> {
     Ok(bytes)
 }
 
-/// The bytes of `front`, and after them the bytes that `digits` gives, hex digits in the notation of cases (`bytes_of`). `front` has the
-/// flags of an update, which are before its key and value in the frame, or the context words of a run, which are before its packet. The
-/// errors are those of `bytes_of`, and `Memory` if out of memory.
+/// The bytes of `front`, then those of the hex digits that `digits` gives in the notation of cases (`bytes_of`): spaces are left out, a
+/// repetition `{2*0a}` gives `0a0a`, and an escape `\xHH` the byte with the hex digits HH. `front` has the flags of an update, which
+/// precede its key and value in the frame, or the context words of a run, which precede its packet. `Notation` if a repetition is wrong or
+/// two bytes can't be split off after a `\x`; `NoText` if what `digits` gives is not UTF-8; `Digits` if a character, but for spaces, or one
+/// after a `\x` is no hex digit, or the number of digits is odd. Out of memory is `Digits` in the decoder of the digits, else `Memory`.
 fn prefixed_bytes(alloc: Global, front: &[u8], digits: &str) -> Result<Vec<u8>, CaseError> {
     let rest = bytes_of(alloc, digits)?;
     let mut bytes = Vec::new(alloc);
@@ -87,10 +90,11 @@ fn prefixed_bytes(alloc: Global, front: &[u8], digits: &str) -> Result<Vec<u8>, 
     Ok(bytes)
 }
 
-/// The bytes of a program's slots. `text` is the program's text in the notation of cases: `written` resolves its `;`, `\xHH` and
-/// `{COUNT*PART}`, and the resulting text is assembled. The errors, in this order: `Notation` or `Digits` if the notation is wrong,
-/// `NoText` if the bytes that `written` returns are not UTF-8, `Text` if the resulting text does not assemble. If out of memory, the error
-/// is `Memory`, or `Text` from the assembler.
+/// The bytes of a program's slots. `text` is the program's text in the notation of cases, and `written` gives the text that is assembled:
+/// it has a line feed for `;`, the byte with these two hex digits for `\xHH`, and for `{COUNT*PART}` PART, COUNT times, in which each `#`
+/// is the number of repetitions before. The errors, in this order: `Notation` if a repetition is wrong or two bytes can't be split off
+/// after a `\x`, or `Digits` if these are no hex digits; `NoText` if the bytes that `written` returns are not UTF-8; `Text` if the
+/// resulting text does not assemble. If out of memory, the error is `Memory`, or `Text` from the assembler.
 fn slots_of(alloc: Global, text: &str) -> Result<Vec<u8>, CaseError> {
     let text = written(alloc, text)?;
     let program = assemble(alloc, text_of(&text)?)?;
@@ -135,8 +139,9 @@ impl HostPlayer {
     }
 
     /// The reply, as hex digits, to a frame of `tenant` with the command number `command`. The body of the frame is `number` in four bytes,
-    /// the lowest first, and then the bytes of `rest`. `tenant` and `number` are given in decimal digits: `Number` if `tenant` is no number
-    /// of 16 bits, or `number` none of 32 bits. `Memory` if out of memory.
+    /// the lowest first, and then `rest`, the bytes of its other fields. `number` is a descriptor, but for MAP_CREATE it is the number of
+    /// the map's kind. `tenant` and `number` are words of a line, in decimal digits: `Number` if `tenant` is no number of 16 bits, or
+    /// `number` none of 32 bits. `Memory` if out of memory.
     fn command(
         &mut self,
         tenant: &str,
@@ -150,10 +155,12 @@ impl HostPlayer {
     }
 
     /// The reply, as hex digits, to the command with the number `command`: a look-up, a delete, the next key, or a close. `rest` has a
-    /// tenant and the descriptor, in decimal digits, and, in the notation of cases, the hex digits of the bytes that follow the descriptor
-    /// in the frame: the key, or none. `Notation` if these digits are not in this notation, `NoText` if they give no UTF-8, `Digits` if a
-    /// character, but for blanks, or one after `\x` is no hex digit, or the number of digits is odd; then `Number` if the tenant is no
-    /// number of 16 bits, or the descriptor none of 32 bits. Out of memory is `Digits` in the decoder of the digits, else `Memory`.
+    /// tenant and the descriptor, in decimal digits, and then the hex digits of the bytes that follow the descriptor in the frame: the key,
+    /// or none. In the notation of cases spaces may separate these digits, and a repetition `{COUNT*PART}`, or the byte of a `\xHH`, may
+    /// give them. `Notation` if a repetition is wrong or two bytes can't be split off after a `\x`; `NoText` if the bytes that the notation
+    /// gives are not UTF-8; `Digits` if a character, but for spaces, or one after a `\x` is no hex digit, or the number of digits is odd;
+    /// then `Number` if the tenant is no number of 16 bits, or the descriptor none of 32 bits. Out of memory is `Digits` in the decoder of
+    /// the digits, else `Memory`.
     fn on_descriptor(&mut self, command: u16, rest: &str) -> Result<String, CaseError> {
         let (tenant, rest) = first_word(rest);
         let (descriptor, digits) = first_word(rest);
@@ -173,11 +180,13 @@ impl HostPlayer {
     }
 
     /// The reply to MAP_UPDATE_ELEM, as hex digits. `rest` has the words of a line after `update`: a tenant, a descriptor and the flags, in
-    /// decimal digits, and then the bytes of the key and of the value, as hex digits in the notation of cases. In the frame the flags
-    /// follow the descriptor, in eight bytes. The error is the first that applies: `Number` if the flags are no number of 64 bits;
-    /// `Notation` or `Digits` if the digits are not in the notation, `NoText` if they are not UTF-8, `Digits` if one is neither a space nor
-    /// a hex digit, or their number is odd; `Number` if the tenant is no number of 16 bits, or the descriptor none of 32 bits. If out of
-    /// memory, `Memory`, or `Digits` from the decoder of the digits (`bytes_of`).
+    /// decimal digits, and then the bytes of the key and of the value, as hex digits in the notation of cases: spaces may separate the
+    /// digits, and a repetition `{COUNT*PART}`, or the byte of a `\xHH`, may give them. In the frame the flags follow the descriptor, in
+    /// eight bytes. The error is the first that applies: `Number` if the flags are no number of 64 bits; `Notation` if a repetition is
+    /// wrong or two bytes can't be split off after a `\x`, or `Digits` if these are no hex digits; `NoText` if the bytes that the notation
+    /// gives are not UTF-8; `Digits` if a character of them is neither a space nor a hex digit, or the number of digits is odd; `Number` if
+    /// the tenant is no number of 16 bits, or the descriptor none of 32 bits. If out of memory, `Memory`, or `Digits` from the decoder of
+    /// the digits (`bytes_of`).
     fn update(&mut self, rest: &str) -> Result<String, CaseError> {
         let (tenant, rest) = first_word(rest);
         let (descriptor, rest) = first_word(rest);
@@ -195,9 +204,11 @@ impl HostPlayer {
     }
 
     /// The reply to PROG_LOAD, as hex digits, for a program that a line has as text; `load_digits` is for its slots in hex digits. `rest`
-    /// has a tenant in decimal digits, and the text in the notation of cases (`slots_of`). The error is the first that applies: `Number` if
-    /// the tenant is no number of 16 bits, `Notation` or `Digits` if the notation is wrong, `NoText` if the text's bytes are not UTF-8,
-    /// `Text` if the text does not assemble. Out of memory is `Text` in the assembler, else `Memory`.
+    /// has a tenant in decimal digits, and the text in the notation of cases (`slots_of`): `;` gives a line feed, `\xHH` the byte with
+    /// these two hex digits, and `{COUNT*PART}` gives PART, COUNT times. The error is the first that applies: `Number` if the tenant is no
+    /// number of 16 bits; `Notation` if a repetition is wrong or two bytes can't be split off after a `\x`, or `Digits` if these are no hex
+    /// digits; `NoText` if the bytes that the notation gives are not UTF-8; `Text` if the text does not assemble. Out of memory is `Text`
+    /// in the assembler, else `Memory`.
     fn load(&mut self, rest: &str) -> Result<String, CaseError> {
         let (tenant, text) = first_word(rest);
         let tenant = tenant.parse()?;
@@ -205,11 +216,12 @@ impl HostPlayer {
         Ok(self.load_slots(tenant, &slots)?)
     }
 
-    /// The reply to PROG_LOAD, as hex digits, for the words of a line: a tenant, and the bytes of the program's slots as hex digits in the
-    /// notation of cases (`bytes_of`). Unlike `load`, which assembles a text, it can also load bytes that are no program. `Number` if the
-    /// tenant is no number of 16 bits; else, of the digits, `Notation` if a repetition is wrong or a `\x` is cut off, `NoText` if they are
-    /// not UTF-8, and `Digits` if a character, but for spaces, or one after a `\x` is no hex digit, or the number of digits is odd. Out of
-    /// memory is `Digits` in the decoder of the digits, else `Memory`.
+    /// The reply to PROG_LOAD, as hex digits, for the words of a line: a tenant in decimal digits, and the bytes of the program's slots as
+    /// hex digits in the notation of cases (`bytes_of`), in which a repetition `{COUNT*PART}`, or the byte of a `\xHH`, may give digits.
+    /// Unlike `load`, which assembles a text, it can also load bytes that are no program. `Number` if the tenant is no number of 16 bits;
+    /// else `Notation` if a repetition is wrong or two bytes can't be split off after a `\x`, `NoText` if the bytes that the notation gives
+    /// are not UTF-8, and `Digits` if a character, but for spaces, or one after a `\x` is no hex digit, or the number of digits is odd. Out
+    /// of memory is `Digits` in the decoder of the digits, else `Memory`.
     fn load_digits(&mut self, rest: &str) -> Result<String, CaseError> {
         let (tenant, digits) = first_word(rest);
         let tenant = tenant.parse()?;

@@ -33,10 +33,11 @@ fn ended(alloc: Global, end: Result<u32, ServeFault>, output: &[u8]) -> Result<S
     format!(in alloc; "{end}\n{output}")
 }
 
-/// Serves the stream `input` on `host`; `limit` has, in decimal digits, the number of frames that are served at most. The result is a text
-/// of two lines. The first has how `serve` ended: `ok N`, or the fault line and `: N answered`, with the number N of frames that had a
-/// reply. The second has the hex digits of what `serve` wrote. So a fault of `serve` is no error of this function. `Number` if `limit` is
-/// no number of 32 bits, `OutOfRange` if it is above `MOST_FRAMES`, `Memory` if out of memory for the text.
+/// Serves the stream `input` on `host`; `limit` has, in decimal digits, the number of frames that are served at most. `Counted` makes the
+/// slice `input` a `Source` and a vector a `Sink`, as `serve` takes them. The result is a text of two lines. The first has how `serve`
+/// ended: `ok N`, or the fault line and `: N answered`, with the number N of frames that had a reply. The second has the hex digits of what
+/// `serve` wrote. So a fault of `serve` is no error of this function. `Number` if `limit` is no number of 32 bits, `OutOfRange` if it is
+/// above `MOST_FRAMES`, the greatest that `serve` allows, `Memory` if out of memory for the text.
 fn served(alloc: Global, host: &mut Host, limit: &str, input: &[u8]) -> Result<String, CaseError> {
     let limit: u32 = limit.parse()?;
     if limit > MOST_FRAMES {
@@ -52,7 +53,8 @@ fn served(alloc: Global, host: &mut Host, limit: &str, input: &[u8]) -> Result<S
 /// hex digits. Returns how `serve` ended, `ok` or the fault line, with the number of frames that had a reply, and in the next line the hex
 /// digits of what `serve` wrote. A fault of `serve` is no error. `Number` if the first word is no number of 64 bits or the second none of
 /// 32, `OutOfRange` if the first is not 1 to `MOST_TENANTS` or the second is above `MOST_FRAMES`, `Notation`, `NoText` or `Digits` if the
-/// hex digits are wrong (`bytes_of`), `Memory` if out of memory.
+/// hex digits are wrong (`bytes_of`). If out of memory for the host, the stream's bytes or the text, `Memory`, or `Digits` from the decoder
+/// of the digits.
 pub fn stream(alloc: Global, line: &str) -> Result<String, CaseError> {
     let (tenants, rest) = first_word(line);
     let (limit, digits) = first_word(rest);
@@ -62,8 +64,8 @@ pub fn stream(alloc: Global, line: &str) -> Result<String, CaseError> {
 }
 
 /// Decodes the bytes of a stream from hex digits, and returns the first `count` of them, or all if there are fewer: the stream that `cut`
-/// serves. `Notation`, `NoText` or `Digits` if `digits` are not hex digits (`bytes_of`), then `Number` if `count` is no number in decimal
-/// digits that fits a `usize`; `Memory` if out of memory.
+/// serves. `Notation`, `NoText` or `Digits` if `digits` are not hex digits in the notation of cases (`bytes_of`), then `Number` if `count`
+/// is no number in decimal digits that fits a `usize`. Out of memory is `Digits` in the decoder of the digits, else `Memory`.
 fn front(alloc: Global, count: &str, digits: &str) -> Result<Vec<u8>, CaseError> {
     let mut input = bytes_of(alloc, digits)?;
     input.truncate(count.parse()?);

@@ -261,11 +261,14 @@ impl LiveMapsPlayer {
         Ok(nothing(self.alloc))
     }
 
-    /// Verifies a program, runs it on a live map and a packet, and returns the result of the run in decimal digits. The words of `rest` are
-    /// the number that `create` returned for the map, the packet as hex digits, and the program's text. The map has descriptor 3, and no
-    /// other descriptor is open. Before the run, elements of the map that are kept apart become free. `NoMap` if no live map has the
-    /// number, or the program loads no map; `Refused` if the verifier rejects the program, for example since it loads another map;
-    /// `OutOfRange` if the packet is longer than `LONGEST_PACKET`. Other errors are those of `live_map`, `bytes_of` and `run_text`.
+    /// Verifies a program, runs it on a live map and a packet, and returns the low 32 bits of register 0 at its exit, in decimal digits.
+    /// The words of `rest` are the number that `create` returned for the map, the packet as hex digits, and the program's text. The map has
+    /// descriptor 3, and no other descriptor is open. Elements of the map that `remove` left kept apart become free before the run, since
+    /// `run` of `flat_machine` requires that none is kept apart. `NoMap` if no live map has the number, or if the program names no map: the
+    /// run gets this one handle, and requires one for each map that the program names. `Refused` if the verifier rejects the program, for
+    /// example since it names another descriptor; `OutOfRange` if the packet is longer than `LONGEST_PACKET`. Other errors are `Number` of
+    /// `live_map`; `Notation`, `NoText` and `Digits` of `bytes_of` and `run_text`; `Text` if the text does not assemble. Out of memory is
+    /// `Memory`, `Digits`, `Text` or `Refused`.
     fn run(&mut self, rest: &str) -> Result<String, CaseError> {
         let (number, rest) = first_word(rest);
         let (packet, text) = first_word(rest);

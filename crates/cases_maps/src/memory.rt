@@ -118,10 +118,11 @@ impl MemoryPlayer {
         Ok(done_inside(self.alloc, outcome, "copied")?)
     }
 
-    /// Loads bytes one by one from an address on. Returns them as decimal numbers with spaces between, or the text `outside` if the memory
-    /// does not have one of them. `rest` has the words of the line: the address, a number or `+` and a distance from the memory's first
-    /// address (`BASE`), and how many bytes, 0 to 255. The error is `Number` if a word is no such number, `OutOfRange` if `BASE` and the
-    /// distance add up to 2^64 or more, `Memory` if out of memory. The sum in the loop never overflows, since no memory reaches up to 2^64.
+    /// Plays a line `memory bytes`: loads bytes one by one from an address on. `rest` has the words after `bytes`: the address, a number or
+    /// `+` and a distance from the memory's first address (`BASE`), and how many bytes, 0 to 255. Returns the bytes as decimal numbers with
+    /// spaces between, or the text `outside` if the memory does not have one of them. The error is `Number` if a word is no such number,
+    /// `OutOfRange` if `BASE` and the distance add up to 2^64 or more, `Memory` if out of memory. The sum in the loop never overflows, so
+    /// it gives no `OutOfRange`: the loop ends at the first address outside the memory, and the memory ends far below 2^64.
     fn bytes(&self, rest: &str) -> Result<String, CaseError> {
         let (from, count) = first_word(rest);
         let from = address(from)?;

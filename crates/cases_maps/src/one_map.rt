@@ -26,11 +26,12 @@ fn find<M: ValueMap>(alloc: Global, map: &M, size: u32, digits: &str) -> Result<
 }
 
 /// Plays a line `map claim`: claims an element of the map for a key. `rest` has the flags of an update in decimal digits (0: any key, 1:
-/// only an absent one, 2: only a present one), a blank, and the key as hex digits, which blanks may separate; `size` is the size of the
-/// map's keys in bytes. Returns the text `claimed`, without the element, or the name of the map's fault. `Number` if the flags are no
-/// number of 64 bits. For the key, `Notation` if a repetition in it is wrong or a `\x` is cut off, `NoText` if the bytes that it gives are
-/// not UTF-8, `Digits` if a character, also after a `\x`, is no hex digit, or the number of digits is odd, `Size` if it has more or fewer
-/// bytes than `size`. If out of memory, `Memory`, or `Digits` from the decoder of the digits.
+/// only an absent one, 2: only a present one), a blank, and the key as hex digits in the notation of cases: blanks may separate them,
+/// `{COUNT*PART}` gives the digits PART COUNT times, and `\xHH` the byte with these two hex digits, as `\x61` the digit `a`. `size` is the
+/// size of the map's keys in bytes. Returns the text `claimed`, without the element, or the name of the map's fault. `Number` if the flags
+/// are no number of 64 bits. For the key, `Notation` if a repetition is wrong or a `\x` is cut off, `NoText` if the bytes that the notation
+/// gives are not UTF-8, `Digits` if a character, also after a `\x`, is no hex digit, or the number of digits is odd, `Size` if the key has
+/// more or fewer bytes than `size`. If out of memory, `Memory`, or `Digits` from the decoder of the digits.
 fn claim<M: ValueMap>(
     alloc: Global,
     map: &mut M,

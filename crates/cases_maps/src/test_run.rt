@@ -18,11 +18,13 @@ use verifier::{Verified, laws, verify};
 /// The descriptor by which programs name the map: 3, a tenant's lowest.
 const DESCRIPTOR: u32 = 3;
 
-/// The program of a text in the notation of cases, accepted with a map of this shape at `DESCRIPTOR`, the only open descriptor. So each map
-/// that the program loads has the shape. In the contract, `maps_of` lists the descriptors of these maps, and `shapes_in` has their shapes.
-/// The errors: `Notation` if a `{COUNT*PART}` or a `\xHH` of the text is wrong, but `Digits` if only the two bytes HH are no hex digits
-/// (both of `written`); `NoText` if the bytes that the text gives are not UTF-8; `Text` if they do not assemble; `Refused` if the program
-/// is rejected. Out of memory is `Memory` in `written`, `Text` in `assemble`, and `Refused` in `verify`.
+/// The program that `text` gives in the notation of cases, accepted with a map of this shape at `DESCRIPTOR`, the only open descriptor. So
+/// each map that the program loads has the shape. In the contract, `maps_of` lists the descriptors of these maps, and `shapes_in` has their
+/// shapes: `run`, which `run_text` calls, requires that the map of the run has the shape with which the program was accepted. The errors:
+/// `Notation` if a repetition `{COUNT*PART}` is wrong, or the two bytes HH of a `\xHH` are missing or end inside a character of several
+/// bytes; `Digits` if these two are no hex digits; `NoText` if the bytes that `text` gives are not UTF-8; `Text` if they do not assemble;
+/// `Refused` if the program is rejected. Out of memory is `Memory` in `written`, which reads the notation, `Text` in `assemble`, and
+/// `Refused` in `verify`.
 fn accepted(alloc: Global, text: &str, shape: MapShape) -> Result<Verified, CaseError>
     ensures { IfOk result (λ program. (i : ℕ) → i < length (maps_of program.code)
         → shapes_in program (slice_index (maps_of program.code) i) ≡ Some shape) }

@@ -23,7 +23,8 @@ use cases::play_lines;
 use player::TextPlayer;
 use std::io;
 
-/// Plays the lines of standard input, and writes each line and its outcome to standard output. The error is that of the stream that failed.
+/// Plays the lines of standard input (`play_lines`): writes each line, and below a case its outcome or its error, to standard output. The
+/// crate's file `stdout` has the expected output. The error is that of the stream that failed.
 fn main(rt: HostRuntime) -> io::Result<()> {
     let mut player = TextPlayer::new(rt.alloc());
     play_lines(&rt, &mut player)

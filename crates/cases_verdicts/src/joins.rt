@@ -62,11 +62,11 @@ fn kind_of(text: &str) -> Result<Kind, CaseError> {
     }
 }
 
-/// The facts of one operand of a join, for `joined`: those at program entry, with what the text adds. `bytes MASK` is about the lowest
-/// stack slot: exactly those of its bytes are written whose bits in MASK, a number from 0 to 255, are 1; bit 0 is the lowest byte. Any
-/// other text is a kind (`kind_of`), which register 0 gets. If it is that of a pointer, a map or a look-up's result (`is_pointer`), the
-/// lowest stack slot gets it too, as a spill: its eight bytes hold such a value. The errors are those of `kind_of`, and `Number` if MASK is
-/// no such number.
+/// The facts on one of the two edges of a line `join`, for `joined`: those at program entry, with what `text` adds. `bytes MASK` is about
+/// the lowest stack slot: exactly those of its bytes are written whose bits in MASK, a number from 0 to 255, are 1; bit 0 is the lowest
+/// byte. Any other text is a kind (`kind_of`), which register 0 gets. If it is that of a pointer, a map or a look-up's result
+/// (`is_pointer`), the lowest stack slot gets it too, as a spill: its eight bytes hold such a value. So lines test the join of spills too.
+/// The errors are those of `kind_of`, and `Number` if MASK is no such number.
 fn facts_of(text: &str) -> Result<Facts, CaseError> {
     let mut facts = Facts::at_entry();
     let (word, rest) = first_word(text);
@@ -82,9 +82,11 @@ fn facts_of(text: &str) -> Result<Facts, CaseError> {
     Ok(facts)
 }
 
-/// Joins the facts of two texts (`facts_of`), which a `|` separates, by both functions for it: `join` returns new facts, and `join_into`
-/// changes the first. Returns, as text, the join's kind of register 0 and its lowest stack slot, or `join and join_into differ` if the
-/// functions make different facts. The errors are `Notation` if the text has no `|`, those of `facts_of`, and `Memory`.
+/// The join of the facts that the two sides of the `|` in `text` give (`facts_of`), as text: the kind of register 0, and what is known of
+/// the lowest stack slot. A side gives the facts at program entry, but with a kind for register 0, and for the slot too if it is the kind
+/// of a pointer, a map or a look-up's result (`is_pointer`), or with bytes of the slot that are written. Both functions for joins run, so
+/// that a case compares them: `join` returns new facts, `join_into` changes its first argument. If their results differ, the text is
+/// `join and join_into differ`. The errors are `Notation` if `text` has no `|`, those of `facts_of`, and `Memory`.
 pub fn joined(alloc: Global, text: &str) -> Result<String, CaseError> {
     let (one, other) = text.split_once('|').ok_or(CaseError::Notation)?;
     let (one, other) = (facts_of(one.trim())?, facts_of(other.trim())?);

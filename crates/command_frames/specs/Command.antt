@@ -76,8 +76,9 @@ abbrev pub long_at : ℕ → List ℕ → ℕ
 long_at at body = little_number 8 (drop at body)
 
 -- the n words at the front of these bytes, in their order, each the little-endian number of four
--- bytes: with n = `given_words` those of a test run's context. The list always has n words, but a
--- body that does not have the bytes of all of them makes no command (`at_least`)
+-- bytes. The frame of a test run gives n = `given_words` of them: those of the context without the
+-- first, the packet's length. The list always has n words, and a byte past the end counts as 0; but
+-- a body that does not have the bytes of all of them makes no command (`at_least`)
 unfoldable pub words_in : ℕ → List ℕ → List ℕ
 words_in zero bytes = []
 words_in (suc n) bytes = little_number 4 bytes ∷ words_in n (drop 4 bytes)

@@ -37,8 +37,9 @@ fn word(bytes: &[u8], at: usize) -> u32
 }
 
 /// Reads the body of MAP_CREATE, command 0: the type of the map, the sizes of a key and of a value in bytes, `max_entries`, and the flags,
-/// four bytes each, little-endian. No number is checked here. `Body` if the length of the body is not `CREATE_BODY`. By the contract the
-/// result, as contracts see it (`shown_result`), is what the definition `command_in` has for command 0 and this body.
+/// four bytes each, little-endian. Each may be any number here: `create` of `tenant` tests them. `Body` if the length of the body is not
+/// `CREATE_BODY`, 20. By the contract the result, as contracts see it (`shown_result`), is what the definition `command_in` has for command
+/// 0 and this body.
 fn map_create(body: &[u8]) -> Result<Command<'_>, BadFrame>
     ensures { shown_result result ≡ command_in 0 body.now }
 {
@@ -54,9 +55,9 @@ fn map_create(body: &[u8]) -> Result<Command<'_>, BadFrame>
     })
 }
 
-/// Reads the body of MAP_LOOKUP, command 1 of the definition `command_in`: a descriptor, `WORD_LENGTH` bytes in little-endian order, and
-/// then the key. All bytes after the descriptor are the key, even if there are none, since only the map has the size of its keys. `Body` if
-/// the body is shorter than the descriptor.
+/// Reads the body of MAP_LOOKUP, command 1 of the definition `command_in`: a descriptor of four bytes (`WORD_LENGTH`), little-endian, and
+/// then the key. All bytes after the descriptor are the key, even if there are none, since only the map has the size of its keys: `look_up`
+/// of `tenant` tests the length. `Body` if the body is shorter than the descriptor.
 fn map_lookup(body: &[u8]) -> Result<Command<'_>, BadFrame>
     ensures { shown_result result ≡ command_in 1 body.now }
 {
@@ -85,8 +86,9 @@ fn map_update(body: &[u8]) -> Result<Command<'_>, BadFrame>
     })
 }
 
-/// Reads the body of MAP_DELETE, command 3: a descriptor of four bytes, then the key, which is all the rest, of any length. The error is
-/// `Body` if the body has fewer than four bytes.
+/// Reads the body of MAP_DELETE, command 3: a descriptor of four bytes, little-endian, then the key, which is all the rest. The key may
+/// have any length here, since only the map has the size of its keys: `delete` of `tenant` tests the length. `Body` if the body has fewer
+/// than four bytes.
 fn map_delete(body: &[u8]) -> Result<Command<'_>, BadFrame>
     ensures { shown_result result ≡ command_in 3 body.now }
 {

@@ -87,9 +87,11 @@ fn write_run(
 }
 
 /// Replaces the contents of `frame` by the frame of a command to a tenant (`frame_of`): the number of the tenant and that of the command in
-/// two bytes each, then the fields of `command` in their order, numbers little-endian. The length that precedes a frame on a stream is not
-/// written. `parse` reads this command from the frame, if that is at most `LONGEST_FRAME` bytes long, which is not tested here. `saving`
-/// calls this function for the frames that restore a tenant. `AllocError`: out of memory; then `frame` may have a part of the frame.
+/// two bytes each, then the fields of `command` in their order. Of these fields, the flags of an update have eight bytes, and every other
+/// number has four. All numbers are little-endian. The length that precedes a frame on a stream is not written. `parse` reads this command
+/// from the frame, if the frame has at most `LONGEST_FRAME` bytes, which is not tested here. `saving` calls this function for the frames
+/// that restore a tenant. Each of these calls names the variant of `command`, so an inlined call needs only one arm of the `match`.
+/// `AllocError`: out of memory; then `frame` may have a part of the frame.
 #[inline(always)]
 pub fn write_command(
     tenant: u16,

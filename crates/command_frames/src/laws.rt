@@ -25,8 +25,10 @@ pub fn frames_in_front()
 
 /// A law, in two directions. The frame of a command to any tenant is parsed as this command, if the command's numbers fit into their fields
 /// and the frame has at most `LONGEST_FRAME` bytes. Conversely, if a frame with a head is parsed as a command, the bytes of the frame are
-/// those of this command to the frame's owner, the tenant in its first two bytes, and the command's numbers fit. The proofs of `saving`
-/// need the first direction, as for the frames that restore a tenant.
+/// those of this command to the frame's owner, the tenant in its first two bytes, and the command's numbers fit. By the first direction
+/// `saving` proves that the frames that restore a tenant, the frame that would load an installed program, and the frame of each test run
+/// that fits into one are parsed as their commands. No proof uses the second direction: by it, two frames of one tenant that are parsed as
+/// one command are equal.
 pub fn encoding_inverts_parsing()
     ensures { EncodingInvertsParsing }
 {}

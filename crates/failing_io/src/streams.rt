@@ -255,8 +255,9 @@ fn streams_end_and_fail(rt: HostRuntime) {
     assert_ends(&rt, alloc, "no frame is allowed, bytes:", 1, byte);
 }
 
-/// The `end` that a test expects of a stream on which `serve_new_host` fails: a fault of this kind, after `frames` frames had a reply. The
-/// function never returns `Ok`, the end of a stream without a fault, which has the number of frames with a reply.
+/// The result that a test expects of `serve_new_host` on a stream on which it fails (the field `end` of `Stream`): a fault of this kind,
+/// after `frames` frames had a reply. `fault` never returns `Ok`, which means the end of a stream without a fault, and has the number of
+/// frames with a reply.
 fn fault(kind: ServeFaultKind, frames: u32) -> Result<u32, ServeFault> {
     Err(ServeFault { kind, frames })
 }

@@ -47,8 +47,8 @@ fn free_entries<T: Drop>(alloc: Global) -> Result<Vec<Option<T>>, AllocError>
 }
 
 impl<T: Drop> FdTable<T> {
-    /// Creates a table with nothing open. It allocates for all descriptors, so that no other call takes memory. `AllocError`:
-    /// out of memory.
+    /// Creates a table with nothing open: no bit of `taken`, which has one for each descriptor, is 1. It allocates for all descriptors, so
+    /// that no other call takes memory. `AllocError`: out of memory.
     pub fn new(alloc: Global) -> Result<FdTable<T>, AllocError>
         ensures { IfOk result (λ table. table ≡ nothing_open) }
     {

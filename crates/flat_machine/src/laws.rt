@@ -63,8 +63,9 @@ fn steps_follow()
 }
 
 /// A law: if words and bytes represent a state (`Simulates`) from which the tagged machine has a step, each address range that the step on
-/// words and bytes accesses lies in the part of the run's tenant. `run_premises` gives this to the proof that a run accesses no other part
-/// (`ranges` of `run_with`), although its loads and stores test no address.
+/// words and bytes accesses lies in the part of the run's tenant. This law counts no range of a call of a helper: the clause `asks` of
+/// `call` and `call_in_run` of `bpf_helpers` promises that these lie in the part. `run_premises` gives the law to the proof that a run
+/// accesses no other part (`ranges` of `run_with`), although its loads and stores test no address.
 fn steps_stay_inside()
     ensures { StepsStayInside }
 {

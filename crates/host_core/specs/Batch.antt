@@ -31,12 +31,13 @@ refusal_for None fd contexts many ends room = Some NotPermitted
 refusal_for (Some s) fd contexts many ends room =
     batch_refusal (named s.objects fd) contexts many ends room
 
--- `bound`, a number of instructions, allows n of the `packets` packets of a batch at descriptor fd
--- (`IsAllowed`). A run has a weight: the most instructions on a path of the program to an exit,
--- plus `CALL_WEIGHT` times the most calls of helpers on such a path. n is `bound` divided by the
--- weight and rounded down, but at least 1, and then at most `packets`. If `bound` is 0, which is no
--- bound, n is `packets`; also if fd names no program, or the tenant is not served, so has no state
--- (None), since such a batch is rejected as a whole
+-- n of the `packets` packets of a batch at descriptor fd may run within `bound`, a number of
+-- instructions (`IsAllowed`): one call of the library for C runs no packet after the first n. A run
+-- has a weight: the most instructions on a path of the program to an exit, plus `CALL_WEIGHT` times
+-- the most calls of helpers on such a path, perhaps another one. n is `bound` divided by the weight
+-- and rounded down, but at least 1, so that a caller makes progress with any bound, and then at
+-- most `packets`. If `bound` is 0, which is no bound, n is `packets`; also if fd names no program,
+-- or the tenant is not served, so has no state (None), since such a batch is rejected as a whole
 abbrev pub IsAllowedFor : Option TenantState → ℕ → ℕ → ℕ → ℕ → Type 0
 IsAllowedFor None fd bound packets n = n ≡ packets
 IsAllowedFor (Some s) fd bound packets n = IsAllowed (named s.objects fd) bound packets n

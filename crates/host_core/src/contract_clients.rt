@@ -20,11 +20,12 @@ use std::alloc::Global;
 
 /// Shows what a caller can prove only from the contract of `serve_new_host`; nothing calls this function. If a new host serves a stream to
 /// its end, each tenant to which no memory was refused gets exactly the replies that the machine of a new tenant gives to its frames
-/// (`ServesAlone`). Returns the number of replies; `None` at a fault, for which this contract promises nothing. A `stream_state` has the
-/// states of the tenants, which are new at first and `after` at the end, and what contracts see of reader and writer. `[]` is the list of
-/// the bytes after the last whole frame: there are none. The host has 1 to `MOST_TENANTS` tenants (`some`, `few`), and fewer than 2^64 - 1
-/// calls of the reader and of the writer have failed before, as they are counted in 64 bits (`reader`, `writer`). The seed and the limit of
-/// 100 frames are arbitrary.
+/// (`ServesAlone`). Returns the number of replies; `None` at a fault, for which this contract promises nothing. A byte after the 100th
+/// frame is a fault as well (`TooManyFrames`): the last argument of `serve_new_host`, here 100, is the limit on the frames that get
+/// replies. This limit and the seed are arbitrary. A `stream_state` has the states of the tenants, which are new at first and `after` at
+/// the end, and what contracts see of reader and writer. `[]` is the list of the bytes after the last whole frame: there are none. The host
+/// has 1 to `MOST_TENANTS` tenants (`some`, `few`), and fewer than 2^64 - 1 calls of the reader and of the writer have failed before, as
+/// they are counted in 64 bits (`reader`, `writer`).
 fn serve_from_the_beginning<R: Source, W: Sink>(
     alloc: Global,
     tenants: usize,
@@ -44,9 +45,10 @@ fn serve_from_the_beginning<R: Source, W: Sink>(
 }
 
 /// Shows from the contracts that a host can be saved after a stream. Lets a host, which may be in any state, serve a stream, to its end or
-/// to a fault. Then all parts of a save of each tenant, one after another, restore this tenant (`AreRestored`): a new tenant that has
-/// handled their frames replies as the saved one does, if no memory is refused to it. `serve` requires `reader` and `writer`: fewer than
-/// 2^64 - 1 calls of each have failed before. The limit of 100 frames is arbitrary. Nothing calls this function.
+/// to a fault. The limit of 100 frames is arbitrary; a byte after the 100th is such a fault (`TooManyFrames`). Then all parts of a save of
+/// each tenant, one after another, restore this tenant (`AreRestored`): a new tenant that has handled their frames replies as the saved one
+/// does, while no memory is refused to either. `serve` requires `reader` and `writer`: fewer than 2^64 - 1 calls of each have failed
+/// before, as they are counted in 64 bits. Nothing calls this function.
 fn serve_and_save<R: Source, W: Sink>(
     alloc: Global,
     host: &mut Host,

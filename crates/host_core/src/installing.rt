@@ -23,7 +23,9 @@ impl Host {
         ensures stale { IfErr result (λ kept. (kept.value ≡ program.value) × (self.new ≡ self.old)
             × ¬ FitsTenant program.value (slice_get self.old.states tenant)) }
     {
-        // For the proof: laws, which do nothing.
+        // For the proof of `loaded` and of the invariant of `Host`: laws, which do nothing when they run. By the first, with the contract
+        // of `SavableTenant::install`, the status is never that of a test run that faults, as `Host::handle` promises too (`no_fault`). By
+        // the second, the frame that would load the program goes to `tenant`.
         laws::faults_have_no_payload();
         command_frames::laws::frames_have_owners();
         let number = usize::from(tenant);

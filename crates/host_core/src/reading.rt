@@ -92,10 +92,12 @@ fn read_length<S: Source>(reader: &mut S) -> Result<Option<u32>, ServeFaultKind>
 }
 
 /// Reads and discards `count` bytes: the rest of a frame that is too long, of which `read_long` keeps only the head. Each read overwrites
-/// the front of `scratch`, which is not empty, so each read is of at least one byte. By `failures` one more failed call of the reader can
-/// be counted in 64 bits. `Truncated` if the input ends before all are read, `Read` if a call of the reader failed. If the result is no
-/// error, `count` bytes were read (`bytes`), and no call failed (`sound`). If it is an error, fewer bytes were read (`short`), and the
-/// error is why no more were read (`stop`): for `Truncated` the input is at its end, and no call failed; for `Read` a call failed.
+/// the front of `scratch`, which is not empty, so each read is of at least one byte, and the loop ends. By `failures` one more failed call
+/// of the reader can be counted in 64 bits. `Truncated` if the input ends before all are read, `Read` if a call of the reader failed. If
+/// the result is no error, `count` bytes were read (`bytes`), and no call failed (`sound`). If it is an error, fewer bytes were read
+/// (`short`), and the error is why no more were read (`stop`): for `Truncated` the input is at its end, and no call failed; for `Read` a
+/// call failed. `S.remaining` are the bytes that the reader has left, if they are known; if not, the contract claims nothing of the bytes
+/// that were read, or of the input's end.
 fn skip<S: Source>(reader: &mut S, scratch: &mut [u8], count: usize) -> Result<(), ServeFaultKind>
     requires failures { S.failures reader.old < 2 ^ 64 - 1 }
     requires scratch { 0 < length scratch.old }
@@ -146,9 +148,11 @@ fn read_whole<S: Source>(
 /// Reads a frame of `total` bytes, which is longer than `buffer` (`long`), and so longer than any valid frame: the length of `buffer`,
 /// `FRAME_BUFFER`, is one byte more than that of the longest one (`room`). Only the frame's head, its first four bytes, is kept, at the
 /// front of `buffer` (`frame`), since the reply to such a frame depends only on the head. Later bytes of the frame overwrite the rest of
-/// `buffer`. `Truncated` if the input ends before all are read, `Read` if a call of the reader failed. If the result is no error, no call
-/// failed (`sound`). If it is an error, fewer than `total` bytes were read (`short`), and the error is why no more were read (`stop`). By
-/// `failures` the number of failed calls fits in 64 bits after the call too.
+/// `buffer`. `Truncated` if the input ends before all are read, `Read` if a call of the reader failed. If the result is no error, exactly
+/// the frame was read (`Takes`), and no call failed (`sound`). If it is an error, fewer than `total` bytes were read (`short`), and the
+/// error is why no more were read (`stop`). `S.remaining` are the bytes that the reader has left, if they are known; if not, the contract
+/// claims nothing of the bytes that were read, or of the input's end. By `failures` the number of failed calls fits in 64 bits after the
+/// call too.
 fn read_long<S: Source>(
     reader: &mut S,
     buffer: &mut [u8],
@@ -204,12 +208,13 @@ fn read_body<S: Source>(
 }
 
 /// Reads the length of a frame, four bytes, and then the frame, and returns how many bytes at the front of `buffer` are handled as the
-/// frame (`kept`). A frame of at most `FRAME_BUFFER` bytes, the length of `buffer`, is kept whole. Of a longer one only the head is kept,
-/// four bytes; then `kept` is `FRAME_BUFFER`, too long for a valid frame, and the bytes after the head may be any (`IsKeptFrontOf`).
-/// Exactly the length and the frame (`framed`) are read; `Takes` claims this if the bytes that the reader has left (`S.remaining`) are
-/// known. `None` if the input ends before the length: then no byte is read. `Truncated` if it ends inside the length or the frame, `Read`
-/// if a call of the reader failed. Without an error no call failed (`sound`). After an error, the bytes that were read are no whole frame
-/// (`short`), and the error is why no more were read (`stop`). By `failures` the number of failed calls fits in 64 bits.
+/// frame (`kept`). A frame is here any bytes whose length fits in four bytes (`IsFrame`), valid or not. A frame of at most `FRAME_BUFFER`
+/// bytes, the length of `buffer`, is kept whole. Of a longer one only the head is kept, four bytes; then `kept` is `FRAME_BUFFER`, too long
+/// for a valid frame, and the bytes after the head may be any (`IsKeptFrontOf`). Exactly the length and the frame (`framed`) are read;
+/// `Takes` claims this if the bytes that the reader has left (`S.remaining`) are known. `None` if the input ends before the length: then no
+/// byte is read. `Truncated` if it ends inside the length or the frame, `Read` if a call of the reader failed. Without an error no call
+/// failed (`sound`). After an error, the bytes that were read are no whole frame (`short`), and the error is why no more were read
+/// (`stop`). By `failures` the number of failed calls fits in 64 bits.
 pub(crate) fn read_frame<S: Source>(
     reader: &mut S,
     buffer: &mut [u8],

@@ -26,10 +26,12 @@ use insn_set::{
 };
 use words::{AluOp, BITS_32, BITS_64, ByteOrder, Condition, ExtendedBits, KeptBits};
 
-/// Checks the fields of a first slot. The caller has computed `is_listed`: whether each field has a value that the form of the opcode
-/// allows (`fields_allowed`). `Ok` if this is true (`listed`) and both register numbers are at most 10 (`dst`, `src`). The fault is
-/// `Reserved` if `is_listed` is false, else `Register`. The form is no parameter, so `fault` is about each form `f` for which `is_listed`
-/// is right: a first slot of form `f` with these fields has this fault, whatever bytes follow the slot (`IsFaultOf`).
+/// Checks the fields of a first slot, the part of the check that all forms of opcodes share. The caller, which knows the form, has computed
+/// `is_listed`: whether the form allows the value of each field (`fields_allowed`), which is 0 for a field that it does not use. That is
+/// not about the range of a register that the form uses, so here both register numbers are tested for every form: an unused one is 0. `Ok`
+/// if `is_listed` is true (`listed`) and both are at most 10 (`dst`, `src`). The fault is `Reserved` if `is_listed` is false, else
+/// `Register`. Since the form is no parameter, `fault` is about each form `f` for which `is_listed` is right: a first slot of form `f` with
+/// these fields has this fault, whatever bytes follow the slot (`IsFaultOf`).
 #[inline(always)]
 #[tactic(auto, unfolding(crate::specs::inside::FirstFault::fault_in_form))]
 pub(crate) fn check_fields(is_listed: bool, slot: &RawSlot) -> Result<(), FaultKind>
@@ -366,10 +368,11 @@ pub(crate) fn read_jump(
     }
 }
 
-/// Reads a load, of class LDX, into `entry` (RFC 9669, sections 5.1 and 5.2). If `Ok`, the numbers of the load fit their fields (`value`),
-/// it is spelled by `slot` (`slots`), and the result is `None`, since a load has no second slot (`none`). The fault is the first that
-/// applies, whatever follows the slot (`fault`): `Opcode` if no load has the opcode, `Reserved` if the immediate is not 0, `Register` if a
-/// register is above 10.
+/// Reads a load, of class LDX, into `entry` (RFC 9669, sections 5.1 and 5.2). `load_by_opcode` returns whether the load extends the sign
+/// (`signed`), and its size. If `Ok`, the numbers of the load fit their fields (`value`), it is spelled by `slot` (`slots`), and the result
+/// is `None`, since a load has no second slot (`none`). The fault is the first that applies, whatever follows the slot (`fault`): `Opcode`
+/// if no load has the opcode (`load_at` is `None`, else the load's form), `Reserved` if the immediate is not 0, `Register` if a register is
+/// above 10.
 #[inline(always)]
 pub(crate) fn read_load(entry: &mut Insn, slot: &RawSlot) -> Result<Option<RawSlot>, FaultKind>
     ensures value { OnOk result (IsInsn entry.new) }
@@ -455,8 +458,9 @@ fn read_atomic(
 /// Reads an instruction of class STX (`class`) into `entry` (RFC 9669, sections 5.1 and 5.3): an atomic operation on four bytes (opcode
 /// 0xc3) or eight (0xdb), else a store of a register. If `Ok`, the numbers of the instruction are in their ranges (`value`), `slot` spells
 /// it (`slots`), and the result is `None`, since it has no second slot (`none`). The fault is the first of these (`fault`): `Opcode` for
-/// any other opcode whose mode, the upper three bits, is not MEM (3); `Reserved` if the immediate selects no atomic operation or, in a
-/// store, is not 0; `Register` if the destination or the source register is above 10.
+/// any other opcode whose mode, the upper three bits, is not MEM (3), so that no instruction has this opcode (`register_store_at` is
+/// `None`, else the opcode's form); `Reserved` if the immediate selects no atomic operation or, in a store, is not 0; `Register` if the
+/// destination or the source register is above 10.
 #[inline(always)]
 pub(crate) fn read_register_store(
     entry: &mut Insn,

@@ -66,8 +66,9 @@ impl<T: Drop> From<AllocFailed<T>> for CodecFault {
 
     ghost from_gives = { λ _ e. e ≡ memory_fault };
 
-    /// The fault if memory is refused for a value of type `T`, as by `push` of a `Vec`: `Memory`, at slot 0, since no slot is at fault
-    /// (`from_gives`). The error also has that value, which is dropped.
+    /// Converts the error of a call that gets no memory for a value of type `T`, as `push` of a `Vec`, to a fault of the codec, for the
+    /// operator `?`: `Memory`, at slot 0, since no slot is at fault. The error also has that value, which is dropped. By `from_gives` the
+    /// contract of a function that uses `?` knows this fault.
     fn from(_e: AllocFailed<T>) -> CodecFault {
         CodecFault {
             slot: 0,

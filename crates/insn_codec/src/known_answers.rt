@@ -17,8 +17,9 @@ fn wide(value: u64) -> Insn
     Insn::Const { dst, value }
 }
 
-/// The first kind of fault, `Opcode`, has number 1, and the last one, `Memory`, number 8. A refusal for such a fault gives 100 more than
-/// this number as its reason (`Cause::number` of `verifier`).
+/// A test of the contract of `FaultKind::number`, never called: each `prove!` has to follow from the contract. The first kind of fault,
+/// `Opcode`, has number 1, and the last one, `Memory`, number 8. A refusal of slots for a fault gives 100 more than the number of its kind
+/// as reason (`Cause::number` of `verifier`). For `Memory` there is no refusal: out of memory is an error of its own.
 fn kinds_of_faults() {
     let (first, last) = (FaultKind::Opcode.number(), FaultKind::Memory.number());
     prove!(first == 1);
@@ -41,7 +42,8 @@ fn written_instructions() {
     prove!(out[15] == 0xff);
 }
 
-/// `decode` reads the eight bytes of an exit, opcode 0x95 and seven zeros, as the exit, an instruction of one slot.
+/// A test of the contract of `decode`, never called: `decode` reads the eight bytes of an exit, opcode 0x95 and seven zeros, as the exit,
+/// an instruction of 1 slot.
 fn exit_is_decoded() {
     let found = decode(&[0x95, 0, 0, 0, 0, 0, 0, 0]);
     let is_exit = found == Ok((Insn::Exit, 1));
@@ -75,9 +77,9 @@ fn faults_at_front() {
     prove!(is_second_slot);
 }
 
-/// In a program of a wide load, of the number 7, and an exit, instructions begin at slots 0 and 2, and none at slot 1, the second of the
-/// load, or at 3, the end (`is_first`). So `get` returns `None` for slot 1, and an instruction for slot 2. The function fails only if
-/// memory is refused.
+/// A test of contracts of `Program`, never called: each `prove!` has to follow from them. In a program of a wide load, of the number 7, and
+/// an exit, instructions begin at slots 0 and 2, and none at slot 1, the second of the load, or at 3, the end (`is_first`). So `get`
+/// returns `None` for slot 1, and an instruction for slot 2. If the function ran, it would fail only if memory is refused.
 #[tactic(auto, unfolding(insn_set::specs::Program::begins_at))]
 fn first_slots_of_a_program(alloc: Global) -> Result<(), CodecFault> {
     let program = Program::new(alloc, &[wide(7), Insn::Exit])?;
@@ -92,9 +94,10 @@ fn first_slots_of_a_program(alloc: Global) -> Result<(), CodecFault> {
     Ok(())
 }
 
-/// The `run_slots` of a program of two instructions, a wide load of 0x7_0000_0009 into register 2 and the exit, are three slots. The first
-/// one has the register and the low half of the number, 9, and the second one the high half, 7. The function fails only if memory is
-/// refused.
+/// A known result, proved from the contracts of `Program::new` and `run_slots`: the slots for runs of a program of a wide load of
+/// 0x7_0000_0009 into register 2 and the exit are three. In the first one the byte of registers has the destination, 2, and the immediate
+/// the low half of the number, 9; the immediate of the second one is the high half, 7. Nothing calls this function; if it ran, it would
+/// fail only if memory is refused.
 fn spelled_program(alloc: Global) -> Result<(), CodecFault> {
     let program = Program::new(alloc, &[wide(0x7_0000_0009), Insn::Exit])?;
     let run_slots = program.run_slots();
@@ -105,7 +108,8 @@ fn spelled_program(alloc: Global) -> Result<(), CodecFault> {
     Ok(())
 }
 
-/// The eight bytes of an exit are read as a program of one slot, unless the memory for it is refused.
+/// Proves from the contract of `read_program` that the eight bytes of an exit are read as a program of one slot, unless memory is refused.
+/// Nothing calls this function.
 fn read_program_of_an_exit(alloc: Global) -> Result<(), CodecFault> {
     let program = read_program(alloc, &[0x95, 0, 0, 0, 0, 0, 0, 0])?;
     let slots = program.slots();

@@ -111,7 +111,8 @@ fn sized_opcode(mode: u8, size: AccessSize, class: u8) -> u8
     32 * mode + 8 * size_number(size) + class
 }
 
-/// The slot with these fields. `dst` and `src` are register numbers below 16, since they share one byte: `src` is its upper four bits.
+/// The slot with these fields. `dst` and `src` are below 16, since they share one byte: `src` is its upper four bits. Each is a register's
+/// number, or 0 if it names none; but `src` of a wide load says what is loaded.
 #[inline(always)]
 fn raw_slot(opcode: u8, dst: u8, src: u8, offset: u16, imm: u32) -> RawSlot
     requires dst { dst < 16 }
@@ -127,11 +128,13 @@ fn raw_slot(opcode: u8, dst: u8, src: u8, offset: u16, imm: u32) -> RawSlot
 }
 
 /// The first slot of an instruction. `raw_slot` takes the opcode, the destination, the source, the offset and the immediate, of which those
-/// that the instruction does not use are 0. Code 11 with source bit 1 is a move of a register, here one that extends the sign from the
-/// width in its offset field, and code 8 is a negation. The modes are 3 (MEM), 4 (MEMSX, a load that extends the sign) and 6 (ATOMIC), the
-/// classes 1 (LDX), 2 (ST) and 3 (STX). Whole opcodes are 0x05 and 0x06, jumps with offsets of 16 and 32 bits, 0x85, a call, 0x95, the
-/// exit, and 0x18, a wide load: its source field is 0 for a number, whose low half is the immediate here, 1 for a map, 2 for an address in
-/// its value.
+/// that the instruction does not use are 0. The offset of `Alu` is 1 for a signed division or remainder, else 0 (`alu_offset`). Code 11
+/// with source bit 1 is a move of a register, here one that extends the sign from the width in its offset field, and code 8 is a negation.
+/// A byte-order conversion has its number of bits as immediate. The modes are 3 (MEM), 4 (MEMSX, a load that extends the sign) and 6
+/// (ATOMIC), the classes 1 (LDX), 2 (ST, a store of a constant) and 3 (STX, a store of a register, or an atomic operation). Whole opcodes
+/// are 0x05, a jump with an offset of 16 bits, 0x06, one with an offset of 32 bits in the immediate, 0x85, a call, with the helper's number
+/// as immediate, 0x95, the exit, and 0x18, a wide load: its source field is 0 for a number, whose low half is the immediate here, 1 for a
+/// map, 2 for an address in the map's first value. For the last two the immediate is the map's descriptor.
 fn first(insn: &Insn) -> RawSlot
     ensures { fields result ≡ first_slot insn.now }
 {

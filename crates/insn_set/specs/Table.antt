@@ -14,7 +14,8 @@ Row A = A × ℕ × List ℕ
 abbrev pub shown : {A : Type 0} → List (A × ℕ × Bor (List ℕ)) → List (Row A)
 shown rows = map (λ row. (row.0, row.1, row.2.now)) rows
 
--- the value (row.0) of the first row whose number (row.1) is n; None if there is no such row
+-- the value (row.0) of the first row whose number (row.1) is n, as an operator by its code or a
+-- load by its opcode; None if there is no such row
 abbrev pub by_number : {A : Type 0} → List (Row A) → ℕ → Option A
 by_number [] n = None
 by_number (row ∷ rows) n = if row.1 == n then Some row.0 else by_number rows n

@@ -185,8 +185,9 @@ impl Insn {
         self.profile().slots
     }
 
-    /// A law: the numbers of an `Insn` lie in the ranges of its fields (`IsInsn`). Each arm only names these numbers, which their types
-    /// bound, or calls a function whose contract bounds them. It does nothing when it runs.
+    /// A law: the numbers of an `Insn` lie in the ranges of its fields (`IsInsn`), which `Program::new` of `insn_codec` needs to promise
+    /// `IsProgram`. An arm that names a signed number gives the proof the bound of its type; a register, an operand or an unsigned number
+    /// has its bound by the contract of a function that the arm calls. Nothing is done when it runs.
     pub fn in_range(&self)
         ensures { IsInsn self.now }
     {
@@ -240,16 +241,16 @@ impl Insn {
     }
 }
 
-/// A law: a `u64` is below 2^64. `in_range` of `Insn` uses it for the value of a wide load of a number (`Const`), and nothing is done when
-/// it runs.
+/// A law: a `u64` is below 2^64. `in_range` of `Insn` calls it for the value of a wide load of a number (`Const`), since naming an unsigned
+/// number, unlike a signed one, does not give the proof there its bound. Nothing is done when it runs.
 fn word_in_range(value: u64)
     ensures { value < 2 ^ 64 }
 {
     let _ = value;
 }
 
-/// A law: a `u32` is below 2^32, as the offset of a `MapValue` has to be. `in_range` of `Insn` calls it for the proof, and nothing is done
-/// when it runs.
+/// A law: a `u32` is below 2^32, as the offset of a `MapValue` has to be. `in_range` of `Insn` calls it, since naming an unsigned number,
+/// unlike a signed one, does not give the proof there its bound. Nothing is done when it runs.
 fn offset_in_range(offset: u32)
     ensures { offset < 2 ^ 32 }
 {

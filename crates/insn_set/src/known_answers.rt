@@ -14,13 +14,14 @@ const _: () = prove!(size_of::<Option<Insn>>() == 24);
 /// A raw slot takes the eight bytes in which it is spelled.
 const _: () = prove!(size_of::<RawSlot>() == 8);
 
-/// A register that is made of the number 10, the greatest that `Reg::new` allows, has this number.
+/// A test of the contracts, only proved, never called: a register made of 10, the greatest number that `Reg::new` allows, has this number.
 fn registers() {
     let number = Reg::new(10).number();
     prove!(number == 10);
 }
 
-/// A load of a 64-bit number (`Const`) takes two slots, and the exit takes one, by `slots` and by `has_two_slots`.
+/// A test of the contracts of `slots` and `has_two_slots`, only proved, never called: a load of a 64-bit number (`Const`) takes two slots,
+/// and the exit takes one.
 fn slots_of_instructions() {
     let (dst, value) = (Reg::new(2), 7);
     let (wide, exit) = (Insn::Const { dst, value }, Insn::Exit);

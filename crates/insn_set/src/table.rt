@@ -33,8 +33,9 @@ pub(crate) fn by_symbol<T: Copy>(rows: &[(T, u32, &str)], symbol: &str) -> Optio
     None
 }
 
-/// Looks up a name from a program's text in a table, in which a row has a name and its value: returns the value of the first row with this
-/// name; `None` if there is no such row. Byte-order conversions and sign extensions have such tables, and registers in `text_line`.
+/// The value of the first row whose name is `name`, a name from a program's text; `None` if there is no such row. A row has a name and its
+/// value, but no number, unlike a row of `by_symbol`. Byte-order conversions and sign extensions have such tables, and registers in
+/// `text_line`. In the contract, `names` has the rows as definitions read them: the bytes of each name, with the value.
 pub fn named<T: Copy>(rows: &[(&str, T)], name: &str) -> Option<T>
     ensures { result ≡ named (names rows.now) name.now }
 {

@@ -41,8 +41,9 @@ EdgesKeepMembers n =
     (IsTrue (compares n condition x y) → IsPairOn (refined n condition a b).0 x y)
     × (IsFalse (compares n condition x y) → IsPairOn (refined n condition a b).1 x y)
 
--- the ranges of both operands on an edge are ranges of words of 64 bits; an edge that can't be
--- taken (None) has no ranges, so this holds
+-- the ranges of both operands on an edge of a comparison are of words: all members are less than
+-- 2 ^ 64 (`IsOfWords`), which is required of ranges in facts. An edge that can't be taken (None)
+-- has no ranges, so this holds
 abbrev pub IsPairOfWords : Option RangePair → Type 0
 IsPairOfWords None = Unit {0}
 IsPairOfWords (Some p) = IsOfWords p.0 × IsOfWords p.1

@@ -44,11 +44,12 @@ fn binary64(op: AluOp, a: Range, b: Range) -> Range
     }
 }
 
-/// The range of the results of `op` on 64 bits, as the table of ranges gives it (`exact`): it includes the result for every member of `a`
-/// and every member of `b` (`sound`). It is a single number if the range of each operand that `op` reads is a single number, else the range
-/// that `general_range` gives. The contract holds for each operator, but `alu64` calls this function only for the operators of one operand:
-/// a sign extension, which reads only `b`, a change of sign and a byte-order conversion, which read only `a`. Those of two operands and
-/// moves go to `binary64`.
+/// The range of the results of `op` on 64 bits, for first operands in `a` and second ones in `b`. By `exact` it is the range that the
+/// definition `range_of` gives, and by `sound` it has the result (`operate`) for every member of `a` and every member of `b`. It has one
+/// number if the range of each operand that `op` reads has only one, else it is that of `general_range`. The contract holds for each
+/// operator, but `alu64` calls this function only for those of one operand: a sign extension, which reads only `b`, a change of sign and a
+/// byte-order conversion, which read only `a`. Operators of two operands and moves go to `binary64`, so that their code needs no second
+/// match on `Operator` after that of `alu64`.
 fn unary64(op: Operator, a: Range, b: Range) -> Range
     ensures exact { result ≡ range_of 64 op a b }
     ensures sound { (x y : ℕ) → IsMember x a → IsMember y b → IsMember (operate 64 op x y) result }

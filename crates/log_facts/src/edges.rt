@@ -44,8 +44,9 @@ fn refine(facts: &mut Facts, dst: Reg, src: &Operand, ranges: Option<(Range, Ran
 }
 
 impl Edges {
-    /// No edges, for `leave` to overwrite. Both fields of facts need a value, and get a copy of `filler`, any facts that the caller has:
-    /// they mean nothing, since both flags are false.
+    /// No edges: both flags, `falls` and `jumps`, are false. Into this value `leave` then writes the edges out of an instruction. Both
+    /// fields of facts need a value, and get a copy of `filler`, any facts that the caller has: they mean nothing, since both flags are
+    /// false.
     pub fn none(filler: &Facts) -> Edges {
         Edges {
             falls: false,
@@ -56,9 +57,11 @@ impl Edges {
     }
 
     /// Takes over `flow`, the result of an instruction's transfer function: sets which edges out of the instruction a run may take, and
-    /// refines the facts on them. Before the call, `falling` and `jumping` both have the facts after the instruction. A comparison sets the
-    /// ranges of its operands on each edge; an edge for which it has no ranges (`None`) is never taken. A null test settles the look-up at
-    /// `site`: its result is null on one edge, the jumping one if `jumps_on_null`, and not on the other.
+    /// refines the facts on them. `leave` calls this with the facts after the instruction in both `falling` and `jumping`. `WritesSlot` and
+    /// `Writes`, which say which stack slots the instruction may have changed, have only the falling edge, as `Falls` does: the facts have
+    /// the change already. A comparison sets the ranges of its operands on each edge; an edge for which it has no ranges (`None`) is never
+    /// taken. A null test settles the look-up at `site`: its result is null on one edge, the jumping one if `jumps_on_null`, and not on the
+    /// other.
     fn take(&mut self, flow: &Flow) {
         (self.falls, self.jumps) = match *flow {
             Flow::Ends => NO_EDGE,

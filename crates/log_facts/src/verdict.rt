@@ -8,8 +8,9 @@ use std::alloc::AllocError;
 use std::fmt::Write;
 use verifier::{Cost, Refusal, VerifyFault};
 
-/// Whether the reason of a rejection concerns the program's shape: these have the numbers 1 to 9. Those of safety, and `Memory`, are
-/// numbered from 20 on. Of a program that is rejected for its shape no facts are known, since the verifier tests the shape before its pass.
+/// Whether `reason`, for which a program is rejected, concerns the program's shape: such reasons have the numbers 1 to 9. A reason of
+/// safety, for which an instruction may not be run with the facts before it, has a number from 20 to 36; `Memory`, out of memory, has 40.
+/// Of a program that is rejected for its shape no facts are known, since the verifier tests the shape before the pass that computes facts.
 pub fn is_of_shape(reason: Reason) -> bool {
     reason.number() < 20
 }

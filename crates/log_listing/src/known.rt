@@ -76,9 +76,10 @@ fn write_lost_registers(
     }
 }
 
-/// The mask of the bytes of a stack slot that a note lists as newly written; bit 0 is the lowest byte. If neither `old` nor `new` is a
-/// spill, they are the bytes that are written in `new` and not in `old`. If only `old` is a spill, they are all bytes that are written in
-/// `new`. If `new` is a spill, the mask is 0: a new spill has a note of its own (`write_spills`).
+/// The mask of the bytes of a stack slot that a note lists as newly written; bit 0 is the lowest byte. `old` is the slot in the earlier
+/// facts, `new` in the later ones. A spill is a pointer or a map that is stored whole. If neither slot is a spill, the bytes are those that
+/// are written in `new` and not in `old`. If only `old` is a spill, they are all bytes that are written in `new`, since the kind that was
+/// known of the whole slot no longer holds. If `new` is a spill, the mask is 0: a new spill has a note of its own (`write_spills`).
 fn written(old: Slot, new: Slot) -> u8 {
     match (old, new) {
         (Slot::Bytes(before), Slot::Bytes(after)) => after & !before,
@@ -230,9 +231,11 @@ fn write_spills(
 }
 
 /// Appends notes on what is known in the facts `new` and was not in `old`, as `r1 = any number`, and on what is not known any more, as
-/// `r1 lost`. `new` are the facts before an instruction, or on an edge of a conditional jump. `old` are those before the instruction that
-/// the pass reached before that one, those before the jump, or facts in which nothing is known. `start` is the offset in the text at which
-/// the first note begins; each other note has a semicolon and a space before it (`separate_note`). `AllocError`: out of memory.
+/// `r1 lost`. For an edge of a conditional jump, `new` are the facts on the edge, and `old` those before the jump. For an instruction,
+/// `new` are the facts before it, and `old` those before the instruction that the pass reached last before it. If there is none, or if the
+/// log shows all facts before each instruction (`is_whole` of `steps_of`), `old` are facts in which nothing is known, so that the notes
+/// have all of `new`. `start` is the offset in the text at which the first note begins; each other note has a semicolon and a space before
+/// it (`separate_note`). `AllocError`: out of memory.
 pub(crate) fn write_known(
     text: &mut String,
     start: usize,

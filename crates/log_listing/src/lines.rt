@@ -179,11 +179,13 @@ fn write_notes(
     }
 }
 
-/// Writes the line of `insn`, the instruction at `slot`: the slot, the instruction, its notes (`write_notes`), as what is known before it,
-/// and a line feed. So the text then ends with a line feed, whatever it was before (`AreLines`). `input` has a step for each instruction
-/// that the verifier's pass reached, and the jumps that a run may take. `cursor` has the index of the next step and that of the next jump,
-/// and in `falls_from` the slot of the line before, if a run may fall through from it. If the pass reached `insn`, the cursor is moved past
-/// its step and the jumps to `slot`. After the call `falls_from` is `slot` if a run may fall through from `insn`, else `None`.
+/// Writes the line of `insn`, the instruction at `slot`: the slot, the instruction, its notes (`write_notes`), and a line feed. So the text
+/// then ends with a line feed, whatever it was before (`AreLines`). Among the notes are what is new before `insn`, or all that is known,
+/// and, if a run may jump to it, the slots from which control comes. For them `input` has a step for each instruction that the verifier's
+/// pass reached, in the order of the slots, and the jumps that a run may take, in the order of their targets. `cursor` has the index of the
+/// next step and that of the next jump, and in `falls_from` the slot of the line before, if a run may fall through from it, so that control
+/// comes from there, too. If the pass reached `insn`, the cursor is moved past its step and the jumps to `slot`. For the next line, if one
+/// follows, `falls_from` is then `slot` if a run may fall through from `insn`, else `None`.
 fn write_line(
     text: &mut String,
     input: &ListingInput<'_>,
@@ -203,9 +205,11 @@ fn write_line(
 
 /// Appends the line of each instruction that begins at a slot from 0 to `last`, in their order. `last` is the slot of the rejected
 /// instruction; for an accepted program it is past the end, and all lines are written. The second slot of a wide instruction has no line.
-/// `cursor` has what the next line needs: the index of the next step in `input` (a step is an instruction that the pass reached), that of
-/// the next jump, and the slot of the line before if a run may fall through from it (`falls_from`), so `None` for the first line. By the
-/// contract `text`, which `lines_of` passes empty, is empty or ends with a line feed, before the call and after it (`AreLines`).
+/// `cursor` has what the next line needs. For the note of what is new before its instruction, or of all that is known, that is the index of
+/// the next step in `input` (a step is an instruction that the pass reached). For the note of the slots from which control comes, if a run
+/// may jump to the instruction, it is the index of the next jump in `input`, whose jumps are in the order of their targets, and the slot of
+/// the line before if a run may fall through from it (`falls_from`), so `None` for the first line. By the contract `text`, which `lines_of`
+/// passes empty, is empty or ends with a line feed, before the call and after it (`AreLines`).
 pub(crate) fn write_lines(
     text: &mut String,
     input: &ListingInput<'_>,

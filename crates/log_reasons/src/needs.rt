@@ -28,7 +28,8 @@ pub(crate) struct RefusedProgram<'a> {
 
 /// Writes what was known at the rejected instruction `insn`, and what is required. Faults of the shape and unreadable registers are tested
 /// first, since instructions of many kinds can have them. The last arm is for accesses to memory. Unconditional jumps and wide loads would
-/// also take it, but are rejected only for faults of the shape.
+/// also take it, but are rejected only for faults of the shape. The reason is never `Memory`, the verifier out of memory, for which no arm
+/// has a text: `judge` of `log_facts` then returns an error, and no verdict.
 fn write_need(
     text: &mut String,
     refusal: &RefusedProgram<'_>,
@@ -59,7 +60,8 @@ fn write_need(
 
 /// The text on a rejection: the reason in words, then `between` (in the log a colon, and a space or a line feed), then what is known and
 /// what is required (`write_need`), and a line feed. Each fault is at a slot at which an instruction begins, so `get` finds the
-/// instruction, and nothing of this is ever left out. `AllocError`: out of memory.
+/// instruction, and nothing of this is ever left out. The fault `Memory`, which concerns no instruction, does not occur here: if the
+/// verifier is out of memory, `judge` of `log_facts` returns an error, and no verdict. `AllocError`: out of memory for the text.
 fn reason_line(refusal: &RefusedProgram<'_>, between: &str) -> Result<String, AllocError> {
     let mut line = String::from_str(refusal.alloc, reason_words(refusal.fault.reason))?;
     if let Some(insn) = refusal.program.get(refusal.fault.slot) {
@@ -70,9 +72,9 @@ fn reason_line(refusal: &RefusedProgram<'_>, between: &str) -> Result<String, Al
     Ok(line)
 }
 
-/// The facts before the last instruction that the pass reached; `known` has those before each, in order. If an instruction is rejected, it
-/// is the last, since the pass ends at it. If the pass reached none, for example because the shape of the program has a fault, the result
-/// is the facts in which nothing is known.
+/// The facts before the last instruction that the verifier's pass reached; `known` has those before each, in the order of the slots. If the
+/// pass rejects an instruction, that is the last, since the pass ends at it. If the shape of the program has a fault, there is no pass, and
+/// `known` is empty: the result is the facts in which nothing is known, and the text on that fault (`write_shape_fault`) reads no facts.
 fn last_facts(known: &[KnownFacts]) -> Facts {
     match known.last() {
         Some(last) => last.facts,

@@ -133,11 +133,13 @@ impl Finder<'_> {
         }
     }
 
-    /// Follows each edge out of `insn`, the instruction at `slot`, that a run may take; `facts` are those before `insn`. For the slot to
-    /// which the edge leads, `arrive` records whether the value that the rejected instruction needs (`wanted`) is present on this edge. For
-    /// the first edge to that slot on which it is missing, `arrive` also records why: the value is missing before `insn` for the cause that
-    /// `follow` has stored in `cause`, or, if that is `None`, `insn` destroys it. The test of `slot` against `MAX_SLOTS` always holds,
-    /// since a program has no more slots; the contract of `target` needs it.
+    /// Follows each edge out of `insn`, the instruction at `slot`, that a run may take; `facts` are those before `insn`. By the transfer
+    /// function `Edges::leave` sets which edges these are, and the facts on them. There are none if `insn` may not be run with `facts`, so
+    /// none for the rejected instruction. `Edges::none` has no edges yet, and its argument only fills the fields. For the slot to which an
+    /// edge leads, `arrive` records whether the value that the rejected instruction needs (`wanted`) is present on this edge. For the first
+    /// edge to that slot on which it is missing, `arrive` also records why: the value is missing before `insn` for the cause that `follow`
+    /// has stored in `cause`, or, if that is `None`, `insn` destroys it. The test of `slot` against `MAX_SLOTS` always holds, since a
+    /// program has no more slots; the contract of `target` needs it.
     fn leave(&mut self, slot: usize, insn: &Insn, facts: &Facts) {
         let mut edges = Edges::none(facts);
         edges.leave(facts, self.named, slot, insn);

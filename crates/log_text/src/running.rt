@@ -114,9 +114,10 @@ fn run<I: Read + Drop, O: Write + Drop>(
 /// Runs the command `verifier_log` on its arguments, those after its name, and returns its exit status: 0 if the eBPF program in the input
 /// is accepted, or help or the version is asked for, 1 if the input or its program is rejected, 2 if arguments are wrong, 3 if input or
 /// output failed, 4 if out of memory. `output` gets the log of the program, accepted or rejected, or the text of the help or of the
-/// version. If the slots on hex lines are no program, the log says why. `output` is written only once the text is complete. Every other
-/// failure (`Failure`) is one line on `faults`, as `bpfhost verify` writes it; if that line can't be written, the status is still that of
-/// the failure.
+/// version. If the slots on hex lines are no program, the log says why. `output` is written only once the text is complete. `run` returns a
+/// `Failure` if arguments are wrong, if the input can't be read, is too long, or has a fault as hex lines or as text, if the output can't
+/// be written or flushed, or if out of memory. Its fault line goes to `faults`, as `bpfhost verify` writes such a line; if that line can't
+/// be written, the status is still that of the failure.
 pub fn run_log_words<I: Read + Drop, O: Write + Drop, F: Write + Drop>(
     alloc: Global,
     arguments: &[&str],

@@ -90,8 +90,9 @@ impl ElementOrder {
     }
 
     /// Puts an element last. The element is less than the bound (`within`) and not yet in the order (`new`). The elements of an order are
-    /// distinct and less than the bound, so without the new one they are fewer than the bound. This is also required (`few`), so that
-    /// `count` does not overflow. The bound is unchanged.
+    /// distinct and less than the bound, so without the new one they are fewer than the bound. A clause requires this too (`few`), so that
+    /// the proof that `count` does not overflow needs no lemma on the number of distinct elements; `insert` of `OrderedMap` has it from its
+    /// own precondition `few`. The bound is unchanged.
     pub(crate) fn push(&mut self, element: u32)
         requires within { element < self.old.bound }
         requires new { occurrences element self.old.elements ≡ 0 }

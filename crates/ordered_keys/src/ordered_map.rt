@@ -51,10 +51,12 @@ impl<K: Eq + Hash + Copy, S: BuildHasher> Model for OrderedMap<K, S> {
 impl<K: Eq + Hash + Copy, S: BuildHasher> OrderedMap<K, S> {
     /// A map without keys, for elements less than `bound`, whose table hashes keys by `hash_builder`. Allocates all memory that the map
     /// will ever have: the table of the keys, for each element the index of its key in the table (`indices`), the order of the elements
-    /// (`order`), and a buffer (`rows`). The table has to keep room for `bound` entries in all, and a removal may lose the room of one
-    /// entry. So it has room for four times as many at first. When it has room for only `bound`, a removal keeps that room by copying the
-    /// second half of the entries to `rows`, which has room for more than half of `bound` entries, and back (`rebuild_without`). That takes
-    /// many steps, but is rare. `AllocError`: out of memory.
+    /// (`order`), and a buffer (`rows`). The table has to keep room for `bound` entries in all, so that `insert` needs no memory. A removal
+    /// may lose the room of one entry, but only in a group of the hash table's slots that an insertion once found full. The table has room
+    /// for four times `bound` entries at first, so that groups are seldom full if the hashes are spread evenly. When it has room for only
+    /// `bound`, a removal keeps that room by copying the second half of the entries to `rows`, which has room for more than half of `bound`
+    /// entries, and back (`rebuild_without`). That can take many steps, but is rare, as the room of three times `bound` entries has to be
+    /// lost first. `AllocError`: out of memory.
     pub fn new(alloc: Global, bound: u32, hash_builder: S) -> Result<OrderedMap<K, S>, AllocError>
     where
         S: Drop,
@@ -88,7 +90,7 @@ impl<K: Eq + Hash + Copy, S: BuildHasher> OrderedMap<K, S> {
 
     /// The key that follows `key` in the order of insertion, or the first key if `key` is absent. `None` if `key` is the last, or there are
     /// no keys. `key` may be of another type than the keys, for example borrowed bytes; `Q.equivalent key` is whether a key is equal to it.
-    /// The indexes of `bpf_maps` find the next key for MAP_GET_NEXT_KEY with it.
+    /// The hash maps of `bpf_maps` find the next key for MAP_GET_NEXT_KEY by this function.
     pub fn key_after<Q: Equivalent<K>>(&self, key: Q) -> Option<&K>
         ensures { option_map (λ k. k.now) result
             ≡ key_following (Q.equivalent key) self.now.entries }
@@ -229,8 +231,9 @@ fn key_at<'a, K: Eq + Hash, S: BuildHasher>(
 }
 
 /// The element of the entry at `index` of the table; an entry is a pair of a key and its element (`e.1`). The result is `otherwise` if no
-/// entry has this index. `remove` calls this when the last entry has taken the index of the removed one, with the removed element as
-/// `otherwise`: if the removed entry was itself the last, no entry has its index now.
+/// entry has this index. `remove` calls this after a removal, when the last entry has taken the index of the removed one, and then records
+/// `index` as that of the result. If the removed entry was itself the last, no entry has its index now; so `remove` passes the removed
+/// element as `otherwise`, whose index means nothing any more.
 fn element_at<K: Eq + Hash, S: BuildHasher>(
     table: &IndexMap<K, u32, S>,
     index: usize,
@@ -318,7 +321,8 @@ fn take_at<K: Eq + Hash + Copy, S: BuildHasher>(
 /// calls `take_at` if the capacity is above the bound, and else this function. The entry is swapped to the end. Then the second half of the
 /// entries is copied to `rows`, removed from the table, and put back without the entry: the table keeps its capacity if `truncate` removes
 /// at least half of the entries at once. `rows` is empty before and after, has room for this half (`requires buffer`), and keeps its
-/// capacity (`ensures buffer`). A call takes more steps the more entries there are, but is rare, so the function is out of line.
+/// capacity (`ensures buffer`). A call takes more steps the more entries there are, but is rare: the capacity is at least four times the
+/// bound at first, and few removals lower it (`OrderedMap::new`). So the function is out of line.
 #[cold]
 #[inline(never)]
 fn rebuild_without<K: Eq + Hash + Copy, S: BuildHasher>(

@@ -16,8 +16,8 @@ impl Facts {
     ghost use Rattle.words.specs.declared.stack.TheConstants.{STACK_SLOTS};
     ghost use Rattle.reg_kinds.specs.Kinds.{nothing_known, entry, kind_at, slot_at, with_kind, with_slot};
 
-    /// The facts in which nothing is known: no register is readable, and no stack byte is written, so the mask of written bytes of each stack
-    /// slot is 0 (`Bytes(0)`).
+    /// The facts in which nothing is known: no register is readable, and no stack byte is written, so the mask of written bytes of each
+    /// stack slot is 0 (`Bytes(0)`). The log of a program shows what is new against earlier facts, or against these to show all.
     pub fn nothing_known() -> Facts
         ensures { result ≡ nothing_known }
     {

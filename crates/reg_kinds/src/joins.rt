@@ -47,9 +47,10 @@ impl Kind {
 }
 
 impl Slot {
-    /// The join of two stack slots (`slot_join`), for edges that merge. Of two slots without a spill, it has the bytes that are written in
-    /// both. Of two spills, it is a spill with the join of their kinds, or a slot without a written byte if that join is `Unreadable`. If
-    /// only one slot is a spill, no byte of the join counts as written.
+    /// The join of two stack slots (`slot_join`), for edges that merge. Of two masks of written bytes (`Bytes`, bit j for byte j), it has
+    /// the bytes that are written in both. Of two spills, slots that hold a pointer or a map whole, it is a spill with the join of their
+    /// kinds, or a slot without a written byte (`Bytes(0)`) if that join is `Unreadable`. If only one slot is a spill, no byte of the join
+    /// counts as written, since no single byte of a pointer or a map can be read.
     pub fn join(self, other: Slot) -> Slot
         ensures { result ≡ slot_join self other }
     {

@@ -21,8 +21,9 @@ impl ValuePointer {
     ghost use Rattle.std.specs.Prelude.{◌≡◌, ◌≤ℤ◌};
     ghost use Rattle.reg_kinds.specs.Pointers.{value_span};
 
-    /// A pointer into a value of the map with descriptor `map`, at an offset from `lo` to `hi`, both included. Callers pass the ends of a
-    /// range, in order; so `value_span`, whose upper end is the greater of both, is this pointer.
+    /// A pointer into a value of the map with descriptor `map`, at an offset from `lo` to `hi`, both included, in bytes from the start of
+    /// the value. `value_span` defines such a pointer for any two numbers: its upper end is the greater of both, so that no range is empty.
+    /// Callers pass the ends of a range, in order, so here that end is `hi`.
     pub fn new(map: u32, lo: i32, hi: i32) -> ValuePointer
         requires { lo ≤ℤ hi }
         ensures { result ≡ value_span map lo hi }

@@ -20,8 +20,8 @@ fn registers_at_entry() {
     prove!(is_context);
 }
 
-/// In the join of two stack slots a byte is written if it is written in both. In the join of two facts a register has the hull of its two
-/// ranges.
+/// A proved test of contracts, never called. In the join of two stack slots, as masks of written bytes, a bit is 1 if it is 1 in both. In
+/// the join of facts `a` and `b` register 2 has the hull of its two ranges, the least that includes both.
 #[tactic(auto, unfolding(crate::specs::Kinds::tabulate))]
 fn joins() {
     let both = Slot::Bytes(0x0f).join(Slot::Bytes(0x3c));
@@ -62,8 +62,9 @@ fn a_null_test_settles() {
     prove!(is_value);
 }
 
-/// The number that a refusal reports for out of memory (`Memory`) is 40. The kind of a pointer to the context (`Ctx`) counts as a pointer
-/// (`is_pointer`): a store puts it into the stack whole or not at all.
+/// A test that is proved, only from contracts, and never called. The number of the reason `Memory`, out of memory, is 40. The kind of a
+/// pointer to the context (`Ctx`) counts as a pointer (`is_pointer`): a store puts it into the stack whole, with its eight bytes, or is
+/// rejected.
 fn numbers_of_reasons() {
     let number = Reason::Memory.number();
     prove!(number == 40);

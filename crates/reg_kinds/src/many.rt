@@ -37,9 +37,10 @@ fn ones(count: usize, from: usize) -> u8
 }
 
 /// The mask of the bytes of stack slot `index` that are among the `count` bytes from byte index `start` on: bit k is 1 if byte k of the
-/// slot, from the lowest on, is one of them; so 0 if none is. The bytes may end past the stack. The callers have `count` from a `u32`, so
-/// `start + count` does not overflow (precondition `count`). A helper's read needs these bits in the mask of a slot's written bytes
-/// (`lacks`), and its write sets them there (`bytes_over`).
+/// slot, from the lowest on, is one of them; so 0 if none is. A helper's read needs these bits in the mask of a slot's written bytes
+/// (`lacks`), and its write sets them there (`bytes_over`). The bytes may end past the stack: for a write `count` is the least length, only
+/// the greatest is checked to lie in the stack (`start_of`), and no precondition orders the two. The callers have `count` from a `u32`, so
+/// `start + count` does not overflow (precondition `count`).
 fn bits_in(start: usize, count: usize, index: usize) -> u8
     requires start { start ≤ stack_size }
     requires count { count < 2 ^ 32 }

@@ -45,7 +45,7 @@ fn settle_stack(facts: &mut Facts, site: usize, null: bool)
 
 /// Settles the kind of a register after a null test of the result of the look-up at slot `site`. `null` is whether the test found this
 /// result null. If the register has the result, its kind becomes that of the number 0 if `null`, else that of a pointer to the start of a
-/// value of the map. Any other kind, also that of another look-up's result, is unchanged.
+/// value of the map: its least and its greatest offset are 0. Any other kind, also that of another look-up's result, is unchanged.
 #[inline(always)]
 fn settle_kind(kind: &mut Kind, site: usize, null: bool)
     ensures { kind.new ≡ kind_settled site null kind.old }

@@ -64,7 +64,8 @@ impl Reason {
     ghost use Rattle.std.specs.Prelude.{◌≡◌};
     ghost use Rattle.reg_kinds.specs.Reason.{number};
 
-    /// The number that a refusal reports: 1 to 9 for a fault of the program's shape, 20 to 36 for one of its safety, 40 if out of memory.
+    /// The number by which a refused load, `verify` and the log report the reason: 1 to 9 for a fault of the program's shape, 20 to 36 for
+    /// one of its safety, by the facts. For `Memory`, out of memory, it is 40, which none of them reports.
     pub fn number(self) -> u16
         ensures { result ≡ number self }
     {

@@ -47,10 +47,10 @@ fn read_slot(slot: Slot, bits: u8, size: AccessSize, signed: bool) -> Result<Kin
 
 /// Changes the facts to those after a store of `size` bytes at `offset` from the stack's upper end, of a value of the kind `value`
 /// (`facts`: as `stack_write` defines). A number makes the bytes written, and a spill in the stack slot is lost; a pointer or a map is
-/// spilled, whole. Returns the index of the stack slot of the store, 0 to 63 from the lowest; by `slot` it is the only one that changes.
-/// The error is the first that applies, and then nothing changes: the value is unreadable (`UnreadableRegister`), the store is not in the
-/// stack (`OutsideStack`), it is not aligned to its size (`UnalignedStack`), it stores only some bytes of a pointer or a map
-/// (`PartOfSpill`).
+/// spilled, whole. Returns the index of the stack slot of the store, 0 to 63 from the lowest. By `slot` only this stack slot may change
+/// (`Some i`; `None` would allow none), so that after a store the verifier gives a new number only to the group with this slot. The error
+/// is the first that applies, and then nothing changes: the value is unreadable (`UnreadableRegister`), the store is not in the stack
+/// (`OutsideStack`), it is not aligned to its size (`UnalignedStack`), it stores only some bytes of a pointer or a map (`PartOfSpill`).
 pub fn write_stack(
     facts: &mut Facts,
     offset: i32,

@@ -15,8 +15,9 @@ pub use Rattle.saving.specs.declared.birth.Birth.{Birth}
 pub use Rattle.saving.specs.declared.birth.Birth.TheVariants.{OfMap, OfProgram}
 
 -- the descriptor fd at which the object of a birth was opened: a map, with this handle (`OfMap`),
--- or a program (`OfProgram`). A program has a birth only while it is open at fd. A map may live on
--- after its descriptor was closed, and fd may then name a later object
+-- or a program (`OfProgram`). The commands that restore a tenant open the object at fd again
+-- (`born`), so that programs find their maps. A program has a birth only while it is open at fd. A
+-- map may live on after its descriptor was closed, and fd may then name a later object
 abbrev pub descriptor_of : Birth → ℕ
 descriptor_of (OfMap handle fd) = fd
 descriptor_of (OfProgram fd) = fd
@@ -28,9 +29,10 @@ birth_of fd (object.Program l) = OfProgram fd
 
 -- ---- lists of births, the latest first
 
--- the latest birth at descriptor fd in a list with the latest first; None if it has no birth at fd.
--- It may have several: the birth of a map that lives on without its descriptor, and that of the
--- object that was opened there later
+-- the latest birth at descriptor fd in a list with the latest first; None if the list has none at
+-- fd. A descriptor may have several births: those of maps that live on after it was closed, and
+-- that of the object that was opened there later. When a restore has created the objects of the
+-- births in the list, the oldest first, fd names the object of its latest birth
 abbrev pub latest_at : List Birth → ℕ → Option Birth
 latest_at [] fd = None
 latest_at (b ∷ older) fd = if descriptor_of b == fd then Some b else latest_at older fd

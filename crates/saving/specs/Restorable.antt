@@ -19,7 +19,8 @@ use Rattle.tenant.specs.State.{Map, TenantState, live, maps_area}
 use Rattle.tenant.specs.Machine.{entry_of}
 use Rattle.saving.specs.Alike.{HoldsItsMaps}
 
--- no key occurs twice in the list
+-- no key occurs twice in the list. `IsWholeTable` requires this of the keys of a map, so a restore
+-- puts each of them into the new map once
 abbrev pub AreDistinct : List (List ℕ) → Type 0
 AreDistinct [] = Unit {0}
 AreDistinct (key ∷ keys) = (list_any (is_key key) keys ≡ false) × AreDistinct keys

@@ -41,9 +41,10 @@ impl Model for Births {
     ghost invariant = { λ b. MOST_BIRTHS ≤ vec_capacity b.oldest_first };
 }
 
-/// Whether the object of a birth is still live: its map is live, or its descriptor names a program. This program is that of the birth:
-/// `keep_living`, which calls this, runs after each close, so no birth of a closed program is left when a load opens another one at the
-/// descriptor. The clause holds for any bytes of the tenant's part (`part`), on which the result does not depend.
+/// Whether the object of a birth is still live: its map is live, or its descriptor names a program. Such a map or program is that of the
+/// birth, although a later object may get the handle or the descriptor: objects end only by closes, and `keep_living`, which calls this,
+/// removes their births after each close, before any other object is opened. The clause holds for any bytes of the tenant's part (`part`),
+/// on which the result does not depend.
 fn lives(tenant: &Tenant, birth: &Birth) -> bool
     ensures { (part : List ℕ) → result ≡ lives_in (state_in part tenant.now) birth.now }
 {

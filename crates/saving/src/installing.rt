@@ -64,7 +64,7 @@ impl SavableTenant {
         command_frames::laws::encoding_inverts_parsing();
         maps_are_held();
         births_are_kept();
-        // Called only for its contract: the instructions are a program.
+        // Called only for its contract: the instructions meet `IsProgram`, so `load_frame` is not too long to be parsed.
         program.program().code();
         match self.tenant.install(alloc, program) {
             Ok(reply) => {

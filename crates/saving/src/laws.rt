@@ -6,8 +6,9 @@ ghost use Rattle.saving.specs.Laws.{MapsAreHeld, AlikeIsBisimulation, AlikeState
 ghost use Rattle.saving.specs.Laws.{RestoredIsAlike, TestRunsHaveFrames, RestoredByFrames, HistoriesAreRestored};
 
 /// A law about the maps of a tenant, a part of the invariant of `SavableTenant`; `births_are_kept` has the part about births. In each state
-/// of a tenant a map is live exactly if a descriptor names it, or names a program that has a reference to it (`HoldsItsMaps`). This holds
-/// for a new tenant (`new`), and each command preserves it, whether memory is refused to the command or not (`kept`).
+/// of a tenant the list of maps has one at a handle exactly if a descriptor names this map, or names a program that has a reference to it
+/// (`HoldsItsMaps`): no other map is kept, and none of these is missing. This holds for a new tenant (`new`), and each command preserves
+/// it, whether memory is refused to the command or not (`kept`).
 pub fn maps_are_held()
     ensures { MapsAreHeld }
 {}
@@ -46,8 +47,10 @@ pub fn births_are_kept()
     maps_are_held();
 }
 
-/// A law: the precondition of restoring a state (`IsRestorable`) holds for a new tenant, and each command preserves it, whether memory is
-/// refused to the command or not. So each state that a tenant reaches can be restored. The body calls laws, for the proof.
+/// A law: the precondition of restoring a state (`IsRestorable`) holds for a new tenant, and each command preserves it, with memory refused
+/// or not. So each state that a tenant reaches can be restored: exactly the maps of open objects are live, their areas fit into the
+/// tenant's part, a creation and updates can make each map again, and each program was accepted with the shapes of its maps. The body calls
+/// laws, for the proof.
 pub fn restorable_is_kept()
     ensures { RestorableIsKept }
 {
@@ -55,11 +58,12 @@ pub fn restorable_is_kept()
     verifier::laws::loaded_maps_have_shapes();
 }
 
-/// A law about the commands that restore a state `s` by the list of its births (`restored`). Suppose that exactly the maps that an open
-/// object of `s` names are live, that their areas are not too large, and that each map and program can be created again (`IsRestorable`).
-/// Then a new tenant to which no memory is refused succeeds at each of these commands. Its state after them is alike to `s` (`IsAlike`): it
-/// differs at most in the handles of maps and in the flag of refused memory. In it, too, exactly the maps that an open object names are
-/// live. The law about the frames of these commands, `restored_by_frames`, follows from this law. The body calls laws, for the proof.
+/// A law about the commands that restore a state `s` by the list of its births (`restored`). Suppose that `s` can be restored
+/// (`IsRestorable`): exactly the maps that an open object of `s` names are live, their areas fit into the tenant's part, a creation and
+/// updates can make each map again, and each program was accepted with the shapes of its maps. Then a new tenant to which no memory is
+/// refused succeeds at each of these commands. Its state after them is alike to `s` (`IsAlike`): it differs at most in the handles of maps
+/// and in the flag of refused memory. In it, too, exactly the maps that an open object names are live. The law about the frames of these
+/// commands, `restored_by_frames`, follows from this law. The body calls laws, for the proof.
 pub fn restored_is_alike()
     ensures { RestoredIsAlike }
 {

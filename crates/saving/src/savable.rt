@@ -48,7 +48,8 @@ impl SavableTenant {
             tenant_state part tenant ≡ new_tenant) }
         ensures births { IfOk result (λ tenant. tenant.births ≡ []) }
     {
-        // For the proof of the invariant: laws, which do nothing.
+        // For the proof of the invariant `IsRecorded`: laws, which do nothing. By their clauses `new`, in a new tenant exactly the maps
+        // that open objects name are live, and the births, none, are those of the state.
         maps_are_held();
         births_are_kept();
         Ok(SavableTenant {
@@ -103,11 +104,12 @@ impl SavableTenant {
         Ok(Some(writer.frames))
     }
 
-    /// How many of the `packets` of a batch may run within `bound`, a number of instructions; the library shortens a batch to these. Each
-    /// run of the program at the descriptor `fd` counts for the most instructions that a run executes, plus `CALL_WEIGHT` of `tenant` times
-    /// the most calls of helpers that a run makes. The result is `bound` divided by this count and rounded down, but at least 1, and never
-    /// more than `packets` (`few`). It is `packets` if `bound` is 0, which means no bound; also if `fd` names no program, since then the
-    /// batch is rejected.
+    /// How many of the `packets` packets of a batch may run within `bound`, a number of instructions; the library for C shortens a batch to
+    /// these. Each run of the program at the descriptor `fd` counts for the most instructions on a path from slot 0 to an exit, plus
+    /// `CALL_WEIGHT` of `tenant` times the most calls of helpers on such a path. The result (`allowed`) is `bound` divided by this count
+    /// and rounded down, but at least 1, so that a caller makes progress with any bound, and never more than `packets` (`few`). It is
+    /// `packets` if `bound` is 0, which means no bound; also if `fd` names no program, since then the batch is rejected. In the contract,
+    /// `self.now.kept` is the tenant without its births, and `named` gives the object that is open at `fd`.
     pub fn allowed_packets(&self, fd: u32, bound: u64, packets: usize) -> usize
         ensures allowed { IsAllowed (named self.now.kept.objects fd) bound packets result }
         ensures few { result ≤ packets }

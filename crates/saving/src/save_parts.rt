@@ -30,7 +30,7 @@ pub(crate) enum SavePart {
 /// The number of keys that the map of a birth has; 0 for the birth of a program. `count_of_parts` and `part_of_birth` divide these keys
 /// among parts of a save. The map of a recorded birth is live; for a map that is not live the result is 0. A save puts each key by one
 /// command (`key_commands`): `count` says that the result is the number of these commands, for any bytes in `part`, the tenant's part of
-/// the arena. `small`: the result fits in 32 bits.
+/// the arena. `small`: the result fits in 32 bits, so that in `part_of_birth` a saturated product is past the last key.
 fn key_count(tenant: &Tenant, birth: Birth) -> usize
     ensures count { (part : List ℕ)
         → result ≡ length (key_commands (state_in part tenant.now) birth) }

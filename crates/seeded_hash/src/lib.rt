@@ -87,7 +87,8 @@ impl BuildHasher for HashSeed {
 
     ghost build_hasher = { hashing.started };
 
-    // Makes the hasher with which a hash by this seed begins (`started`): nothing is written to it, and it has the two words of the seed.
+    // Makes the hasher with which a hash by this seed begins: nothing is written to it, and it has the two words of the seed. By the
+    // trait's contract the result is that of the definition `started`.
     #[inline(always)]
     fn build_hasher(&self) -> SeededHasher {
         SeededHasher {
@@ -118,12 +119,13 @@ impl Hasher for SeededHasher {
         self.state
     }
 
-    // Mixes the bytes into the state by folded products (`written`); `factor` is the second word of the seed. The number of bytes is added
-    // to the state first, since the reads below overlap: bytes of two lengths may be read as the same words, and without their number they
-    // would have the same hash. At most eight bytes are read as one word, which is in both factors of one product, in the second with its
-    // halves exchanged. More bytes take a product for each block of sixteen that does not reach the last byte, one for the last sixteen
-    // bytes, and one more by `factor`. Both ways avoid a hash that is a single product linear in the key: with some seeds, keys that differ
-    // by equal steps would fall into few groups of a hash table.
+    // Mixes the bytes into the state by folded products, with `factor`, the second word of the seed. By the trait's contract the hasher
+    // afterwards is that of the definition `written`. The number of bytes is added to the state first, since the reads below overlap: bytes
+    // of two lengths may be read as the same words, and without their number they would have the same hash. At most eight bytes are read as
+    // one word, which is in both operands of one product, in the second with its halves exchanged. More bytes take a product for each block
+    // of sixteen that does not reach the last byte, one for the last sixteen bytes, and one more, of the result so far and `factor`. Both
+    // ways avoid a hash that is a single product linear in the key: with some seeds, keys that differ by equal steps would fall into few
+    // groups of a hash table.
     #[inline(always)]
     fn write(&mut self, bytes: &[u8]) {
         let len = bytes.len();

@@ -24,8 +24,9 @@ use Rattle.tagged_model.specs.Helpers.{number_given, length_given, map_given, co
 
 -- ---- the number
 
--- `find` returns the first element of xs that passes the test; so if it returns x, x passes it. By
--- this `number_of_found` knows the number of a helper, since the test compares numbers
+-- `find` returns the first element of xs that passes the test; so if it returns x, x passes it. In
+-- `number_of_found`, xs are the known helpers, and the test is whether a helper's number is `id`;
+-- so the helper that is found has the number `id`
 found_passes : {A : Type 0} (test : A → Bool) (xs : List A) (x : A)
     → find test xs ≡ Some x
     → test x ≡ true
@@ -145,10 +146,11 @@ replied s m t reply there change = record {
   maps = changed_at s m t reply.map there change;
 }
 
--- a computation, in a call that begins in state s, takes the value x of the option o and continues
--- with f. If f x is a result that `PermitsAfterCall` permits, which is a fault (None) or a state to
--- which the call may lead, so is the result of the computation. If o is None, this result is a
--- fault. For `call_leaves`
+-- a computation, in a helper's call that begins in state s, takes the value x of the option o and
+-- continues with f. If f x is a result that `PermitsAfterCall` permits, which is a fault (None) or
+-- a state to which the call may lead, so is the result of the computation. If o is None, this
+-- result is a fault. The proof that each helper's call has such a result (`call_leaves`) uses this
+-- for steps that read a register
 then_leaves : {A : Type 0} (s : RunState) (o : Option A) (f : A → Option RunState)
     → ((x : A) → o ≡ Some x → PermitsAfterCall s (f x))
     → PermitsAfterCall s (and_then o f)
@@ -159,7 +161,9 @@ then_leaves s (Some x) f h = h x refl
 -- and empties registers 1 to 5; o is the result of the steps before. If `PermitsAfterCall` permits
 -- o, it permits the result of the call. It permits a fault (None), and each state that has the
 -- context words of s and the maps of s, each as a call may leave it; `returns` changes neither. If
--- o is a fault, so is the call. For the load of bytes in `call_leaves`
+-- o is a fault, so is the call. `call_leaves`, the law of each helper's call, needs this for the
+-- helper `LoadBytes`, which writes bytes of the packet, or zeros, at a pointer: o is the result of
+-- this write
 return_leaves : (s : RunState) (o : Option RunState) (v : Tagged)
     → PermitsAfterCall s o
     → PermitsAfterCall s (and_then o (λ t. Some (returns t v)))

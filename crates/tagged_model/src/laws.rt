@@ -5,9 +5,12 @@ ghost use Rattle.tagged_model.specs.MapLaws.{CallsRefineValues, MapVerdictsMatch
 
 /// A law, the refinement of maps. Take a map from keys to numbers, and a function of these numbers. A second map has the same keys, each
 /// with the function's value for its number. Each operation gives the same result on both maps, with the function's value for a number, and
-/// changes both alike: the creation of a map, a look-up, the verdict on an update or a delete, the next key, a new key, a delete, and the
-/// end of a run. `numbers` is for functions to numbers, as from the number of an object of the tagged machine to its element; `bytes` is
-/// for functions to bytes, as from an element to its value. So a map from keys to elements can be used instead of a map from keys to bytes.
+/// changes both alike: the creation of a map, a look-up, the next key, a new key, a delete, the end of a run, and what a map decides on an
+/// update or a delete. That is an error, or the number of the present key; for an update also that the key is new. `numbers` is for
+/// functions to numbers: the proofs of `call` and `call_in_run` of `bpf_helpers` need it for the function from the number that a map's
+/// value has in the tagged machine to its element. `bytes` is for functions to bytes: the proofs of `look_up`, `update`, `delete` and
+/// `next_key` of `Tenant` need it for the function from an element to the bytes of its value. So a map from keys to elements can be used
+/// instead of a map from keys to bytes.
 pub fn calls_refine_values()
     ensures numbers { CallsRefineValues ℕ ℕ }
     ensures bytes { CallsRefineValues ℕ (List ℕ) }

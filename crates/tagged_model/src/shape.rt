@@ -111,8 +111,9 @@ impl MapShape {
     }
 
     /// Whether a program may load the address of a value without a call, at an offset in bytes: true if the map is an array of one element,
-    /// and the offset lies in its value (linux/bpf.h, BPF_PSEUDO_MAP_VALUE). Such an offset is below `LONGEST_VALUE` (`bound`), so it fits
-    /// an `i32`.
+    /// and the offset lies in its value (linux/bpf.h, BPF_PSEUDO_MAP_VALUE). Such an offset is below `LONGEST_VALUE` (`bound`), since no
+    /// value has more bytes. The verifier's facts have the offset of a pointer into a value as an `i32`: by `bound` the cast to that type
+    /// (`signed_offset` of `transfer`) does not change the offset.
     pub fn has_direct_value(&self, offset: u32) -> bool
         ensures value { result ≡ has_direct_value self.now offset }
         ensures bound { result ≡ true → offset < longest_value }

@@ -107,10 +107,11 @@ allowed bound cost packets = min packets (max 1 (bound / cost))
 -- of the `packets` packets of a batch, n may be run under `bound`, a number of instructions other
 -- than 0 (`IsAllowed` has the case 0, no bound). The first argument is what the batch's descriptor
 -- names. If that is nothing (None) or a map, n is `packets`: the bound excludes no packet, and the
--- batch is rejected for its descriptor instead. If it is a program, n is `bound` divided by the
--- weight of a run and rounded down, but at least 1 and at most `packets` (`allowed`). The weight
--- (`run_weight`) is the most instructions of a run of l, plus CALL_WEIGHT for each of the most
--- calls of helpers (`cost`, by `IsCostOf`)
+-- batch is rejected for its descriptor instead. If it is a program l, n is `bound` divided by the
+-- weight of a run and rounded down, but at least 1, so that a caller makes progress with any bound,
+-- and then at most `packets` (`allowed`). The weight (`run_weight`) is the most instructions on a
+-- path of l from slot 0 to an exit, plus `CALL_WEIGHT` for each of the most calls of helpers on
+-- such a path (`cost`, by `IsCostOf`): a call may take as long as `CALL_WEIGHT` instructions
 abbrev pub IsAllowedBy : Option OpenObject → ℕ → ℕ → ℕ → Type 0
 IsAllowedBy None bound packets n = n ≡ packets
 IsAllowedBy (Some (object.Map handle)) bound packets n = n ≡ packets

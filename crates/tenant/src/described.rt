@@ -57,9 +57,10 @@ impl Described {
         }
     }
 
-    /// Describes a loaded program, for a descriptor that names it: `kind` is `PROGRAM_THERE`, and `slots` the number of slots of its
-    /// instructions, two for a wide one. The other fields, which only a map has, are 0. A program has at most `MAX_SLOTS` slots, so the
-    /// cast keeps their number.
+    /// Describes a loaded program, for a call of the library that asks what a descriptor names (`Host::describe`): `kind` is
+    /// `PROGRAM_THERE`, and `slots` the number of slots of its instructions, two for a wide one. The other fields, which only a map has,
+    /// are 0. The first `program()` lends the verified program, and the second its instructions. A program has at most `MAX_SLOTS` slots,
+    /// so the cast keeps their number.
     fn of_program(program: &LoadedProgram) -> Described
         ensures { result ≡ described_program program.now.insns }
     {

@@ -94,8 +94,9 @@ impl Errno {
     ghost use Rattle.tenant.specs.declared.errno.Errno.TheVariants.{BadAddress};
 
     /// The error of a command whose call of a map fails for this fault (`map_errno`): the one of the same name, and `NoMemory` for
-    /// `Memory`. It is never `BadAddress`, the error of a run that faults (`no_fault`). The clause `writable` of the commands on maps, by
-    /// which a reply can be written, needs this: it allows no such error.
+    /// `Memory`. It is never `BadAddress`, the error of a run that faults (`no_fault`). `write_command_reply` requires that a command's
+    /// error is not `BadAddress` (`IsWritable`), so that no reply reports a fault. The commands `create`, `update` and `delete` of `Tenant`
+    /// return this error, and need `no_fault` for their clause `writable`, which promises `IsWritable`.
     pub(crate) fn of_map(fault: MapFault) -> Errno
         ensures errno { result ≡ map_errno fault }
         ensures no_fault { result ≢ BadAddress }

@@ -32,8 +32,9 @@ pub fn one_reply_list()
 }
 
 /// A law about a result that the machine gives for a command (`Answers`), whether memory is refused to the command or not. If the tenant's
-/// flag of refused memory (`refused`) is clear in the state after it, the machine also gives this result if no memory is refused to the
-/// command: a result that is due to a refusal would have set the flag. `clear_flag_means_alone` is the law for all frames of a tenant.
+/// flag of refused memory (`refused`) is clear in the state after the command, the machine also gives this result if no memory is refused
+/// to the command: a result that is due to a refusal sets the flag. No command clears the flag, so `clear_flag_means_alone` follows for all
+/// frames of a tenant: if the flag is clear after the last frame, it is clear after each command.
 pub fn clear_flag_means_no_refusal()
     ensures { ClearFlagMeansNoRefusal }
 {}
@@ -47,10 +48,12 @@ pub fn clear_flag_means_alone()
 {}
 
 /// A law about commands to which memory is refused. The creation of a map or the load of a program may then have the status `NoMemory`: a
-/// result without payload, which only sets the tenant's flag of refused memory (`refused`). Any other result (status, payload and next
-/// state) of such a command is one that the machine gives it without the refusal. No other command, and none to which memory is not
-/// refused, has the status `NoMemory` or changes the flag. So a load that rejects its program does not have this status. The body calls
-/// laws, for the proof.
+/// result without payload, which only sets the tenant's flag of refused memory (`refused`). The machine gives any other result (status,
+/// payload and next state) of such a command also if memory is not refused to the command. No other command, and none to which memory is
+/// not refused, has the status `NoMemory` or changes the flag. So exactly the results that are due to a refusal have this status. In
+/// particular a load whose program is rejected does not have this status, although the types of the codec's faults and of the verifier's
+/// reasons have a value `Memory`. For the proof the body calls the laws by which no bytes have this fault (`no_memory` of
+/// `at_most_one_fault`), and no program is rejected for this reason (`refused_by_a_rule`).
 pub fn refusals_are_reported()
     ensures { RefusalsAreReported }
 {
@@ -72,8 +75,9 @@ pub fn unrefused_replies_mean_alone()
 {}
 
 /// A law: a reply of the machine with the status -14 (`BadAddress`), that of a test run that faults, has no payload. So a frame has only
-/// one possible reply with this status. `SavableTenant::handle` and `SavableTenant::install` promise that the reply is not this one; from
-/// that and the law, `Host::handle` and `Host::install` conclude that no reply has the status (`no_fault`).
+/// one possible reply with this status. The clause `no_fault` of `SavableTenant::handle` and `SavableTenant::install` excludes only this
+/// reply, which has no payload. From the clause and the law `Host::handle` and `Host::install` conclude that no reply has the status,
+/// whatever its payload (`no_fault`).
 pub fn faults_have_no_payload()
     ensures { FaultsHaveNoPayload }
 {}

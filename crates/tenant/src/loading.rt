@@ -75,11 +75,13 @@ fn maps_named(
 
 impl Tenant {
     /// Makes a loaded program of `program` and the handles of its maps, for a load or an install. The maps get no reference here, but from
-    /// `open_program`. `program` was accepted with what the open descriptors name now, `targets` (`accepted`), and has the list of what
-    /// those of its maps name (`objects`). So these maps are live (`there`) and have the shapes with which `program` was accepted
-    /// (`bound`). The result has the instructions of `program` (`insns`), and is the loaded program that the tenant's machine makes of them
-    /// (`found`). The machine's state, `state_in`, takes the values of maps from `part`, the bytes of the tenant's part of the arena. The
-    /// clauses hold for any bytes, as no value matters for a load. `AllocError`: out of memory.
+    /// `open_program`. By `accepted`, `program` is accepted with the objects that the open descriptors name now (`targets`). By `objects`,
+    /// the list kept with `program` is that of the open descriptors of its maps, each with its object. Each descriptor of its maps names a
+    /// map, by the law `loaded_maps_have_shapes`, and is in `maps_of` only once, by `maps_are_listed`. So its maps are live (`there`), have
+    /// the shapes with which `program` was accepted, and, since no two descriptors name one map, no handle occurs twice (`bound`). The
+    /// result has the instructions of `program` (`insns`), and is the loaded program that the tenant's machine makes of them (`found`). The
+    /// machine's state, `state_in`, takes the values of maps from `part`, the bytes of the tenant's part of the arena. The clauses hold for
+    /// any bytes, as no value matters for a load. `AllocError`: out of memory.
     pub(crate) fn loaded(
         &self,
         alloc: Global,
@@ -132,9 +134,10 @@ impl Tenant {
         }
     }
 
-    /// Opens a program at the lowest free descriptor, and returns this descriptor (`lowest`), which is below `first_descriptor` + `most`
-    /// (`within`). `load` and `install` call it, after they have seen that a descriptor is free (`free`). The program gets a reference to
-    /// each of its maps, which are live (`there`) and have the shapes with which it was accepted (`bound`). By `opened` the tenant's state
+    /// Opens a program at the lowest free descriptor, and returns this descriptor (`lowest`). By `within` the descriptor is at most 66,
+    /// below `first_descriptor` + `most` (`FIRST` and `MOST` of `fd_table`); `load` and `install` need this for their clause `writable`.
+    /// They call this function after they have seen that a descriptor is free (`free`). The program gets a reference to each of its maps,
+    /// which are live (`there`), have the shapes with which it was accepted, and are listed once (`bound`). By `opened` the tenant's state
     /// is changed only at this descriptor, which then names the program; this holds for any bytes of the tenant's part (`part`).
     pub(crate) fn open_program(&mut self, program: LoadedProgram) -> u32
         requires free { is_none (lowest self.old.objects) ≡ false }

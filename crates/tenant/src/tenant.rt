@@ -58,8 +58,8 @@ fn write_at(part: &mut [u8], start: usize, bytes: &[u8])
     part[start..start + bytes.len()].copy_from_slice(bytes);
 }
 
-/// Opens an object at the lowest free descriptor, 3 to 66, and returns this descriptor. Callers have seen that one is free, as is required,
-/// so the table never returns the object as an error.
+/// Opens an object at the lowest free descriptor, 3 to 66, and returns this descriptor. By `within` a reply may have it as its status
+/// (`IsWritable`). Callers have seen that a descriptor is free, as is required, so the table never returns the object as an error.
 pub(crate) fn open(objects: &mut FdTable<OpenObject>, object: OpenObject) -> u32
     requires { is_none (lowest objects.old) ≡ false }
     ensures lowest { lowest objects.old ≡ Some result }
@@ -108,7 +108,7 @@ impl Tenant {
 
     /// The handle of the map that a descriptor names (`found`), for a command on a map. The map is live (`live`), as the functions of
     /// `Maps` require. The error (`fault`) is `BadDescriptor` if the descriptor is not open, `Invalid` if it names a program. `no_fault`:
-    /// never `BadAddress`, the error of a run that faults.
+    /// never `BadAddress`, the error of a run that faults, which no command may return (`IsWritable`).
     fn map_named(&self, fd: u32) -> Result<MapKey, Errno>
         ensures found { IfOk result (IsMapOf self.now fd) }
         ensures live { IfOk result (λ map. IsSome (live_at self.now.live map)) }
@@ -157,7 +157,8 @@ impl Tenant {
 
     /// MAP_LOOKUP_ELEM: the reply with the bytes of the value that `key` has in the map of descriptor `fd`, borrowed from the tenant's
     /// part, which has `PART` bytes. `answer`: the reply or the error is that of the tenant's machine, whose state is unchanged.
-    /// `writable`: the value fits in the payload of a reply, and no error is `BadAddress`, which only a run that faults would have.
+    /// `writable`: the value fits in the payload of a reply, and no error is `BadAddress`, which no reply may report, since only a run that
+    /// faults would have it.
     ///
     /// # Errors
     ///
@@ -182,18 +183,19 @@ impl Tenant {
         Ok(Reply::Value(&part[start..start + shape.value_size as usize]))
     }
 
-    /// MAP_CREATE: creates a map of the shape with these fields, opens it, and returns its descriptor. Its values lie in `part`, the `PART`
-    /// bytes of the tenant (`length`). `kind` is the type in bpf(2), 1 for a hash map and 2 for an array; the sizes are in bytes. `answer`:
-    /// reply and state are those of the tenant's machine, by whether memory is refused (`refused`). `writable`: the reply can be written;
-    /// no error is `BadAddress`, that of a run that faults.
+    /// MAP_CREATE: creates a map of the shape with these fields, opens it, and returns its descriptor. Its values lie in `part`, the
+    /// tenant's part, which has `PART` bytes before and after (`length`). `kind` is the type in bpf(2), 1 for a hash map and 2 for an
+    /// array; the sizes are in bytes. `answer`: the reply, and the state after it, are those of the tenant's machine (`created`) for one of
+    /// the two values of `refused`, which is whether memory is refused to the command. `writable`: the reply can be written; no error is
+    /// `BadAddress`, that of a run that faults.
     ///
     /// # Errors
     ///
-    /// The first that applies: `Invalid` if `kind` is not 1 or 2, `key_size` not 1 to `LONGEST_KEY`, in an array 4, `value_size` not 1 to
-    /// `LONGEST_VALUE`, `max_entries` not 1 to `MOST_ENTRIES`, or a flag is set; `TooBig` if this map's area would have over `LARGEST_AREA`
-    /// bytes; `TooManyOpen` if no descriptor is free; `NoSpace` if no handle is free, or all areas would have over `LARGEST_SUM` bytes;
-    /// `NoMemory` if out of memory for a hash map. After any error no map and no descriptor has changed; `NoMemory` only sets the tenant's
-    /// flag of refused memory.
+    /// The first that applies: `Invalid` if `kind` is not 1 or 2, `key_size` is not 4 for an array or 1 to `LONGEST_KEY` for a hash map,
+    /// `value_size` is not 1 to `LONGEST_VALUE`, `max_entries` is not 1 to `MOST_ENTRIES`, or a flag is set; `TooBig` if this map's area
+    /// would have over `LARGEST_AREA` bytes; `TooManyOpen` if no descriptor is free; `NoSpace` if no handle is free, or all areas would
+    /// have over `LARGEST_SUM` bytes; `NoMemory` if out of memory for a hash map. After any error no map and no descriptor has changed;
+    /// `NoMemory` only sets the tenant's flag of refused memory.
     pub fn create(
         &mut self,
         kind: u32,

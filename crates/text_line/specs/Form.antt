@@ -63,8 +63,9 @@ abbrev pub operand_layout : Bool → SourceOperand → TokenLayout → TokenLayo
 operand_layout wide (source.Number n) rest = constant n rest
 operand_layout wide (source.Reg r) rest = reg wide r ∷ rest
 
--- the tokens (`Some`) of the target of a jump, which ends a line: an offset in slots from the next
--- slot, always after its sign, + or -, or the name `label`. An offset does not use `label`
+-- the tokens of the target of a jump, which ends a line: an offset in slots from the next slot,
+-- always after its sign, + or -, or the name `label`. An offset does not use `label`. In a layout
+-- `Some` is a token, and None a space; `sign` gives a symbol as `Some`, and `word` a name
 abbrev pub destination : JumpTarget → List ℕ → TokenLayout
 destination (target.Number n) label = sign (sign_name n.negative) ∷ Some (number n.magnitude) ∷ []
 destination target.Label label = word label ∷ []

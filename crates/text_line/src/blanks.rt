@@ -3,7 +3,7 @@
 ghost use Rattle.std.specs.Prelude.{◌≡◌};
 ghost use Rattle.text_line.specs.Blanks.{is_blank, skip_blanks, stripped};
 
-/// Whether the byte is a space, a tab or a carriage return.
+/// Whether the byte is a space, a tab or a carriage return: the blanks around tokens and hex lines.
 pub(crate) fn is_blank(byte: u8) -> bool
     ensures { result ≡ is_blank byte }
 {

@@ -311,11 +311,11 @@ impl Form {
         }
     }
 
-    /// The instruction of this form, which is one that a line can have: `insn`, the only caller, has tested the precondition (`IsForm`) by
-    /// `is_possible`. If the form is a jump, also a conditional one, to a label, `distance` is the number of slots from the slot after the
-    /// jump to the label; for any other form it has no effect. `found`: written as a form, the instruction is this one, with `distance` for
-    /// a label, and with 0 for a number that the line has as `-0` (`resolved`). The result is `None` if a number is out of the range of its
-    /// field (`form_fits` is false, `none`), and only then (`fits`).
+    /// The instruction of this form, which is listed: a line can have it (`IsForm`). `insn`, the only caller, has tested this precondition
+    /// by `is_possible`. If the form is a jump, also a conditional one, to a label, `distance` is the number of slots from the slot after
+    /// the jump to the label; for any other form `distance` has no effect. `found`: written as a form, the instruction is `self`, with
+    /// `distance` for a label, and with 0 for a number that the line has as `-0` (`resolved`). The result is `None` if a number is out of
+    /// the range of its field (`form_fits` is false, by `fits`), and only then (`none`).
     fn listed_insn(self, distance: i16) -> Option<Insn>
         requires { IsForm self }
         ensures found { IfSome result (λ insn. written insn ≡ resolved distance self) }

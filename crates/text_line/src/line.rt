@@ -235,7 +235,8 @@ fn branch<'a>(tokens: &[Token<'a>]) -> Option<(Form, &'a str)>
 /// The form of the instruction that the tokens are, and the name of the label to which it jumps: the empty text if it names none, as a jump
 /// by a number of slots. If the first token is none of `if`, `goto`, `gotol`, `call`, `exit` and `lock`, it is the destination register
 /// (`assigned`), or the instruction is a store. `None` if the tokens are no instruction, or more follow. The contract: the definition
-/// `parsed_form` reads the same form and the same name.
+/// `parsed_form` reads the same form and the same name; `seen_destination` and `shown_tokens` replace the borrowed texts of the result and
+/// of the tokens by their bytes.
 #[tactic(auto, unfolding(crate::specs::inside::Reading::parsed_form))]
 fn form<'a>(tokens: &[Token<'a>]) -> Option<(Form, &'a str)>
     ensures { seen_destination result ≡ parsed_form (shown_tokens tokens.now) }

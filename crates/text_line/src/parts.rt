@@ -58,7 +58,8 @@ pub(crate) fn number<'t, 'a>(tokens: &'t [Token<'a>]) -> Option<(Option<u64>, &'
 }
 
 /// The tokens after the first one, if this is the symbol `expected`; `None` if the first token is another symbol, a name or a number, or if
-/// there is none. The contract: the definition `after_symbol` returns the same for these tokens.
+/// there is none. The contract: the definition `after_symbol` returns the same for these tokens; `seen` and `shown_tokens` turn the result
+/// and the tokens of the code into those of definitions.
 #[tactic(auto, unfolding(crate::specs::inside::Reading::after_symbol))]
 pub(crate) fn after_symbol<'t, 'a>(
     tokens: &'t [Token<'a>],
@@ -226,9 +227,10 @@ pub(crate) fn address<'t, 'a>(
 }
 
 /// The value of a wide load, and the tokens after it; the caller reads the `ll` that follows. The value is `map_fd` and a descriptor;
-/// `map_value`, a descriptor, `+` and an offset; or a number. Only a descriptor may have a minus. `None` if the tokens begin with none of
-/// these. A number may be out of its field's range, which `Form::insn` checks. The contract: the definition `leading_wide_value` reads the
-/// same; `shown_tokens` and `seen_pair` convert the tokens and the result to those of definitions.
+/// `map_value`, a descriptor, `+` and an offset; or a number. Only a descriptor may have a minus: its field is signed, so that slots with a
+/// negative descriptor decode, and are printed with a minus; the offset and the number are unsigned. `None` if the tokens begin with none
+/// of these. A number may be out of its field's range, which `Form::insn` checks. The contract: the definition `leading_wide_value` reads
+/// the same; `shown_tokens` and `seen_pair` convert the tokens and the result to those of definitions.
 #[tactic(auto, unfolding(crate::specs::inside::Reading::leading_wide_value))]
 pub(crate) fn wide_value<'t, 'a>(tokens: &'t [Token<'a>]) -> Option<(WideValue, &'t [Token<'a>])>
     ensures { seen_pair result ≡ leading_wide_value (shown_tokens tokens.now) }

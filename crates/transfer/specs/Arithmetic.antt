@@ -54,9 +54,10 @@ abbrev pub moved_offset : Direction → ℤ → ℤ → Option ℤ
 moved_offset Forwards x d = near_offset (x +ℤ d)
 moved_offset Backwards x d = near_offset (x -ℤ d)
 
--- x, a moved offset or pointer, as a result; OffsetTooLarge for None: the new offset would be more
--- than `farthest_offset` bytes from 0, or the range of the number by which the pointer moves has
--- numbers of both signs
+-- the result of moving a pointer: Ok of x, the new offset of a stack pointer or a moved pointer
+-- into a value; OffsetTooLarge for None: the new offset may be more than `farthest_offset` bytes
+-- from 0, or the range of the number by which the pointer moves has numbers of both signs, read as
+-- signed, and so contains 2 ^ 63 - 1, which is too far
 abbrev pub or_too_large : {A : Type 0} → Option A → Result A Reason
 or_too_large None = Err OffsetTooLarge
 or_too_large (Some x) = Ok x
@@ -110,25 +111,27 @@ abbrev pub of_scalars : Bool → Operator → Kind → Kind → Result Kind Reas
 of_scalars wide op (Scalar a) (Scalar b) = Ok (Scalar (range_of (width wide) op a b))
 of_scalars wide op a b = Err PointerArithmetic
 
--- the kind of a 64-bit sum, by the kinds of its operands. Of two numbers (Scalar) it is a number,
--- of the range that `of_scalars` gives. Of a number and a pointer, in either order, it is the
--- pointer moved forwards by the number (`pointer_moved`). PointerArithmetic if neither operand is a
--- number, if one is a number and the other is no pointer to the stack or into a value, or if one is
--- a pointer to the stack and the other a number that is no constant. OffsetTooLarge if the
--- pointer's new offset may be over `farthest_offset` bytes from 0, or if the range of the number
--- has numbers of both signs, read as signed
+-- the kind of a 64-bit sum, by the kinds of its operands. Two numbers (Scalar) give a number, of
+-- the range that `of_scalars` gives for 64 bits (true). A pointer and a number, in either order,
+-- give the pointer moved forwards by the number, which is read as signed (`pointer_moved`). Only a
+-- pointer into a value may be moved and, if the range of the number has only one number, a pointer
+-- to the stack: PointerArithmetic for any other operands. OffsetTooLarge if the pointer's new
+-- offset may be over `farthest_offset` bytes from 0. A pointer into a value and a range with
+-- numbers of both signs give OffsetTooLarge too, since such a range contains 2 ^ 63 - 1
 abbrev pub sum_kind : Kind → Kind → Result Kind Reason
 sum_kind (Scalar a) (Scalar b) = of_scalars true (Binary alu.Add) (Scalar a) (Scalar b)
 sum_kind (Scalar a) b = pointer_moved Forwards b a
 sum_kind a (Scalar b) = pointer_moved Forwards a b
 sum_kind a b = Err PointerArithmetic
 
--- the kind of the 64-bit difference of two operands of these kinds, the first less the second. Two
--- numbers give a number. A number less anything else is PointerArithmetic. Anything else less a
--- number, of range b, is a pointer that the number moves backwards: PointerArithmetic unless the
--- first operand points into a value or, if b is one number, to the stack; OffsetTooLarge if the new
--- offset may be more than `farthest_offset` from 0, or if b has numbers of both signs. If neither
--- is a number, PointerArithmetic
+-- the kind of a 64-bit difference, the first operand minus the second, by their kinds. Two numbers
+-- (Scalar) give a number, of the range that `of_scalars` gives for 64 bits (true). A pointer minus
+-- a number of range b gives the pointer moved backwards by the number, which is read as signed
+-- (`pointer_moved`). Only a pointer into a value may be moved and, if b has only one number, a
+-- pointer to the stack: PointerArithmetic for any other operands, such as a number minus a pointer,
+-- or two pointers. OffsetTooLarge if the pointer's new offset may be more than `farthest_offset`
+-- bytes from 0. A pointer into a value and a b with numbers of both signs give OffsetTooLarge too,
+-- since b then contains 2 ^ 63 - 1
 abbrev pub difference_kind : Kind → Kind → Result Kind Reason
 difference_kind (Scalar a) (Scalar b) = of_scalars true (Binary alu.Sub) (Scalar a) (Scalar b)
 difference_kind (Scalar a) b = Err PointerArithmetic

@@ -68,8 +68,9 @@ abbrev pub lengths_end : ℕ
 lengths_end = 2 ^ 29
 
 -- the range of an argument that a helper requires to be a length, in bytes, from the argument's
--- kind. The error is HelperArgument if the kind is not that of a number, and LengthUnbounded if a
--- number of the range is 0 or not below `lengths_end`
+-- kind. The error is HelperArgument if the kind is not that of a number. It is LengthUnbounded if a
+-- number of the range is 0, since a call with that length is a fault (`length_given`), or is not
+-- below `lengths_end`, 2 ^ 29. So an accepted length fits in 32 bits, as the code requires
 abbrev pub length_range : Kind → Result Range Reason
 length_range (kind.Scalar r) =
     if r.lo == 0 || nat_le lengths_end r.hi then Err LengthUnbounded else Ok r

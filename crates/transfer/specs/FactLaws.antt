@@ -12,7 +12,9 @@ use Rattle.transfer.specs.Sound.{IsKindAt, IsSlotAt, AreWellFormedAt}
 
 -- a kind that is well formed at program slot `at` is well formed at each later slot n. `IsKindAt`
 -- requires of a look-up's result that the look-up was at a lower slot, which then is below n too,
--- and of a number that its range ends below 2 ^ 64, for which the slot does not matter
+-- and of a number that its range ends below 2 ^ 64, for which the slot does not matter. Edges lead
+-- to later slots, so `facts_of_later_slots` needs this law for registers and, by `slot_raised`, for
+-- spilled kinds
 kind_at_later_slot : (at n : ℕ) (k : Kind) → at < n → IsKindAt at k → IsKindAt n k
 kind_at_later_slot at n (kind.Scalar r) lt h = h
 kind_at_later_slot at n (kind.MaybeValue m site) lt h = omega arith

@@ -51,9 +51,10 @@ pub record AreWellFormedAt (n : ℕ) (f : Facts) : Type 0 where
 -- whether an instruction, given as its group (`View` of `insn_set`), takes the edge to its jump's
 -- target in state s. An unconditional jump (`jump`) does. A conditional jump (`branch`) does if its
 -- condition `cond` holds for register `dst` and the operand `src`, a register or a constant, on 64
--- bits (`wide`) or 32. If an operand is an empty register, or a pointer or a map outside a null
--- test, the condition has no value; the result is false, and the step is a fault. An instruction of
--- any other group has no jump, so the result is false
+-- bits (`wide`) or 32. `compared` gets `src` besides its value b, since a pointer or a map can be
+-- compared only with the constant 0 (a null test). If an operand is an empty register, or a pointer
+-- or a map outside a null test, the condition has no value; the result is false, and the step is a
+-- fault. An instruction of any other group has no jump, so the result is false
 abbrev pub jumps_in : View → RunState → Bool
 jumps_in (jump off) s = true
 jumps_in (branch wide cond dst src off) s =

@@ -94,8 +94,9 @@ fn stack_moved(way: Direction, offset: i32, range: Range) -> Result<Kind, Reason
 }
 
 /// `pointer`, a pointer into a value, after it is moved in the direction `way` by a number of bytes from `least` to `greatest`, both
-/// included. `value_moved` calls it with the ends of a number's range, read as signed. Backwards, the greatest number leads to the least
-/// offset. `None` if the least or the greatest offset is then farther than `FARTHEST_OFFSET`, 2^29, from 0.
+/// included. `value_moved` calls it with the ends of a number's range, read as signed. The new `lo` and `hi` are the least and the greatest
+/// offset to which this leads; backwards, the greatest number leads to the least offset. `None` if one of them is farther than
+/// `FARTHEST_OFFSET`, 2^29, from 0. `least` is at most `greatest`, so that the new offsets are in order, as `ValuePointer::new` requires.
 fn value_by(
     way: Direction,
     pointer: ValuePointer,
@@ -163,9 +164,10 @@ pub(crate) fn result_range(wide: bool, op: Operator, a: Range, b: Range) -> Rang
     }
 }
 
-/// The kind of the result of `op` on a first operand of kind `a` and a second of kind `b`, on 64 bits if `wide`, else on 32. If both
-/// operands are numbers, each in a range, the result is a number, in the range that the ranges and `op` give. Otherwise the reason is
-/// `PointerArithmetic`.
+/// The kind of the result of `op` on a first operand of kind `a` and a second of kind `b`, on 64 bits if `wide`, else on 32. Two numbers,
+/// each in a range, give a number, in the range that the ranges and `op` give. `PointerArithmetic` if an operand is no number, even one
+/// that `op` does not read: so `of_scalar` passes its one operand as both, and the first operand of a move is the number 0. An unreadable
+/// operand is rejected before the call, which is not required.
 fn of_scalars(wide: bool, op: Operator, a: Kind, b: Kind) -> Result<Kind, Reason>
     ensures { result ≡ of_scalars wide op a b }
 {

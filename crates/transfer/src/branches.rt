@@ -90,11 +90,12 @@ fn compared(
 }
 
 /// The edges of a comparison of two numbers of 64 bits (`wide`) or 32: register `dst`, in the range `a`, and `src`, a register or a
-/// constant, in the range `b`. On each edge both ranges are refined; the edge is `None` only if it can't be taken. If a register is
-/// compared with itself, no range changes, and both edges count as possible (`Either`), even if the condition never or always holds.
+/// constant, in the range `b`. On each edge both ranges are refined (`refine`); the edge is `None` only if it can't be taken. If a register
+/// is compared with itself, no range changes, and both edges count as possible (`Either`), even if the condition never or always holds.
 /// `edges`: for any facts `f` before the jump, the result has the edges, each with its facts (`edges_of`), that the definition
-/// `number_edges` gives. `stack`: the comparison changes no stack slot. `KeepsStack` takes the facts before it and after it, and both are
-/// `f`: the refined ranges are set only in the facts on an edge.
+/// `number_edges` gives. `stack` is for the proof of `apply`, the transfer function, which promises to change no stack slot in the facts
+/// but those that the flow it returns allows (`KeepsStack`). For a comparison `apply` changes no facts, so `f` is both those before and
+/// those after it: the refined ranges are set only in the facts on an edge.
 #[inline(always)]
 fn compare_numbers(
     wide: bool,
@@ -117,8 +118,10 @@ fn compare_numbers(
 /// The edges of a test whether a pointer or a map, of the kind `pointer`, is null. `condition` is `Equal`, if the jump is taken on null, or
 /// `NotEqual`, if it is taken on not null; the caller has tested this (`is_null_test`), and any other would count as `Equal`. A look-up's
 /// result (`MaybeValue`) may be null, and is settled on both edges. Anything else is not null: then a test for `Equal` never jumps, and one
-/// for `NotEqual` always does. Both clauses hold for any facts `f`. `stack` has `f` twice, as the facts before and after the test: the test
-/// itself changes no stack slot, and what holds on only one edge is in the result.
+/// for `NotEqual` always does. `edges`: for any facts `f` before the test, the result has the edges, each with its facts (`edges_of`), that
+/// the definition `pointer_edges` gives. `stack` is for the proof of `apply`, the transfer function, which promises to change no stack slot
+/// in the facts but those that the flow it returns allows (`KeepsStack`). For a null test `apply` changes no facts, so `f` is both those
+/// before and those after it: copies of a look-up's result, in registers and stack slots, are settled only in the facts on an edge.
 fn test_pointer(condition: Condition, pointer: Kind) -> Flow
     ensures edges { (f : AnyFacts) → edges_of result f ≡ pointer_edges condition f pointer }
     ensures stack { (f : AnyFacts) → KeepsStack result f f }
@@ -149,8 +152,10 @@ fn is_null_test(wide: bool, condition: Condition, src: Operand) -> bool
 /// `PointerComparison` unless both are numbers, or `dst` is no number and this is a null test of it: a comparison of 64 bits with the
 /// constant 0 for `Equal` or `NotEqual`. The caller has rejected operands that may not be read, which the contract does not require. The
 /// result has the edges, and what holds on only one of them; `edges_of` adds `f`, the facts before the jump. For any `f` the edges with
-/// their facts, or the error, are those of the definition `branch_edges` (`ok`, `refused`). The jump changes no stack slot (`stack`):
-/// `KeepsStack` takes the facts before and the facts after, and both are `f`.
+/// their facts, or the error, are those of the definition `branch_edges` (`ok`, `refused`). `stack` is for the proof of the caller `apply`,
+/// which promises to change no stack slot in the facts but those that the flow it returns allows (`KeepsStack`). For a conditional jump
+/// `apply` changes no facts, so `f` is both those before and those after it: refined ranges and settled look-ups are set only in the facts
+/// on an edge.
 #[inline(always)]
 pub(crate) fn branch(
     wide: bool,

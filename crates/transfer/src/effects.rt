@@ -149,14 +149,14 @@ fn check_stored_in_map(value: Kind) -> Result<(), Reason>
 
 /// Updates the facts for a store that writes `size` bytes of a value of the kind `value`, `offset` bytes from an address of the kind
 /// `base`. `store_facts` defines the facts afterwards (`ok`) and the error (`refused`). On the stack, a number makes the stored bytes
-/// written, and a pointer or a map is spilled. Returns the index of the stack slot of the store, 0 to 63 from the lowest, the only one that
-/// may change (`stack`); `None` for a store into the value of a map, which changes no fact. `apply` has found both kinds readable, which
-/// the contract does not require: if the stored value is unreadable, a store to the stack is the error `UnreadableRegister`, and one into a
-/// map is allowed. `named` lists what each open descriptor names. The error is the first that applies, and then no fact has changed
-/// (`stays`). On the stack: the bytes are not in the stack (`OutsideStack`), they are not aligned to the size (`UnalignedStack`), or a
-/// pointer or a map is not stored by eight bytes (`PartOfSpill`). In the value of a map: the bytes may be outside (`OutsideValue`), or a
-/// pointer or a map is stored (`PointerStored`). For any other `base`: `ContextAccess` for the context, `MaybeNull` for a look-up's result
-/// that may be null, else `NotPointer`.
+/// written, and a pointer or a map is spilled. Returns, for the flow that `apply` returns (`flow_after_write`), the index of the stack slot
+/// of the store, 0 to 63 from the lowest, the only one that may change (`stack`); `None` for a store into the value of a map, which changes
+/// no fact. `apply` has found both kinds readable, which the contract does not require: if the stored value is unreadable, a store to the
+/// stack is the error `UnreadableRegister`, and one into a map is allowed. `named` lists what each open descriptor names. The error is the
+/// first that applies, and then no fact has changed (`stays`). On the stack: the bytes are not in the stack (`OutsideStack`), they are not
+/// aligned to the size (`UnalignedStack`), or a pointer or a map is not stored by eight bytes (`PartOfSpill`). In the value of a map: the
+/// bytes may be outside (`OutsideValue`), or a pointer or a map is stored (`PointerStored`). For any other `base`: `ContextAccess` for the
+/// context, `MaybeNull` for a look-up's result that may be null, else `NotPointer`.
 #[inline(always)]
 fn store(
     facts: &mut Facts,
@@ -206,9 +206,10 @@ fn number_or(reason: Reason, value: Kind) -> Result<(), Reason>
 
 /// Updates the facts for an atomic operation on `size` bytes of the stack, at `offset` from its upper end: it loads a number, and stores
 /// one that may be any. `stack_changed` defines the facts afterwards (`ok`) and the error (`refused`). Returns the index of the stack slot
-/// with these bytes, the only one that may change (`stack`). After an error no fact has changed (`stays`). The error is the first that
-/// applies: the bytes are not in the stack (`OutsideStack`), or not aligned to the size (`UnalignedStack`); they are some or all bytes of a
-/// spill, which is a pointer or a map, and so no number (`PartOfSpill`); one of them may be unwritten (`UnwrittenStack`).
+/// with these bytes, the only one that may change (`stack`), for the flow that `apply` returns (`WritesSlot`). After an error no fact has
+/// changed (`stays`). The error is the first that applies: the bytes are not in the stack (`OutsideStack`), or not aligned to the size
+/// (`UnalignedStack`); they are some or all bytes of a spill, which is a pointer or a map, and so no number (`PartOfSpill`); one of them
+/// may be unwritten (`UnwrittenStack`).
 fn change_stack(facts: &mut Facts, offset: i32, size: AccessSize) -> Result<usize, Reason>
     ensures ok { OnOk result (stack_changed facts.old offset size ≡ Ok facts.new) }
     ensures stack { IfOk result (λ slot. ChangesAtMost (Some slot) facts.old facts.new) }
@@ -241,13 +242,13 @@ fn is_known_multiple(pointer: ValuePointer, offset: i16, size: AccessSize) -> bo
 /// Updates the facts for an atomic operation with an operand of the kind `value`, `offset` bytes from an address of the kind `base`.
 /// `atomic_facts` defines the facts afterwards (`ok`) and the error (`refused`). The caller has tested that both kinds may be read. The
 /// contract does not require this: an unreadable address is no pointer, and an unreadable operand is no number. `named` lists the objects
-/// of descriptors. Returns the stack slot that the operation may change, the only one (`stack`); `None` in the value of a map, since no
-/// fact changes. After an error no fact has changed (`stays`). The error is the first that applies. In the stack: the operand is no number
-/// (`PointerArithmetic`); the bytes are not in the stack (`OutsideStack`), or not aligned to the size (`UnalignedStack`); they are only
-/// some bytes of a spill, or a whole spill that is no number (`PartOfSpill`); one may be unwritten (`UnwrittenStack`). In a map's value:
-/// the operand is no number (`PointerArithmetic`); the bytes may be outside (`OutsideValue`); the offset is not known, or no multiple of
-/// the size (`UnalignedAtomic`). For other kinds of `base`: `ContextAccess` for the context, `MaybeNull` for a look-up's result that may be
-/// null, else `NotPointer`.
+/// of descriptors. Returns, for the flow that `apply` returns (`flow_after_write`), the index of the stack slot with the bytes, the only
+/// one that may change (`stack`); `None` in the value of a map, since no fact changes. After an error no fact has changed (`stays`). The
+/// error is the first that applies. In the stack: the operand is no number (`PointerArithmetic`); the bytes are not in the stack
+/// (`OutsideStack`), or not aligned to the size (`UnalignedStack`); they are some or all bytes of a spill, which is a pointer or a map, and
+/// so no number (`PartOfSpill`); one may be unwritten (`UnwrittenStack`). In a map's value: the operand is no number (`PointerArithmetic`);
+/// the bytes may be outside (`OutsideValue`); the offset is not known, or no multiple of the size (`UnalignedAtomic`). For other kinds of
+/// `base`: `ContextAccess` for the context, `MaybeNull` for a look-up's result that may be null, else `NotPointer`.
 fn change(
     facts: &mut Facts,
     named: &[Named],
@@ -336,11 +337,12 @@ fn assign(facts: &mut Facts, dst: Reg, kind: Kind) -> Flow
     Flow::Falls
 }
 
-/// The flow after a store or an atomic operation: which edges lead out of it, and which stack slots it may have changed. It is `WritesSlot`
-/// of `slot` if the instruction may have changed this stack slot and no other. For `None` it is `Falls`: the instruction wrote into a map's
-/// value, and changed no stack slot. `edges`: by either flow only the falling edge leads out, with the facts `f` after the instruction.
-/// `stack`: if the stack slots in the facts `g` after an instruction are those in the facts `f` before it, but for `slot` (`ChangesAtMost`;
-/// registers may differ), the flow allows that (`KeepsStack`).
+/// The flow after a store or an atomic operation: which edges lead out of it, and which stack slots it may have changed. The verifier gives
+/// the group of eight stack slots with such a slot a new number, so that it leaves out no join that would change facts. The flow is
+/// `WritesSlot` of `slot` if the instruction may have changed this stack slot and no other. For `None` it is `Falls`: the instruction wrote
+/// into a map's value, and changed no stack slot. `edges`: by either flow only the falling edge leads out, with the facts `f` after the
+/// instruction. `stack`: if the stack slots in the facts `g` after an instruction are those in the facts `f` before it, but for `slot`
+/// (`ChangesAtMost`; registers may differ), the flow allows that (`KeepsStack`).
 #[inline(always)]
 fn flow_after_write(slot: Option<usize>) -> Flow
     ensures edges { (f : AnyFacts) → edges_of result f ≡ edges_of Falls f }
@@ -472,7 +474,9 @@ fn exit(facts: &Facts) -> Result<(), Reason>
 /// those that hold on each edge out of the instruction. Returns a `Flow`: which edges control may take, and what holds on only one of them,
 /// for example the ranges after a comparison. By `ok` these edges with their facts (`edges_of`) are those of the definition (`effect`). Of
 /// the stack slots in `facts`, a flow `WritesSlot` names the only one that may have changed; after `Writes` any may have, after other flows
-/// none has (`stack`). `named` lists the open descriptors with their objects.
+/// none has (`stack`). By this `verifier` gives new numbers to the groups of eight stack slots that may have changed in `facts`; for
+/// `Settles`, a null test, it gives them to all groups on each edge (`NumberedFacts`). `named` lists the open descriptors with their
+/// objects.
 ///
 /// # Errors
 ///

@@ -11,7 +11,8 @@ use Rattle.insn_set.specs.Flow.{descriptor}
 abbrev pub without : ℕ → List ℕ → List ℕ
 without fd fds = filter (λ other. not (other == fd)) fds
 
--- the descriptors of a list, each once, in the order of their first occurrences: 3, 5, 3 gives 3, 5
+-- the descriptors of a list, each once, in the order of first occurrence: 3, 5, 3 gives 3, 5. So
+-- `maps_of` has a descriptor once, even if several instructions name it
 unfoldable pub distinct : List ℕ → List ℕ
 distinct [] = []
 distinct (fd ∷ fds) = fd ∷ without fd (distinct fds)

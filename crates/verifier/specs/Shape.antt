@@ -67,7 +67,8 @@ names_unknown_helper (names.Value fd off) = false
 abbrev pub calls_unknown : Insn → Bool
 calls_unknown i = names_unknown_helper (profile i).reference
 
--- whether the object that an open descriptor names is a map, of any shape; false for a program
+-- whether the object that an open descriptor names is a map, of any shape; false for a program,
+-- which no instruction may name (`is_not_map`)
 abbrev pub is_map : Target → Bool
 is_map (target.Map shape) = true
 is_map target.Program = false
@@ -108,8 +109,8 @@ abbrev pub leads_backward : Option ℕ → ℕ → Bool
 leads_backward None at = true
 leads_backward (Some n) at = nat_le n at
 
--- the reason of the first condition that holds, in a list of conditions with their reasons; None if
--- none holds
+-- the reason of the first true condition in a list of conditions with their reasons; None if none
+-- is true. So an instruction that breaks several rules has one reason (`shape_reason`)
 abbrev pub first_reason : List (Bool × Reason) → Option Reason
 first_reason [] = None
 first_reason (line ∷ lines) = if line.0 then Some line.1 else first_reason lines

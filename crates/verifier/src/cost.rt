@@ -144,8 +144,10 @@ impl Paths {
     /// Whether a path with at least one instruction leads to the slot that the pass has reached; the instruction at this slot is not
     /// counted. `here` has the most instructions on a path to the slot: by the clause the result is whether this number is above 0. Paths
     /// that end with a jump to the slot are in `here` only once `join` has been called. The result is `false` at slot 0: the only path
-    /// there has no instruction. `is_simple`, which is not given the slot's number, tests by it that the instruction can be reached. So the
-    /// instruction at slot 0 is not simple, and gets all checks of shape, among them `lead_to`, which is true there.
+    /// there has no instruction. `is_simple` finds instructions that have no fault of shape, so that no other check of shape is made of
+    /// them: they can be reached, have only the next instruction of the program as successor, name no helper and no descriptor, and do not
+    /// write the frame pointer. `is_simple` is not given the slot's number, so it tests by this function that the instruction can be
+    /// reached. So the instruction at slot 0 is not simple, and gets all checks of shape, among them `lead_to`, which is true there.
     #[inline(always)]
     pub(crate) fn have_instructions(&self) -> bool
         ensures { result ≡ nat_lt 0 self.now.here.instructions }

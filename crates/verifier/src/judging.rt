@@ -28,13 +28,13 @@ pub(crate) struct Findings {
 }
 
 /// Verifies a program: first its shape, then in one pass its safety. `named` lists the open descriptors and their objects; `check_safety`
-/// receives only those of the program's maps. `working` is memory that verifications can reuse. Returns the descriptors of the maps that
-/// an accepted program loads (`maps`), their objects (`objects`) and the program's cost. The error is the first fault, or out of memory
-/// (`refused`). In the pass `watcher` receives, by slot, the facts before each instruction that a run may reach; `W.seen` has what it has
-/// received, if that is known. If the program is accepted, these are all such facts (`seen`). Otherwise (`seen_refused`) they are none if
-/// the shape has a fault; those up to and with the first instruction that has a fault in the pass; or those below some slot if out of
-/// memory. The facts that a rejected program leaves in `working` are removed, so that the verification of the next program, which may be of
-/// another tenant, does not take longer.
+/// receives only those of the program's maps. `working` is memory that verifications can reuse. Returns the descriptors of the maps that an
+/// accepted program loads (`maps`), their objects (`objects`) and the program's cost. The error is the first fault, or out of memory
+/// (`refused`). In the pass `watcher` receives, by slot, the facts before each instruction that a run may reach; `W.seen` is the list of
+/// the slots and facts that a watcher has received, or `None` if it does not say which. If the program is accepted, `watcher` receives all
+/// such facts (`seen`). Otherwise (`seen_refused`) it receives none if the shape has a fault; those up to and with the first instruction
+/// that has a fault in the pass; or those below some slot if out of memory. The facts that a rejected program leaves in `working` are
+/// removed, so that the verification of the next program, which may be of another tenant, does not take longer.
 pub(crate) fn judge<W: Watcher>(
     alloc: Global,
     program: &Program,

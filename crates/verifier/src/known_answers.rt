@@ -15,11 +15,12 @@ use reg_kinds::Facts;
 use std::alloc::{AllocError, Global};
 use tagged_model::Named;
 
-/// A known result of `TargetFacts::put`, which joins `facts`, those on a jump to `slot`, into the facts that `entries` has for this slot.
-/// If `entries` has facts for no other slot before (`alone`), it has facts for no other slot after, unless the call fails (`OnOk`): facts
-/// are kept once for each target, however many jumps lead to it. `slot` is less than `MAX_SLOTS` (`within`). `put` gives each group of
-/// eight stack slots that the join changes the new number `fresh`, since groups with the same index and number are equal in all facts of a
-/// pass (`NumberedFacts`). The error is out of memory.
+/// A known result: nothing calls this function, and its proof shows what follows from the contract of `TargetFacts::put`, which joins
+/// `facts`, those on a jump to `slot`, into the facts that `entries` has for this slot. If `entries` has facts for no other slot before
+/// (`alone`), it has facts for no other slot after, unless the call fails (`OnOk`): facts are kept once for each target, however many jumps
+/// lead to it. `None` is the entry of a slot without facts. `slot` is less than `MAX_SLOTS` (`within`). `put` gives each group of eight
+/// stack slots that the join changes the new number `fresh`, since groups with the same index and number are equal in all facts of a pass
+/// (`NumberedFacts`). The error is out of memory.
 fn one_entry(
     entries: &mut TargetFacts,
     slot: usize,

@@ -50,8 +50,10 @@ pub fn one_judgement()
 }
 
 /// A law: if the shape of a program has no fault, no instruction is rejected for safety (`safety_fault`) because it calls an unknown helper
-/// (`UnknownHelper`), loads a map by a descriptor that names none (`DescriptorNotMap`), or loads a direct value that the map does not have
-/// (`NoDirectValue`). The check of the shape has excluded these, so a verdict gives these three reasons only for a fault of the shape.
+/// (`UnknownHelper`), loads a map or an address in a map's first value by a descriptor that names no map (`DescriptorNotMap`), or loads
+/// such an address if the map is no array of one element, or its value has no byte at the offset (`NoDirectValue`). The transfer function
+/// tests these conditions again, but the check of the shape has excluded them, so a verdict gives these three reasons only for a fault of
+/// the shape.
 pub fn safety_follows_shape()
     ensures { SafetyFollowsShape }
 {
@@ -59,9 +61,9 @@ pub fn safety_follows_shape()
 }
 
 /// A law: each descriptor by which an accepted program loads a map, or an address in a map's first value, names a map, and so has a shape.
-/// `named`: the list of open descriptors and their objects with which the program was accepted gives this shape. `kept`: so does the list
-/// that is kept with the program, which has only the items of that list for the program's own maps (`shapes_of`). A load (`loaded` of
-/// `tenant`) needs the law to find each of these maps.
+/// The list of all open descriptors and their objects with which the program was accepted gives this shape (`named`). The function
+/// `shapes_of` gives one too (`kept`): it looks only at the items of this list for the program's own maps. The program keeps these items,
+/// each a descriptor with its object. A load (`loaded` of `tenant`) needs the law to find each map of the program.
 pub fn loaded_maps_have_shapes()
     ensures { LoadedMapsHaveShapes }
 {}
@@ -80,10 +82,12 @@ pub fn same_shapes_are_accepted()
     ensures { SameShapesAreAccepted }
 {}
 
-/// A law of one step: take a program whose shape has no fault, and a state at a slot at which an instruction begins. The facts before the
-/// slot describe the state (`Describes`): they admit it, its numbers are in range, and each descriptor of the program's maps has a map of
-/// its shape. They also let the instruction be run (`effect`). Then the machine has a step. If this ends the run, the result has 32 bits;
-/// else the facts on the edge that the step takes describe the next state.
+/// A law, the soundness of one step. Take a program whose shape has no fault with the open descriptors and objects in `named`, a state at a
+/// slot at which an instruction begins, and the facts before this slot. The facts describe the state (`Describes`): they admit it, its
+/// bytes are below 256, its eleven context words are below 2^32, and by each descriptor of the program's maps it has a map of the shape
+/// that `named` gives. They also allow the instruction: the transfer function (`effect`) returns the facts on its edges, no error. Then the
+/// machine has a step. If this ends the run, the result has 32 bits; else the facts on the edge that the step takes describe the next
+/// state, maybe by another witness. The proof of `steps_go_on` applies this to each step.
 pub fn step_is_sound()
     ensures { StepIsSound }
 {
@@ -92,9 +96,10 @@ pub fn step_is_sound()
 }
 
 /// A law, for an accepted program: if the facts before a state's slot describe the state (`IsAdmitted`), its step is no fault. Facts
-/// describe a state if they admit it by some witness, its numbers are in range, and each descriptor of the program's maps has a map of its
-/// shape. After the step either the run has ended with a result of 32 bits, or the next state is at a later slot, and the facts before that
-/// slot describe it. `accepted_programs_never_fault` applies this to one step after another. The body calls the laws from which it follows.
+/// describe a state if they admit it by some witness, its bytes are below 256, its eleven context words are below 2^32, and by each
+/// descriptor of the program's maps it has a map of the shape with which the program is accepted. After the step either the run has ended
+/// with a result of 32 bits, or the next state is at a later slot, and the facts before that slot describe it.
+/// `accepted_programs_never_fault` applies this to one step after another. The body calls the laws from which it follows.
 pub fn steps_go_on()
     ensures { StepsGoOn }
 {

@@ -70,7 +70,7 @@
 //!   group also has the number of the last group that was joined into it, and a second join with that group is skipped, since it would
 //!   change nothing. New numbers are computed from the slot of the instruction, so no counter is needed. bench/FIGURES.md has the costs.
 //!   With one number for the whole stack, a byte stored before each jump cost a join of all slots (1,075 machine instructions a slot, now
-//!   700). Not used: copying and joining the stack only from its lowest written slot on (half the cost with few slots written, 3 to 15%
+//!   670). Not used: copying and joining the stack only from its lowest written slot on (half the cost with few slots written, 3 to 15%
 //!   more with all 64).
 //! - What most instructions pass through is inlined by attributes (`apply` and four functions of `transfer`, `leave_by`): LLVM inlines a
 //!   large function by itself only if it has one caller, and in the library the log calls these too. Without the attributes a load there

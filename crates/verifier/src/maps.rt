@@ -41,7 +41,7 @@ fn add_at(maps: &mut Vec<u32>, program: &Program, slot: usize) -> Result<(), All
 }
 
 /// Whether the instruction loads, by a descriptor, a map or an address in a map's first value. `loaded_maps` calls `add_at` only for the
-/// slots of which this is true.
+/// slots of which this is true. For any other slot `add_at` would append nothing, so such a slot costs only this test.
 fn names_map(insn: &Insn) -> bool
     ensures { result ≡ is_some (descriptor insn.now) }
 {

@@ -122,10 +122,10 @@ fn leave_comparison(
 /// `jumps_on_null`, its result is null on the jumping edge and not null on the falling edge, else the opposite. Then `hand` has the facts
 /// on the falling edge (`falls`). Those on the jumping edge are made in `taken`, a buffer whose old facts mean nothing, and joined into the
 /// facts that `entries` has for `target` (`sent`); for `None`, a jump to below slot 0, nothing is joined. A target is a slot of the program
-/// (`lands`), since the program's shape has no fault. A null test may change any group of eight stack slots, so all get a new number: `8 *
-/// slot + 4` on the jumping edge, `+ 5` on the falling edge. Groups that the join changes at the target get `+ 6`. In all facts of a pass,
-/// groups with the same index and number are equal: by this a later join that would change nothing is recognized, and left out. The error
-/// is out of memory.
+/// (`lands`), since the program's shape has no fault. A null test may change any group of eight stack slots, so all get a new number:
+/// `8 * slot + 4` on the jumping edge, `+ 5` on the falling edge. Groups that the join changes at the target get `+ 6`. In all facts of a
+/// pass, groups with the same index and number are equal: by this a later join that would change nothing is recognized, and left out. The
+/// error is out of memory.
 fn leave_null_test(
     hand: &mut NumberedFacts,
     entries: &mut TargetFacts,
@@ -320,11 +320,12 @@ impl Pass {
     /// `falling` has those before the instruction. If it has none, no run reaches the instruction, and nothing is done. Otherwise the
     /// watcher gets these facts (`seen`). Then `falling` has the facts on the falling edge, or none if this edge can't be taken. Those on
     /// the jumping edge, if it can be taken, are joined into those that `entries` has for the jump's target (`past`), a slot of the
-    /// program, as its shape has no fault (`lands`). `taken` is space for the facts on the jumping edge of a null test; no clause is about
-    /// it. `Ok`: the instruction may be run with the facts before it (`ok`). The error (`refused`) is why it may not, after the watcher got
-    /// the facts (`SeesFault`), or out of memory, whether the watcher got them or not (`StopsWatching`). `named` has the program's maps.
-    /// Each group of eight stack slots that changes gets a new number, at most `8 * slot + 6`, by which a join finds equal groups. By
-    /// `room` the number does not overflow.
+    /// program, as its shape has no fault, and so below `MAX_SLOTS` (`lands`). `taken` is space for the facts on the jumping edge of a null
+    /// test; no clause is about it. `Ok`: the instruction may be run with the facts before it (`ok`). The error (`refused`) is why it may
+    /// not, after the watcher got the facts (`SeesFault`), or out of memory, whether the watcher got them or not (`StopsWatching`). `named`
+    /// lists the descriptors of the program's maps, each with the shape of its map, and no other open descriptor. Each group of eight stack
+    /// slots that changes gets a new number, at most `8 * slot + 6`, by which a join finds equal groups. By `room` the number does not
+    /// overflow.
     #[inline(always)]
     fn run_past_if_reached<W: Watcher>(
         &mut self,
@@ -362,14 +363,16 @@ impl Pass {
 
     /// Takes the pass past `insn`, the instruction at `slot`. First the facts on jumps to `slot` are joined into `falling`, which has the
     /// facts on the falling edge to `slot`. Then `run_past_if_reached` passes the joined facts (`arriving_at`) to the watcher (`seen`),
-    /// leaves the facts on the falling edge out of `insn` in `falling`, and joins those on the jumping edge into the facts that `entries`
-    /// has for the jump's target, a slot of the program (`lands`); those of no other later slot change (`sent`). Without joined facts no
-    /// run reaches `insn`, and nothing is done. If there is no error, `insn` may be run with the joined facts (`ok`). The error (`refused`)
-    /// is why it may not, after the watcher got the joined facts, or out of memory, before or after that. `named` has the program's maps.
-    /// By `numbered`, groups of eight stack slots with the same index and number are equal in all these facts (`NumberedFacts`), and all
-    /// numbers are below `8 * slot + 2`. So the numbers that this step gives, from that one on, are new. They are below the bound of the
-    /// next slot, for which the clause holds again. By the numbers, a join leaves out a group if it was the last one joined; by `absorb` a
-    /// second join with it would change nothing.
+    /// replaces them in `falling` by those on the falling edge out of `insn`, if any (clause `falling`), and joins those on the jumping
+    /// edge into the facts that `entries` has for the jump's target, a slot of the program, so below `MAX_SLOTS` (`lands`); those of no
+    /// other later slot change (`sent`). Without joined facts no run reaches `insn`, and nothing is done. If there is no error, `insn` may
+    /// be run with the joined facts (`ok`). The error (`refused`) is why it may not, after the watcher got the joined facts, or out of
+    /// memory, before or after that. `named` lists the open descriptors of the program's maps, each with its object, and no other
+    /// descriptor. By `numbered`, groups of eight stack slots with the same index and number are equal in all these facts
+    /// (`NumberedFacts`), and all numbers are below `8 * slot + 2`. So the numbers that this step gives, from that one on, are new. They
+    /// are below the bound of the next slot, for which the clause holds again. For each group, `includes` has the number of the group that
+    /// was joined into it last, or 0, which no group has, if none was since an instruction may have changed the group. A join leaves out a
+    /// group with the number in `includes`: by `absorb`, a second join of a stack slot with what was joined into it last changes nothing.
     fn step<W: Watcher>(
         &mut self,
         named: &[Named],
@@ -404,11 +407,11 @@ impl Pass {
 
 /// Finds the first instruction that may not be run with the facts before it, in one pass over the slots. `Ok` if there is none, so no slot
 /// has a fault of safety (`sound`). The error is the slot of this instruction with the reason, or out of memory, at slot 0. `named` has the
-/// objects that the descriptors of the program's maps name, and `pass` is memory for the facts. The second slot of a wide
-/// instruction is passed with it. The watcher receives the facts before each instruction that a run may reach, by slot, in addition
-/// to what it had (`W.seen`). After `Ok` it has received all of them (`seen`); after a fault those up to the slot of the fault, with this
-/// one; if out of memory, those below some slot (`refused`). No jump leads past the end (`JumpsLand`): the caller has checked the shape.
-/// The three laws do nothing when they run; the proof needs them.
+/// objects that the descriptors of the program's maps name, and `pass` is memory for the facts. The second slot of a wide instruction is
+/// passed with it. The watcher receives the facts before each instruction that a run may reach, by slot, in addition to what it had
+/// (`W.seen`). After `Ok` it has received all of them (`seen`); after a fault those up to the slot of the fault, with this one; if out of
+/// memory, those below some slot (`refused`). No jump leads past the end (`JumpsLand`): the caller has checked the shape. The three laws do
+/// nothing when they run; the proof needs them.
 pub(crate) fn check_safety<W: Watcher>(
     program: &Program,
     named: &[Named],

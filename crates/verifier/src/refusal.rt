@@ -60,7 +60,8 @@ impl From<VerifyFault> for Refusal {
     ghost from_gives = { λ fault refusal. refusal ≡ refusal_of_program fault };
 
     /// The refusal of slots that decode to a program, if this program breaks a rule of the verifier. Its slot is that of the verifier's
-    /// fault, and its cause is the fault's reason (`Verdict`).
+    /// fault, and its cause is the fault's reason (`Verdict`). Out of memory (`Memory`) is no rule: for this fault `verify_slots` and the
+    /// log return an `AllocError`, and no refusal.
     fn from(fault: VerifyFault) -> Refusal {
         Refusal {
             slot: fault.slot,

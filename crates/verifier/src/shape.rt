@@ -201,8 +201,8 @@ fn check_and_count(
 /// neither above `MAX_SLOTS` (`few`), so no count overflows, and by `room` no number of a slot; `slot` is reachable exactly if it is 0 or
 /// these paths have an instruction (`reached`). `jumping` has, for each slot of the program (`long`), the most on the paths that end with a
 /// jump there. Without a fault (`fine`) the instruction is added to these counts (`added`): the new ones are joined into those of its
-/// target in `jumping`, where of each count the greater is kept, and `paths` has them along the falling edge, or 0 for both (`NO_COUNTS`)
-/// if there is none.
+/// target in `jumping` (of each count the greater is kept), and `paths` has them along the falling edge, or 0 for both (`NO_COUNTS`) if
+/// there is none.
 #[inline(always)]
 fn check_jump(
     program: &Program,

@@ -187,8 +187,9 @@ impl TargetFacts {
     /// Joins `facts`, those on a jump to `slot`, into the entry of this slot, which has the join of the facts on the jumps there so far; an
     /// empty entry gets a copy of `facts`. No other slot's entry changes (`IsPut`). `slot` is a slot of a program, so less than
     /// `MAX_SLOTS`; the list grows until it has an entry for it. Each group of eight stack slots that the join changes gets the number
-    /// `fresh`, which is new in the pass. So groups with the same index and the same number are equal in all facts of the pass, and a join
-    /// with a group that has the number of the group joined last is left out (`NumberedFacts`). The error is out of memory.
+    /// `fresh`, which is new in the pass. So groups with the same index and the same number are equal in all facts of the pass
+    /// (`NumberedFacts`). If a group in `facts` has the number of the group that was joined last into the entry's group of this index, it
+    /// equals the group that was joined then, so a second join would change nothing, and is left out. The error is out of memory.
     pub(crate) fn put(
         &mut self,
         slot: usize,

@@ -140,9 +140,10 @@ before bytes rest offset from n h k =
     (drop (offset - from) (drop from bytes)) less)
     ∙ ap (take n) (take-append-drop (offset - from) (drop from bytes))
 
--- if the bytes `new` are written at `offset`, and each of them is before `from`, the list is not
--- changed from `from` on. It is assumed that the write begins in the list or at its end
--- (`offset ≤ length bytes`); it may make the list longer
+-- if the bytes `new` are written at `offset` (`written_at`), and each of them is before `from`, the
+-- list is not changed from `from` on. It is assumed that the write begins in the list or at its end
+-- (`offset ≤ length bytes`); it may make the list longer. `bytes_stay` needs this for bytes after a
+-- write
 rest_after_write : (bytes new : List ℕ) (offset from : ℕ)
     → offset + length new ≤ from
     → offset ≤ length bytes
@@ -360,9 +361,11 @@ number_below (b ∷ bytes) small =
     below_more : (b n x : ℕ) → b < 256 → x < 256 ^ n → b + 256 * x < 256 ^ suc n
     below_more b n x h g = omega arith
 
--- if each byte of a list is below 256, the number that the list represents (`number_of`) and the
--- length of the list determine it: the low bytes of the number (`low_bytes`), as many as the list
--- has, are the list. The lowest byte is the first of the list
+-- if each byte of a list is below 256, the low bytes (`low_bytes`) of the number that the list
+-- represents (`number_of`), as many as the list has, are the list. The lowest byte is the first of
+-- the list. So the number and the length determine the list: `WordIndex` of `bpf_maps` can keep a
+-- key of at most eight bytes as its number, and `copy_double` of `arena` can copy eight bytes as
+-- one number
 pub low_bytes_of_number : (bytes : List ℕ)
     → ((i : ℕ) → i < length bytes → get_or bytes i 0 < 256)
     → low_bytes (length bytes) (number_of bytes) ≡ bytes

@@ -20,8 +20,9 @@ fn words_of_64_bits() {
     prove!(above);
 }
 
-/// On 32 bits: the remainder of a division by 0 is the low half of the dividend, a shift by 33 is one by 1, 0 less 1 is 2^32 - 1, and words
-/// with equal low halves are equal.
+/// A test of the contracts of `words32`, never called: each `prove!` has to follow from the contract of the call before it. A remainder by
+/// 0 is the low half (32 bits) of the dividend, a shift by 33 is one by 1, 0 less 1 is 2^32 - 1, and words with equal low halves compare as
+/// equal.
 fn words_of_32_bits() {
     let remainder = words32::operate(Operator::Binary(AluOp::Mod), 0xffff_ffff_0000_0007, 0);
     prove!(remainder == 7);

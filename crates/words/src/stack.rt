@@ -28,7 +28,7 @@ impl AccessSize {
     ghost use Rattle.std.specs.Prelude.{◌≡◌};
     ghost use Rattle.words.specs.Stack.{bytes_of, is_double};
 
-    /// The number of bytes: 1, 2, 4 or 8.
+    /// The number of bytes of a load or a store: 1, 2, 4 or 8.
     pub fn bytes(self) -> u8
         ensures { result ≡ bytes_of self }
     {

@@ -49,7 +49,7 @@ pub fn divide(a: u64, b: u64) -> u64
     }
 }
 
-/// The unsigned remainder of the low halves; the low half of `a` if the divisor is 0.
+/// The remainder when the low half of `a` is divided by that of `b`, both unsigned; the low half of `a` if that of `b` is 0.
 #[inline(always)]
 pub fn remainder(a: u64, b: u64) -> u64
     ensures { result ≡ remainder (low 32 a) (low 32 b) }
@@ -267,9 +267,10 @@ pub fn common_bit(a: u64, b: u64) -> bool
     low_word(a) & low_word(b) != 0
 }
 
-/// The result of an operator of two operands on the low halves of two words: `a` has the destination's value, `b` the source's, and 32 in
-/// the contract is the width. A quotient by 0 is 0, and a remainder by 0 is the low half of `a`. The signed quotient of -2^31 by -1 wraps
-/// to -2^31. A shift is by `b % 32` bits, and a move does not read `a`.
+/// The result of an operator of two operands (`Binary` of `Operator`) on the low halves of two words: `a` has the destination's value, `b`
+/// the source's, and 32 in the contract is the width. The upper half of the result is zero. A quotient by 0 is 0, and a remainder by 0 is
+/// the low half of `a`. The signed quotient of -2^31 by -1 wraps to -2^31, and the remainder is 0. A shift is by `b % 32` bits. A move
+/// returns the low half of `b` and does not read `a`.
 #[inline(always)]
 pub fn alu(op: AluOp, a: u64, b: u64) -> u64
     ensures { result ≡ operate 32 (Binary op) a b }

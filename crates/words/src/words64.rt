@@ -146,8 +146,9 @@ pub fn sign_extend(from: ExtendedBits, a: u64) -> u64
     }
 }
 
-/// The low `bits` bits of `a` in another byte order, on a little-endian machine: to little-endian they are unchanged, to big-endian (`Big`)
-/// and by a swap (`Swap`) their bytes are reversed. The higher bits of the result are zero.
+/// The low `bits` bits of `a`, converted or swapped (`how`); the higher bits of the result are zero. Loads and stores of a run are
+/// little-endian, so to little-endian (`Little`) the low bits are unchanged, and to big-endian (`Big`) their bytes are reversed. A swap
+/// (`Swap`) reverses them on a machine of either byte order, so here its result is that of `Big`.
 #[inline(always)]
 pub fn byte_order(how: ByteOrder, bits: KeptBits, a: u64) -> u64
     ensures { result ≡ byte_order how bits a }

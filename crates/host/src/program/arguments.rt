@@ -51,8 +51,9 @@ fn tenant_count(digits: &str) -> Option<usize>
     }
 }
 
-/// The subcommand `serve` for clap, with the required option `--tenants`. The option has a value, the number of tenants, but clap takes any
-/// text. The contract: clap gets the subcommand of the definition (`serve_command`). `AllocError`: out of memory.
+/// The subcommand `serve`, as `parse_arguments` gives it to clap, with the required option `--tenants`. The option has a value, the number
+/// of tenants, but clap takes any text: `tenants_given` reads the number. By the clause the subcommand's settings and options, which
+/// `app_of` of clap's definitions gives, are those of `serve_command`. `AllocError`: out of memory.
 fn serve_subcommand<'a>(alloc: Global) -> Result<Command<'a>, AllocError>
     ensures { IfOk result (λ command. app_of command ≡ serve_command) }
 {
@@ -74,8 +75,10 @@ fn verify_subcommand<'a>(alloc: Global) -> Result<Command<'a>, AllocError>
 }
 
 /// Parses the arguments, those after the program's name, with clap: a subcommand, `serve`, `asm`, `dis` or `verify`, is required. `given`:
-/// the result has the subcommand and what is given to its options (`chosen_subcommand`). `kinds`: `Err` has a kind of error that clap's
-/// definition gives for these arguments (`refusal_kinds`), or that of out of memory; the result is `Ok` only if the definition gives none.
+/// the result has the subcommand's name, and what is given to its options and arguments (`subcommand_rows_of`), as the definition
+/// `chosen_subcommand` has them. A row is the name of one option or argument with its values. `kinds`: `Err` has a kind of error that
+/// clap's definition gives for these arguments (`refusal_kinds`), or that of out of memory; the result is `Ok` only if the definition gives
+/// none.
 fn parse_arguments<'a>(
     alloc: Global,
     arguments: &'a [&'a str],
@@ -94,9 +97,10 @@ fn parse_arguments<'a>(
     program.try_get_matches_from(arguments)
 }
 
-/// The number of tenants that the option `--tenants` gives; `serve` is what clap has found for the options of the subcommand `serve`
-/// (`rows_of`). `None` if the text of the option (`tenants_value`) is no decimal number from 1 to `MOST_TENANTS` (`tenant_number`): then
-/// the program ends with `WrongArguments`. Also `None` without the option, but clap rejects such arguments before.
+/// The number of tenants that the option `--tenants` gives. `serve` is clap's result for the subcommand `serve`. It has an entry for each
+/// option that clap has found (`found_of`); clap's definitions have an entry as a row (`rows_of`), the option's name with its values.
+/// `None` if the text of the option (`tenants_value`) is no decimal number from 1 to `MOST_TENANTS` (`tenant_number`): then the program
+/// ends with `WrongArguments`. Also `None` without the option, but clap rejects such arguments before.
 fn tenants_given(serve: &ArgMatches<'_>) -> Option<usize>
     ensures { result
         ≡ option_and_then tenant_number (tenants_value (rows_of (found_of serve.now))) }
@@ -104,11 +108,11 @@ fn tenants_given(serve: &ArgMatches<'_>) -> Option<usize>
     tenant_count(serve.get_str("tenants")?)
 }
 
-/// The task of the subcommand `name`; `options` is what clap has found for the options and arguments of this subcommand (`rows_of`).
-/// `asked`: the result, with the task as the definitions have it (`asked_by`), is what they give for this name and these options
-/// (`asked_with`). `None` if the `--tenants` of `serve` is no decimal number from 1 to `MOST_TENANTS`, so a task to serve has such a number
-/// (`tenants`). `None` too if `--tenants` is missing or `name` is no subcommand: clap rejects both before. The map arguments of `verify`
-/// are not parsed here.
+/// The task of the subcommand `name`; `options` is clap's result for this subcommand. It has an entry for each option or argument that clap
+/// has found (`found_of`); clap's definitions have an entry as a row (`rows_of`), a name with its values. `asked`: the result, with the
+/// task as the definitions have it (`asked_by`), is what they give for this name and these rows (`asked_with`). `None` if the `--tenants`
+/// of `serve` is no decimal number from 1 to `MOST_TENANTS`, so a task to serve has such a number (`tenants`). `None` too if `--tenants` is
+/// missing or `name` is no subcommand: clap rejects both before. The map arguments of `verify` are not parsed here.
 fn task_named<'m, 'a>(name: &str, options: &'m ArgMatches<'a>) -> Option<Task<'m, 'a>>
     ensures tenants { IfSome result HasTenants }
     ensures asked { option_map asked_by result

@@ -12,10 +12,10 @@ use host_core::{HashSeed, MOST_FRAMES, Sink, Source, serve_new_host};
 use std::alloc::Global;
 
 /// Serves the frames of `reader`, at most `MOST_FRAMES`, on a new host of 1 to `MOST_TENANTS` tenants (`some`, `few`), and writes the
-/// replies to `writer`. The keys of hash maps are hashed with `seed`. `reads`, `writes`: fewer than 2^64 - 1 calls of each stream have
-/// failed before. By `ServesNewHost` the promise of `serve` (`host_core`) holds from new tenants and the streams before the call (the first
-/// `stream_state`) to the streams after it and some `states` of the tenants (the second). These states are not returned, since the host is
-/// freed; nor is the number of frames, which no caller needs.
+/// replies to `writer`. The keys of hash maps are hashed with `seed`. Fewer than 2^64 - 1 calls of each stream have failed before (`reads`,
+/// `writes`), so that the count of failed calls fits in 64 bits. By `ServesNewHost` the promise of `serve` (`host_core`) holds from new
+/// tenants and the streams before the call (the first `stream_state`) to the streams after it and some `states` of the tenants (the
+/// second). These states are not returned, since the host is freed; nor is the number of frames, which no caller needs.
 ///
 /// # Errors
 ///

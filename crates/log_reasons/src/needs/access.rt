@@ -174,10 +174,12 @@ fn unwritten_ends(facts: &Facts, first: i64, last: i64) -> (i64, i64) {
     (lowest.unwrap_or(first), highest)
 }
 
-/// Writes why an instruction or a helper may not read the stack bytes from `first` to `last`, offsets from the stack's upper end: some may
-/// be unwritten (`UnwrittenStack`). The text begins with the range from the first byte that may be unwritten to the last one, as
-/// `bytes -8 to -5 of the stack`; bytes between the two may be written. Then follows why bytes of this range are missing (`write_way`), as
-/// `were never written` or `are lost at slot 4`.
+/// Writes why the rejected instruction of `refusal`, or the helper that it calls, may not read the stack bytes from `first` to `last`,
+/// offsets from the stack's upper end: by the facts before this instruction some of them count as unwritten (`UnwrittenStack`). The text
+/// begins with the range from the first such byte to the last one, as `bytes -8 to -5 of the stack`; bytes between the two may be written.
+/// Then follows why bytes of this range count as unwritten (`write_way`), as `were never written`, or as `are lost at slot 4`: a write
+/// there ends a spill, a pointer or a map that is whole in a stack slot, and the bytes of the spill that are not certainly overwritten
+/// count as unwritten.
 pub(crate) fn write_unwritten(
     text: &mut String,
     refusal: &RefusedProgram<'_>,
@@ -296,10 +298,11 @@ fn write_context(text: &mut String, access: Access) -> Result<(), AllocError> {
     write!(text, "where words of 4 bytes are read at 0, 4, .. {last}")
 }
 
-/// Writes the kind of the register `given` by `facts`, those before the rejected instruction, and then `needed`, which says that a number
-/// is required, as `r2 is context, and numbers alone are stored in a value`. The instruction is a store into a map's value, which writes
-/// this register, or an atomic operation, which computes with it. `given` is `None` for a store of a constant; then nothing is written.
-/// This can't occur: the fault is that what is stored, or computed with, is no number.
+/// Writes why a register's value is rejected: the register and its kind in `facts`, those before the rejected instruction, and then
+/// `needed`, which says that a number is required, as `r2 is context, and numbers alone are stored in a value`. The register has the number
+/// `given`: the instruction is a store into a map's value, which writes the register's value there, or an atomic operation, which computes
+/// with it. `given` is `None` if a store writes a constant; then nothing is written to `text`. `None` can't occur here: the instruction is
+/// rejected because what is stored, or computed with, is no number.
 fn write_given(
     text: &mut String,
     facts: &Facts,
@@ -369,10 +372,13 @@ fn write_stack_need(
 }
 
 /// Appends to `text`, by the reason of the refusal, what is known of `access`, the access of the rejected instruction, and what the broken
-/// rule requires. `first` and `last` are the first and the last byte that it may touch, as offsets. `access.given` is the register whose
-/// value a store writes, or with which an atomic operation computes. The reasons `UnalignedAtomic` and `OutsideValue` are only those of
-/// accesses to a map's value, so the base register then points into a value. The last arm has the four reasons of an access to the stack:
-/// `OutsideStack`, `UnalignedStack`, `UnwrittenStack` and `PartOfSpill`. `AllocError`: out of memory for the text.
+/// rule requires. `refusal` has the reason, the facts before the instruction, and in `named` the open descriptors with their objects, and
+/// so the size of a map's value. `first` and `last` are the first and the last byte that the access may touch, as offsets from the stack's
+/// upper end or from the start of a value. They are used only if the base register points into the stack or into a value; `touched` also
+/// returns two numbers for any other kind. `access.given` is the register whose value a store writes, or with which an atomic operation
+/// computes. The reasons `UnalignedAtomic` and `OutsideValue` are only those of accesses to a map's value, so the base register then points
+/// into a value. The last arm has the four reasons of an access to the stack: `OutsideStack`, `UnalignedStack`, `UnwrittenStack` and
+/// `PartOfSpill`. `AllocError`: out of memory for the text.
 fn write_access_need(
     text: &mut String,
     refusal: &RefusedProgram<'_>,

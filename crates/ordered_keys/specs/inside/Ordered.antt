@@ -6,7 +6,8 @@ use Rattle.ordered_keys.specs.Orders.{Order, occurrences, first_element, followi
 use Rattle.ordered_keys.specs.inside.Links.{AreWithin}
 
 -- the element of a list that follows p, or the first one if p is not given (None); None if no
--- element follows p, if the list does not have p, or if the list is empty
+-- element follows p, if the list does not have p, or if the list is empty. By this a save goes over
+-- a hash map's keys: the list has their elements, in the order of the keys
 abbrev pub next_of_elements : Option ℕ → List ℕ → Option ℕ
 next_of_elements None ps = first_element ps
 next_of_elements (Some p) ps = following p ps

@@ -198,10 +198,11 @@ jumps_settled site jumps_on_null n x = settled site jumps_on_null (8 * n + 4) x
 -- edges. The flow, from the transfer function, adds what holds on only one. `Ends` has no edge, and
 -- `Jumps` only the jumping edge. `Falls`, `WritesSlot`, `Writes` and `Either` keep x, in which
 -- groups of stack slots that the instruction has changed have new numbers already. After a
--- comparison (`Compares`) the operands have the ranges `falls`, that of dst first (`jumps` is for
--- the other edge); None if `falls` is None, since the comparison always holds. After a null test
--- (`Settles`) the result of the look-up at slot `site` is not null if the test jumps on null
--- (`jumps_on_null`), else null, and all groups of eight stack slots have the new number `fresh`
+-- comparison (`Compares`) the registers among the operands have the ranges `falls`, that of dst
+-- first (`jumps` is for the other edge); None if `falls` is None, since the comparison always
+-- holds. After a null test (`Settles`) the result of the look-up at slot `site` is not null if the
+-- test jumps on null (`jumps_on_null`), else null. This may change any stack slot, so all groups of
+-- eight get `fresh`, a new number, since the number of a group identifies what is known of it
 abbrev pub on_falling_edge : Flow → ℕ → NumberedFacts → Option NumberedFacts
 on_falling_edge Ends fresh x = None
 on_falling_edge Falls fresh x = Some x
@@ -233,18 +234,23 @@ on_jumping_edge (Compares dst src falls jumps) fresh x = option_map (with_ranges
 on_jumping_edge (Settles site jumps_on_null) fresh x = Some (settled site jumps_on_null fresh x)
 
 -- if the flow of an instruction is `WritesSlot i`, so that the only stack slot that it may have
--- changed is i, then i is a slot of the stack (below `stack_slots`). So i is in a group of eight
--- stack slots, whose number, which identifies what is known of it, `writes_renumbered` can replace.
--- Nothing is required of any other flow, which names no stack slot
+-- changed is i, then i is a slot of the stack (below `stack_slots`, 64). `apply` of `transfer`
+-- returns the flow: which edges control may take after the instruction, and which stack slots the
+-- instruction may have changed. Nothing is required of any other flow, which names no stack slot.
+-- `renumber_written` requires this, since it replaces the number of the group of eight stack slots
+-- that has i; this number identifies what is known of the group
 abbrev pub IsInStack : Flow → Type 0
 IsInStack (WritesSlot i) = i < stack_slots
 IsInStack flow = Unit {0}
 
 -- x, the facts after an instruction, with the new number `fresh` for each group of eight stack
 -- slots that the instruction may have changed, since a number identifies what is known of a group.
--- The flow, the first argument, names these groups: `WritesSlot i` that of stack slot i, `Writes`
--- all, since any slot may have changed. After any other flow the result is x. Of these only a null
--- test changes the stack, and only on its edges, whose groups get other new numbers there
+-- The first argument is the instruction's flow, which `apply` of `transfer` returns: which edges
+-- control may take after the instruction, and which stack slots may have changed. With
+-- `WritesSlot i` only stack slot i may have changed, and its group gets `fresh`; with `Writes` any
+-- may have, and all groups get it. With any other flow no stack slot in x has changed, and the
+-- result is x. A null test (`Settles`) changes stack slots only in the facts on its edges;
+-- `on_falling_edge` and `on_jumping_edge` give their groups new numbers
 abbrev pub writes_renumbered : Flow → ℕ → NumberedFacts → NumberedFacts
 writes_renumbered (WritesSlot i) fresh x = group_renumbered x i fresh
 writes_renumbered Writes fresh x = renumbered x fresh
